@@ -1,0 +1,31 @@
+-- A copy from the front, over any length.
+-- Assumes nothing.
+use mathlib.Core.Path.{_≡_, refl, sym, _∙_, ap}
+use mathlib.Core.List.{List, [], _∷_, _++_, append-nil}
+use Prim.Native.Nat.{ℕ, suc, _+_, _<_, _≤_, min}
+use native.Mathlib.Nat.{zero-add, min-eq-left}
+use native.Mathlib.Numerals.{add-one}
+use native.Mathlib.Omega.{arith}
+use lib.ListN.{length, getD, take, drop, set, drop-of-length-le}
+use lib.Seq.{paste-suc, take-length}
+use Rattle.wire.specs.Room.{over}
+
+-- a turn of the loop: l is d with the first i of s over it
+pub copied : (s d l : List ℕ) (i : ℕ) → i < length s → i < length d → l ≡ take i s ++ drop i d → set l i (getD s i 0) ≡ take (i + 1) s ++ drop (i + 1) d
+copied s d l i hs hd e =
+    let h : 0 + i < length d = omega arith in
+    let p : set (take i s ++ drop i d) i (getD s i 0) ≡ take (suc i) s ++ drop (suc i) d = simp zero-add at (paste-suc d 0 s i 0 h hs) in
+    ap (λ (x : List ℕ). set x i (getD s i 0)) e ∙ p ∙ ap (λ (n : ℕ). take n s ++ drop n d) (sym (add-one i))
+
+-- the loop's end: as far as both go
+pub copied-all : (s d l : List ℕ) (i : ℕ) → i ≡ min (length s) (length d) → l ≡ take i s ++ drop i d → l ≡ over s d
+copied-all s d l i e q = q ∙ ap (λ (n : ℕ). take n s ++ drop n d) e
+
+-- s over a list that is long enough, and over one of its own length
+pub over-front : (s d : List ℕ) → length s ≤ length d → over s d ≡ s ++ drop (length s) d
+over-front s d h = rw (min-eq-left h, take-length)
+
+pub over-same : (s d : List ℕ) → length s ≡ length d → over s d ≡ s
+over-same s d e =
+    let h : length d ≤ length s = omega arith in
+    over-front s d (omega arith) ∙ rw (drop-of-length-le d h) (append-nil s)

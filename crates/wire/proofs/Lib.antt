@@ -1,0 +1,6 @@
+-- Laws that belong to no one function, each said once.
+pub mod Below
+pub mod Fields
+pub mod Copied
+pub mod Typing
+pub mod Digits

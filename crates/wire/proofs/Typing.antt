@@ -1,0 +1,60 @@
+-- Text typed into room: what comes after what, and what stands there in the end.
+-- Assumes nothing.
+use mathlib.Core.Path.{_≡_, refl, sym, _∙_, ap}
+use mathlib.Core.List.{List, [], _∷_, _++_}
+use Prim.Native.Nat.{ℕ, suc, _+_, _<_, _≤_}
+use native.Mathlib.Nat.{add-zero, zero-add}
+use native.Mathlib.Numerals.{add-one}
+use native.Mathlib.Omega.{arith}
+use lib.ListN.{length, getD, take, drop, set, length-set, drop-of-length-le}
+use lib.Seq.{drop-cons, sets, sets-eq, take-append-seam}
+use borrow.Author.Tests.{lt-ltb}
+use Rattle.wire.specs.Text.{Page, page, typed, typedAll}
+
+-- a text in two parts
+pub typed-append : (p : Page) (a b : List ℕ) → typedAll p (a ++ b) ≡ typedAll (typedAll p a) b
+unfolding typedAll
+typed-append p [] b = refl
+typed-append p (x ∷ a) b = typed-append (typed p x) a b
+
+-- the part b typed where the part a has been typed
+pub then : (p q r : Page) (a b : List ℕ) → q ≡ typedAll p a → r ≡ typedAll q b → r ≡ typedAll p (a ++ b)
+then p q r a b e f = f ∙ ap (λ (x : Page). typedAll x b) e ∙ sym (typed-append p a b)
+
+-- a turn of a loop that types s, and its end
+pub typed-turn : (p q : Page) (s : List ℕ) (i : ℕ) → i < length s → q ≡ typed p (getD s i 0) → typedAll q (drop (i + 1) s) ≡ typedAll p (drop i s)
+unfolding typedAll
+typed-turn p q s i h e = rw (e, add-one, drop-cons s i 0)
+
+pub typed-end : (p : Page) (s : List ℕ) (i : ℕ) → length s ≤ i → typedAll p (drop i s) ≡ p
+unfolding typedAll
+typed-end p s i h = rw (drop-of-length-le s h)
+
+typed-sets : (s l : List ℕ) (at : ℕ) → at + length s ≤ length l → typedAll (page l at) s ≡ page (sets l at s) (at + length s)
+unfolding typedAll typed
+typed-sets [] l at h = rw add-zero
+typed-sets (x ∷ s) l at h =
+    let fits : at < length l = omega arith in
+    let room : at + 1 + length s ≤ length (set l at x) = simp length-set (omega arith) in
+    let e : at + 1 + length s ≡ at + suc (length s) = omega arith in
+    rw (lt-ltb at (length l) fits) (typed-sets s (set l at x) (at + 1) room ∙ rw (e, add-one))
+
+-- a text that fits, typed from the front
+pub typed-whole : (s l : List ℕ) → length s ≤ length l → typedAll (page l 0) s ≡ page (s ++ drop (length s) l) (length s)
+typed-whole s l h =
+    let fits : 0 + length s ≤ length l = omega arith in
+    typed-sets s l 0 fits ∙ rw (sets-eq s l 0 fits, zero-add)
+
+-- what was typed is the text, and the next place is its length
+pub record Holds (l : List ℕ) (n : ℕ) (s : List ℕ) : Type 0 where
+  pub long : n ≡ length s
+  pub text : take n l ≡ s
+
+pub holds : (s l m : List ℕ) (n : ℕ) → length s ≤ length l → page m n ≡ typedAll (page l 0) s → Holds m n s
+holds s l m n h e =
+    let w = e ∙ typed-whole s l h in
+    let k = ap (λ (p : Page). p .at) w in
+    record {
+      long = k;
+      text = ap (λ (p : Page). take (p .at) (p .bytes)) w ∙ take-append-seam s (drop (length s) l);
+    }

@@ -1,0 +1,28 @@
+-- `wire::put_decimal`: as many digits as the number takes, by `put_digits`.
+-- Assumes nothing.
+use mathlib.Core.Path.{_∙_, ap}
+use Prim.Native.Nat.{ℕ}
+use native.Mathlib.Omega.{arith}
+use denote.Ref.{now}
+use Rattle.wire.specs.Text.{page, typedAll, digitsOf}
+use borrow.Author.Needs.{needs}
+use Rattle.wire.proofs.put_decimal.Statement.{statement}
+use Rattle.wire.proofs.put_decimal.Tie as tie
+
+places-requires : tie.Need-places-requires
+places-requires c κs = search needs
+
+put-digits-requires : tie.Need-put-digits-requires
+put-digits-requires c κs = (omega arith, omega arith, c .before .places .ensures .1)
+
+same-length : tie.Need-same-length
+same-length c = search needs
+
+returns : tie.Need-returns
+returns c =
+    let p = c .before .before .before .before .places in
+    let a = c .before .before .before .before .before .before .args in
+    c .before .before .put-digits .ensures ∙ ap (λ (n : ℕ). typedAll (page (now (a .room)) (a .at)) (digitsOf 10 n (a .x))) (p .ensures .0)
+
+pub put-decimal-spec : {M : Type 1} → statement M
+put-decimal-spec = tie.close (tie.spec places-requires put-digits-requires same-length returns)

@@ -1,0 +1,6 @@
+-- What the images, the sheet and the texts share, as definitions. Read from the top.
+pub mod Outcome
+pub mod Field
+pub mod Number
+pub mod Room
+pub mod Text

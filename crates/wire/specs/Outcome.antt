@@ -1,0 +1,23 @@
+-- What a call answers: a refusal with its number and nothing beside it, or what was asked for. The refusals of a call are a list in
+-- document 01's order; the first that holds is given.
+-- Assumes nothing.
+use mathlib.Core.Bool.{Bool, true, false, cond}
+use mathlib.Core.List.{List, [], _∷_}
+use Prim.Native.Nat.{ℕ}
+
+pub data Outcome (A : Type 0) : Type 0 where
+  refused : ℕ → Outcome A
+  accepted : A → Outcome A
+
+-- a refusal: its number, and the condition under which it is given
+pub record Refusal : Type 0 where
+  pub number : ℕ
+  pub holds : Bool
+
+abbrev pub when : ℕ → Bool → Refusal
+when n b = record { number = n; holds = b }
+
+-- the first refusal of the list that holds; else the answer
+abbrev pub decide : {A : Type 0} → List Refusal → A → Outcome A
+decide [] x = accepted x
+decide (r ∷ rs) x = cond (r .holds) (refused (r .number)) (decide rs x)
