@@ -4,3 +4,6 @@ pub mod Fields
 pub mod Copied
 pub mod Typing
 pub mod Digits
+pub mod Order
+pub mod Pins
+pub mod Unique

@@ -17,7 +17,11 @@ pub record Refusal : Type 0 where
 abbrev pub when : ℕ → Bool → Refusal
 when n b = record { number = n; holds = b }
 
--- the first refusal of the list that holds; else the answer
+-- the first refusal of the list that holds; else what comes after
+abbrev pub first : {A : Type 0} → List Refusal → Outcome A → Outcome A
+first [] o = o
+first (r ∷ rs) o = cond (r .holds) (refused (r .number)) (first rs o)
+
+-- the first refusal that holds; else the answer
 abbrev pub decide : {A : Type 0} → List Refusal → A → Outcome A
-decide [] x = accepted x
-decide (r ∷ rs) x = cond (r .holds) (refused (r .number)) (decide rs x)
+decide rs x = first rs (accepted x)

@@ -1,6 +1,7 @@
--- An answer that is written into lent room: its length where the room is long enough, and then room past it stays; else 12, and all of it stays.
+-- An answer that is written into lent room. Where the call is accepted the answer is its length, it stands at the front, and room past it
+-- stays; where the call is refused all of the room stays.
 -- Assumes nothing.
-use mathlib.Core.Bool.{Bool, cond}
+use mathlib.Core.Path.{_≡_}
 use mathlib.Core.List.{List, [], _∷_, _++_}
 use Prim.Native.Nat.{ℕ, min}
 use lib.ListN.{length, take, drop}
@@ -9,22 +10,25 @@ use Rattle.wire.specs.Outcome.{Outcome, refused, accepted, when, decide}
 use Rattle.wire.specs.declared.Written.{Written}
 use Rattle.wire.specs.declared.Written.the-variants.{Len, Refused}
 
--- d with s written over its front, as far as both go
+-- the room with s written over its front, as far as both go
 abbrev pub over : List ℕ → List ℕ → List ℕ
-over s d = take (min (length s) (length d)) s ++ drop (min (length s) (length d)) d
+over s room = take (min (length s) (length room)) s ++ drop (min (length s) (length room)) room
 
--- 12: the text is longer than the room lent
-abbrev pub longerThan : List ℕ → List ℕ → Bool
-longerThan text room = ltb (length room) (length text)
-
--- the answer, and what the room then holds
-abbrev pub answerIn : List ℕ → List ℕ → Outcome ℕ
-answerIn room text = decide (when 12 (longerThan text room) ∷ []) (length text)
-
-abbrev pub roomAfter : List ℕ → List ℕ → List ℕ
-roomAfter room text = cond (longerThan text room) room (over text room)
+-- what the room holds after a call with this outcome
+abbrev pub roomAfter : Outcome ℕ → List ℕ → List ℕ → List ℕ
+roomAfter (refused n) s room = room
+roomAfter (accepted n) s room = over s room
 
 -- what the cases of `Written` say
 abbrev pub writtenOf : Written → Outcome ℕ
 writtenOf (Len n) = accepted n
 writtenOf (Refused n) = refused n
+
+-- the promise of a call with this outcome: its answer, and what the room holds then
+pub record InRoom (outcome : Outcome ℕ) (s room : List ℕ) (answer : Written) (after : List ℕ) : Type 0 where
+  pub says : writtenOf answer ≡ outcome
+  pub holds : after ≡ roomAfter outcome s room
+
+-- a text: 12 where it is longer than the room lent
+abbrev pub textIn : List ℕ → List ℕ → Outcome ℕ
+textIn s room = decide (when 12 (ltb (length room) (length s)) ∷ []) (length s)

@@ -1,7 +1,8 @@
 -- Digits, and text typed into room byte by byte. Bytes are ASCII.
 -- Assumes nothing.
+use mathlib.Core.Path.{_≡_}
 use mathlib.Core.Bool.{Bool, true, false, cond}
-use mathlib.Core.List.{List, [], _∷_}
+use mathlib.Core.List.{List, [], _∷_, _++_}
 use Prim.Native.Nat.{ℕ, zero, suc, _+_, _/_, _%_, _^_}
 use lib.ListN.{length, set}
 use lib.Dec.{ltb}
@@ -15,9 +16,9 @@ unfoldable pub digitsOf : ℕ → ℕ → ℕ → List ℕ
 digitsOf base zero x = []
 digitsOf base (suc n) x = glyphOf (x / base ^ n % base) ∷ digitsOf base n x
 
--- hexadecimal with n digits, as Rust's {:#06x} (four) and {:#010x} (eight) after their 0x
+-- hexadecimal: 0x and n digits, as Rust's {:#06x} (four) and {:#010x} (eight)
 abbrev pub hexOf : ℕ → ℕ → List ℕ
-hexOf n x = digitsOf 16 n x
+hexOf n x = (48 ∷ 120 ∷ []) ++ digitsOf 16 n x
 
 -- how many decimal digits a number below 100,000 takes
 abbrev pub placesOf : ℕ → ℕ
@@ -43,3 +44,7 @@ typed p b = cond (ltb (p .at) (length (p .bytes))) (page (set (p .bytes) (p .at)
 unfoldable pub typedAll : Page → List ℕ → Page
 typedAll p [] = p
 typedAll p (b ∷ bs) = typedAll (typed p b) bs
+
+-- typing s at the one page leads to the other
+pub record Types (p q : Page) (s : List ℕ) : Type 0 where
+  pub is : q ≡ typedAll p s

@@ -5,8 +5,8 @@ ghost use mathlib.Core.List.{[], _∷_};
 ghost use Prim.Native.Nat.{_<_, _≤_, _^_, _/_, min};
 ghost use Rattle.wire.specs.Field.{bit, flagAt};
 ghost use Rattle.wire.specs.Number.{littleAt, littleOf, bigAt};
-ghost use Rattle.wire.specs.Room.{over, answerIn, roomAfter, writtenOf};
-ghost use Rattle.wire.specs.Text.{glyphOf, digitsOf, hexOf, placesOf, decimalOf, page, typed, typedAll};
+ghost use Rattle.wire.specs.Room.{over, InRoom, textIn};
+ghost use Rattle.wire.specs.Text.{glyphOf, digitsOf, hexOf, placesOf, decimalOf, page, Types};
 
 // The flag at bit `shift` of a byte; a byte has none above 7.
 pub fn flag(byte: u8, shift: u8) -> bool
@@ -91,10 +91,7 @@ pub enum Written {
 
 // A text goes into the room whole, or not at all.
 pub fn write_text(text: &[u8], room: &mut [u8]) -> Written
-    ensures {
-        λ r. ⌜ (writtenOf r ≡ answerIn (now (room .entry)) (now (text .entry)))
-             × (now (room .exit) ≡ roomAfter (now (room .entry)) (now (text .entry))) ⌝
-    }
+    ensures { λ r. ⌜ InRoom (textIn (now (text .entry)) (now (room .entry))) (now (text .entry)) (now (room .entry)) r (now (room .exit)) ⌝ }
 {
     if room.len() < text.len() {
         return Written::Refused(12);
@@ -116,7 +113,7 @@ fn glyph(digit: u8) -> u8
 
 // Types one byte at `at`, and says where the next one goes; past the room's end nothing is typed.
 pub fn put_byte(room: &mut [u8], at: usize, byte: u8) -> usize
-    ensures { λ r. ⌜ page (now (room .exit)) r ≡ typed (page (now (room .entry)) at) byte ⌝ }
+    ensures { λ r. ⌜ Types (page (now (room .entry)) at) (page (now (room .exit)) r) (byte ∷ []) ⌝ }
 {
     if at < room.len() {
         room[at] = byte;
@@ -127,7 +124,7 @@ pub fn put_byte(room: &mut [u8], at: usize, byte: u8) -> usize
 
 // Types each byte of a text in turn.
 pub fn put_bytes(room: &mut [u8], at: usize, text: &[u8]) -> usize
-    ensures { λ r. ⌜ page (now (room .exit)) r ≡ typedAll (page (now (room .entry)) at) (now (text .entry)) ⌝ }
+    ensures { λ r. ⌜ Types (page (now (room .entry)) at) (page (now (room .exit)) r) (now (text .entry)) ⌝ }
 {
     let mut next = at;
     let mut i = 0;
@@ -141,7 +138,7 @@ pub fn put_bytes(room: &mut [u8], at: usize, text: &[u8]) -> usize
 // Types the last `count` digits of x; `power` is the weight of the first of them.
 fn put_digits(room: &mut [u8], at: usize, x: u32, base: u32, power: u32, count: u32) -> usize
     requires { ⌜ (1 < base) × (base ≤ 16) × (power ≡ base ^ count / base) ⌝ }
-    ensures { λ r. ⌜ page (now (room .exit)) r ≡ typedAll (page (now (room .entry)) at) (digitsOf base count x) ⌝ }
+    ensures { λ r. ⌜ Types (page (now (room .entry)) at) (page (now (room .exit)) r) (digitsOf base count x) ⌝ }
 {
     let mut next = at;
     let mut weight = power;
@@ -155,18 +152,27 @@ fn put_digits(room: &mut [u8], at: usize, x: u32, base: u32, power: u32, count: 
     next
 }
 
-// Types four hexadecimal digits.
-pub fn put_hex4(room: &mut [u8], at: usize, x: u16) -> usize
-    ensures { λ r. ⌜ page (now (room .exit)) r ≡ typedAll (page (now (room .entry)) at) (hexOf 4 x) ⌝ }
+// Types 0x and the last `count` hexadecimal digits; `power` is the weight of the first of them.
+fn put_hex(room: &mut [u8], at: usize, x: u32, power: u32, count: u32) -> usize
+    requires { ⌜ power ≡ 16 ^ count / 16 ⌝ }
+    ensures { λ r. ⌜ Types (page (now (room .entry)) at) (page (now (room .exit)) r) (hexOf count x) ⌝ }
 {
-    put_digits(room, at, x as u32, 16, 0x1000, 4)
+    let next = put_bytes(room, at, b"0x");
+    put_digits(room, next, x, 16, power, count)
 }
 
-// Types eight hexadecimal digits.
-pub fn put_hex8(room: &mut [u8], at: usize, x: u32) -> usize
-    ensures { λ r. ⌜ page (now (room .exit)) r ≡ typedAll (page (now (room .entry)) at) (hexOf 8 x) ⌝ }
+// Types a number as 0x and four hexadecimal digits.
+pub fn put_hex4(room: &mut [u8], at: usize, x: u16) -> usize
+    ensures { λ r. ⌜ Types (page (now (room .entry)) at) (page (now (room .exit)) r) (hexOf 4 x) ⌝ }
 {
-    put_digits(room, at, x, 16, 0x1000_0000, 8)
+    put_hex(room, at, x as u32, 0x1000, 4)
+}
+
+// Types a number as 0x and eight hexadecimal digits.
+pub fn put_hex8(room: &mut [u8], at: usize, x: u32) -> usize
+    ensures { λ r. ⌜ Types (page (now (room .entry)) at) (page (now (room .exit)) r) (hexOf 8 x) ⌝ }
+{
+    put_hex(room, at, x, 0x1000_0000, 8)
 }
 
 // How many decimal digits a number takes, and the weight of the first of them.
@@ -195,7 +201,7 @@ fn places(x: u16) -> Weight
 
 // Types a number in decimal, with no zero in front.
 pub fn put_decimal(room: &mut [u8], at: usize, x: u16) -> usize
-    ensures { λ r. ⌜ page (now (room .exit)) r ≡ typedAll (page (now (room .entry)) at) (decimalOf x) ⌝ }
+    ensures { λ r. ⌜ Types (page (now (room .entry)) at) (page (now (room .exit)) r) (decimalOf x) ⌝ }
 {
     let p = places(x);
     put_digits(room, at, x as u32, 10, p.power, p.count)

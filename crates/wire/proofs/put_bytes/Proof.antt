@@ -38,7 +38,7 @@ loop-again c =
     let s = now (c .before .before .before .before .before .before .before .before .before .args .text) in (
       omega arith,
       put .kept .0 ∙ l .inv .1,
-      typed-turn (page (l .room) (l .next)) (page (put .last .0) (put .result)) s (l .i) (omega arith) (put .ensures) ∙ l .inv .2,
+      typed-turn s (l .i) (omega arith) (put .ensures) ∙ l .inv .2,
     )
 
 same-length : tie.Need-same-length Inv-loop μ-loop
@@ -48,7 +48,7 @@ returns : tie.Need-returns Inv-loop μ-loop
 returns c =
     let l = c .before .loop in
     let s = now (c .before .before .before .before .args .text) in
-    sym (typed-end (page (l .room) (l .next)) s (l .i) (omega arith)) ∙ l .inv .2
+    record { is = sym (typed-end (page (l .room) (l .next)) s (l .i) (omega arith)) ∙ l .inv .2 }
 
 pub put-bytes-spec : {M : Type 1} → statement M
 put-bytes-spec =

@@ -1,10 +1,10 @@
 -- `wire::put_decimal`: as many digits as the number takes, by `put_digits`.
 -- Assumes nothing.
-use mathlib.Core.Path.{_∙_, ap}
+use mathlib.Core.Path.{ap}
 use Prim.Native.Nat.{ℕ}
 use native.Mathlib.Omega.{arith}
-use denote.Ref.{now}
-use Rattle.wire.specs.Text.{page, typedAll, digitsOf}
+use Rattle.wire.specs.Text.{digitsOf}
+use Rattle.wire.proofs.Typing.{types}
 use borrow.Author.Needs.{needs}
 use Rattle.wire.proofs.put_decimal.Statement.{statement}
 use Rattle.wire.proofs.put_decimal.Tie as tie
@@ -22,7 +22,7 @@ returns : tie.Need-returns
 returns c =
     let p = c .before .before .before .before .places in
     let a = c .before .before .before .before .before .before .args in
-    c .before .before .put-digits .ensures ∙ ap (λ (n : ℕ). typedAll (page (now (a .room)) (a .at)) (digitsOf 10 n (a .x))) (p .ensures .0)
+    types (ap (λ (n : ℕ). digitsOf 10 n (a .x)) (p .ensures .0)) (c .before .before .put-digits .ensures)
 
 pub put-decimal-spec : {M : Type 1} → statement M
 put-decimal-spec = tie.close (tie.spec places-requires put-digits-requires same-length returns)

@@ -1,12 +1,14 @@
 -- `wire::put_digits`: typing the digits that are left where the loop stands is typing all of them from the start.
 -- Assumes nothing.
 use mathlib.Core.Path.{_≡_, refl, sym, _∙_, ap}
+use mathlib.Core.List.{[], _∷_}
 use Prim.Native.Nat.{ℕ, _-_, _≤_, _<_, _/_, _%_, _^_}
 use native.Mathlib.Nat.{mod-lt}
 use native.Mathlib.Omega.{arith}
 use denote.Ref.{now}
 use lib.ListN.{length}
-use Rattle.wire.specs.Text.{page, typed, typedAll, digitsOf}
+use Rattle.wire.specs.Text.{page, typedAll, digitsOf}
+use Rattle.wire.proofs.Typing.{types}
 use Rattle.wire.proofs.Digits.{weight-pos, weight-next, digits-turn}
 use Rattle.wire.proofs.put_digits.Statement.{statement}
 use Rattle.wire.proofs.put_digits.Tie as tie
@@ -59,13 +61,13 @@ loop-again c =
     let glyph = c .before .before .before .glyph in
     let l = c .before .before .before .before .before .before .loop in
     let a = c .before .before .before .before .before .before .before .before .args in
-    let p = page (l .room) (l .next) in (
+    (
       l .inv .0,
       l .inv .1,
       weight-next (a .base) (l .left) (l .weight) (omega arith) (omega arith) (l .inv .2),
       put .kept .0 ∙ l .inv .3,
-      digits-turn (a .base) (a .x) (l .left) (l .weight) p (page (put .last .0) (put .result)) (omega arith) (omega arith) (l .inv .2)
-      (put .ensures ∙ ap (typed p) (glyph .ensures)) ∙ l .inv .4,
+      digits-turn (a .base) (a .x) (l .left) (l .weight) (omega arith) (omega arith) (l .inv .2)
+      (types (ap (λ (b : ℕ). b ∷ []) (glyph .ensures)) (put .ensures)) ∙ l .inv .4,
     )
 
 same-length : tie.Need-same-length Inv-loop μ-loop
@@ -77,7 +79,7 @@ returns c =
     let l = c .before .loop in
     let a = c .before .before .before .args in
     let e : l .left ≡ 0 = omega arith in
-    sym (ap (λ (n : ℕ). typedAll (page (l .room) (l .next)) (digitsOf (a .base) n (a .x))) e) ∙ l .inv .4
+    record { is = sym (ap (λ (n : ℕ). typedAll (page (l .room) (l .next)) (digitsOf (a .base) n (a .x))) e) ∙ l .inv .4 }
 
 pub put-digits-spec : {M : Type 1} → statement M
 put-digits-spec =

@@ -1,0 +1,20 @@
+use borrow.Author.Tests.{lt-ltb, le-ltb}
+use Rattle.pdi.proofs.PdiSegment.less.Statement.{statement}
+use Rattle.pdi.proofs.PdiSegment.less.Tie as tie
+use Rattle.pdi.proofs.PdiSegment.less.Reads as reads
+use Rattle.pdi.proofs.PdiSegment.less.Lts as lts
+
+-- src/lib.rt:114:13
+returns : tie.Need-returns
+returns c = search (lt-ltb, le-ltb)
+
+-- src/lib.rt:117:13
+returns-2 : tie.Need-returns-2
+returns-2 c = search (lt-ltb, le-ltb)
+
+-- src/lib.rt:108:5
+returns-3 : tie.Need-returns-3
+returns-3 c = search (lt-ltb, le-ltb)
+
+pub less-spec : {M : Type 1} → statement M
+less-spec = tie.close (tie.spec returns returns-2 returns-3)
