@@ -24,6 +24,7 @@ use Rattle.wire.proofs.put_bytes.Reads as put-bytes
 use Rattle.wire.proofs.put_hex4.Reads as put-hex4
 use Rattle.wire.proofs.put_hex8.Reads as put-hex8
 use Rattle.wire.proofs.put_decimal.Reads as put-decimal
+use Rattle.wire.proofs.put_either.Reads as put-either
 
 -- number and length determine what was written
 abbrev pub written-back : Outcome ℕ → Written
@@ -81,3 +82,6 @@ put-hex8-pins κs a x y s t p q = same (p .is) (q .is)
 
 pub put-decimal-pins : Pins put-decimal.Post (λ κs r s. page (now (s .0)) r)
 put-decimal-pins κs a x y s t p q = same (p .is) (q .is)
+
+pub put-either-pins : Pins put-either.Post (λ κs r s. page (now (s .0)) r)
+put-either-pins κs a x y s t p q = same (p .is) (q .is)

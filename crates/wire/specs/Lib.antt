@@ -2,5 +2,6 @@
 pub mod Outcome
 pub mod Field
 pub mod Number
+pub mod Image
 pub mod Room
 pub mod Text

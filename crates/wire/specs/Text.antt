@@ -28,6 +28,10 @@ placesOf x = cond (ltb x 10) 1 (cond (ltb x 100) 2 (cond (ltb x 1000) 3 (cond (l
 abbrev pub decimalOf : ℕ → List ℕ
 decimalOf x = digitsOf 10 (placesOf x) x
 
+-- enabled or disabled
+abbrev pub enabledText : Bool → List ℕ
+enabledText on = cond on (101 ∷ 110 ∷ 97 ∷ 98 ∷ 108 ∷ 101 ∷ 100 ∷ []) (100 ∷ 105 ∷ 115 ∷ 97 ∷ 98 ∷ 108 ∷ 101 ∷ 100 ∷ [])
+
 -- a text on its way into room: the room's bytes, and how many of them are typed
 pub record Page : Type 0 where
   pub bytes : List ℕ

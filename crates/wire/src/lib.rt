@@ -1,6 +1,7 @@
 // What the crate's wire derive and its text formatting did, written out: fields of a byte, numbers of
 // several bytes, copying, and text into lent room. Every function is total.
 ghost use mathlib.Core.Path.{_≡_};
+ghost use mathlib.Core.Bool.{cond};
 ghost use mathlib.Core.List.{[], _∷_};
 ghost use Prim.Native.Nat.{_<_, _≤_, _^_, _/_, min};
 ghost use Rattle.wire.specs.Field.{bit, flagAt};
@@ -188,15 +189,27 @@ fn places(x: u16) -> Weight
         return Weight { count: 1, power: 1 };
     }
     if x < 100 {
-        return Weight { count: 2, power: 10 };
+        return Weight {
+            count: 2,
+            power: 10,
+        };
     }
     if x < 1000 {
-        return Weight { count: 3, power: 100 };
+        return Weight {
+            count: 3,
+            power: 100,
+        };
     }
     if x < 10000 {
-        return Weight { count: 4, power: 1000 };
+        return Weight {
+            count: 4,
+            power: 1000,
+        };
     }
-    Weight { count: 5, power: 10000 }
+    Weight {
+        count: 5,
+        power: 10000,
+    }
 }
 
 // Types a number in decimal, with no zero in front.
@@ -205,4 +218,14 @@ pub fn put_decimal(room: &mut [u8], at: usize, x: u16) -> usize
 {
     let p = places(x);
     put_digits(room, at, x as u32, 10, p.power, p.count)
+}
+
+// Types the one text or the other.
+pub fn put_either(room: &mut [u8], at: usize, first: bool, one: &[u8], other: &[u8]) -> usize
+    ensures { λ r. ⌜ Types (page (now (room .entry)) at) (page (now (room .exit)) r) (cond first (now (one .entry)) (now (other .entry))) ⌝ }
+{
+    if first {
+        return put_bytes(room, at, one);
+    }
+    put_bytes(room, at, other)
 }

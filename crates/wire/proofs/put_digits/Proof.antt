@@ -60,14 +60,13 @@ loop-again c =
     let put = c .before .before .put-byte in
     let glyph = c .before .before .before .glyph in
     let l = c .before .before .before .before .before .before .loop in
-    let a = c .before .before .before .before .before .before .before .before .args in
-    (
+    let a = c .before .before .before .before .before .before .before .before .args in (
       l .inv .0,
       l .inv .1,
       weight-next (a .base) (l .left) (l .weight) (omega arith) (omega arith) (l .inv .2),
       put .kept .0 ∙ l .inv .3,
       digits-turn (a .base) (a .x) (l .left) (l .weight) (omega arith) (omega arith) (l .inv .2)
-      (types (ap (λ (b : ℕ). b ∷ []) (glyph .ensures)) (put .ensures)) ∙ l .inv .4,
+          (types (ap (λ (b : ℕ). b ∷ []) (glyph .ensures)) (put .ensures)) ∙ l .inv .4,
     )
 
 same-length : tie.Need-same-length Inv-loop μ-loop

@@ -1,0 +1,42 @@
+-- The text of a sync manager channel: the crate's Display (document 01, 'Register images').
+-- Assumes nothing.
+use mathlib.Core.List.{List, [], _∷_, _++_}
+use Prim.Native.Nat.{ℕ}
+use Rattle.wire.specs.Text.{hexOf, decimalOf, enabledText}
+use Rattle.sync_manager_channel.specs.declared.OperationMode.{OperationMode}
+use Rattle.sync_manager_channel.specs.declared.OperationMode.the-variants.{Normal, Mailbox}
+use Rattle.sync_manager_channel.specs.declared.Direction.{Direction}
+use Rattle.sync_manager_channel.specs.declared.Direction.the-variants.{MasterRead, MasterWrite}
+use Rattle.sync_manager_channel.specs.declared.SyncManagerChannel.{SyncManagerChannel}
+
+-- start 0x1000, size 0x0080 (128)
+unfoldable pub areaText : SyncManagerChannel → List ℕ
+areaText s =
+    (115 ∷ 116 ∷ 97 ∷ 114 ∷ 116 ∷ 32 ∷ [])
+    ++ hexOf 4 (s .«physical_start_address»)
+    ++ (44 ∷ 32 ∷ 115 ∷ 105 ∷ 122 ∷ 101 ∷ 32 ∷ [])
+    ++ hexOf 4 (s .«length_bytes» .0)
+    ++ (32 ∷ 40 ∷ [])
+    ++ decimalOf (s .«length_bytes» .0)
+    ++ (41 ∷ [])
+
+abbrev pub directionText : Direction → List ℕ
+directionText MasterRead = (77 ∷ 97 ∷ 115 ∷ 116 ∷ 101 ∷ 114 ∷ 82 ∷ 101 ∷ 97 ∷ 100 ∷ [])
+directionText MasterWrite = (77 ∷ 97 ∷ 115 ∷ 116 ∷ 101 ∷ 114 ∷ 87 ∷ 114 ∷ 105 ∷ 116 ∷ 101 ∷ [])
+
+abbrev pub modeText : OperationMode → List ℕ
+modeText Normal = (78 ∷ 111 ∷ 114 ∷ 109 ∷ 97 ∷ 108 ∷ [])
+modeText Mailbox = (77 ∷ 97 ∷ 105 ∷ 108 ∷ 98 ∷ 111 ∷ 120 ∷ [])
+
+-- , direction MasterWrite, mode Mailbox, enabled
+unfoldable pub stateText : SyncManagerChannel → List ℕ
+stateText s =
+    (44 ∷ 32 ∷ 100 ∷ 105 ∷ 114 ∷ 101 ∷ 99 ∷ 116 ∷ 105 ∷ 111 ∷ 110 ∷ 32 ∷ [])
+    ++ directionText (s .control .direction)
+    ++ (44 ∷ 32 ∷ 109 ∷ 111 ∷ 100 ∷ 101 ∷ 32 ∷ [])
+    ++ modeText (s .control .«operation_mode»)
+    ++ (44 ∷ 32 ∷ [])
+    ++ enabledText (s .enable .enable)
+
+unfoldable pub channelText : SyncManagerChannel → List ℕ
+channelText s = areaText s ++ stateText s
