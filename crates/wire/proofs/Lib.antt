@@ -1,6 +1,8 @@
 -- Laws that belong to no one function, each said once.
 pub mod Below
 pub mod Fields
+pub mod Numbers
+pub mod Reserved
 pub mod Copied
 pub mod Typing
 pub mod Digits
