@@ -1,0 +1,15 @@
+-- Lists and questions by number.
+-- Assumes nothing.
+use mathlib.Core.Bool.{Bool, true, false, _||_}
+use mathlib.Core.List.{List, [], _∷_, _++_}
+use Prim.Native.Nat.{ℕ, zero, suc}
+
+-- f 0, f 1, .. up to and without f n
+unfoldable pub listOf : {A : Type 0} → (ℕ → A) → ℕ → List A
+listOf f zero = []
+listOf f (suc n) = listOf f n ++ (f n ∷ [])
+
+-- it holds of some number below n
+unfoldable pub someBelow : (ℕ → Bool) → ℕ → Bool
+someBelow f zero = false
+someBelow f (suc n) = someBelow f n || f n

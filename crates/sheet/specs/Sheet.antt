@@ -1,0 +1,145 @@
+-- The grammar of the device sheet (document 01, 'The device sheet'), big-endian: from bytes to device data or a refusal.
+-- Assumes nothing.
+use mathlib.Core.Bool.{Bool, true, false, cond, not, _&&_, _||_}
+use mathlib.Core.List.{List, [], _∷_, _++_}
+use Prim.Native.Nat.{ℕ, zero, suc, _+_, _*_, _-_}
+use lib.ListN.{length, getD, replicate}
+use lib.Dec.{eqb, ltb, leb}
+use Rattle.wire.specs.Outcome.{Outcome, refused, accepted, Refusal, when, decide}
+use Rattle.wire.specs.Field.{flagAt}
+use Rattle.wire.specs.Number.{bigAt}
+use Rattle.sync_manager_channel.specs.Image.{controlAt, unnamed}
+use Rattle.sheet.specs.Lists.{listOf, someBelow}
+use Rattle.sheet.specs.Device.{Data, nextPdo, pdosFrom}
+use Rattle.sheet.specs.declared.SyncManager.{SyncManager}
+use Rattle.sheet.specs.declared.Device.{Device}
+use Rattle.sheet.specs.declared.Answer.{Answer}
+use Rattle.sheet.specs.declared.Answer.the-variants.{Accepted, Refused}
+use Rattle.sheet.specs.declared.SheetRead.{SheetRead}
+
+-- 0-1: L, the bytes that follow
+abbrev pub follow : List ℕ → ℕ
+follow s = bigAt s 0 2
+
+-- 8: n sync managers; 9: f FMMU usages; 10: p PDOs
+abbrev pub managerCount : List ℕ → ℕ
+managerCount s = getD s 8 0
+
+abbrev pub usageCount : List ℕ → ℕ
+usageCount s = getD s 9 0
+
+abbrev pub pdoCount : List ℕ → ℕ
+pdoCount s = getD s 10 0
+
+-- then n times 5 bytes, then f bytes, then the PDOs
+abbrev pub managerPlace : ℕ → ℕ
+managerPlace k = 11 + 5 * k
+
+abbrev pub usagesPlace : List ℕ → ℕ
+usagesPlace s = 11 + 5 * managerCount s
+
+abbrev pub pdosPlace : List ℕ → ℕ
+pdosPlace s = usagesPlace s + usageCount s
+
+-- a sync manager: start address (2), control, EEPROM enable (bit 0 is ENABLE, others ignored), usage
+abbrev pub managerAt : List ℕ → ℕ → SyncManager
+managerAt s at =
+    record {
+      «start_addr» = bigAt s at 2;
+      control = controlAt (getD s (at + 2) 0);
+      enable = flagAt (getD s (at + 3) 0) 0;
+      «usage_type» = getD s (at + 4) 0;
+    }
+
+-- 2: under 2 bytes, not L+2 long, or L out of range
+unfoldable pub wrongLength : List ℕ → Bool
+wrongLength s = ltb (length s) 2 || (not (eqb (length s) (follow s + 2)) || (ltb (follow s) 9 || ltb 16384 (follow s)))
+
+-- 3: the version isn't 1
+abbrev pub wrongVersion : List ℕ → Bool
+wrongVersion s = not (eqb (getD s 2 0) 1)
+
+-- 4: another sheet rule is broken. A PDO: kind 0, or kinds 1 and 2 with m = 2
+abbrev pub kindFits : ℕ → ℕ → Bool
+kindFits kind m = eqb kind 0 || ((eqb kind 1 || eqb kind 2) && eqb m 2)
+
+-- p of them from a place on, none past the end, and the sheet ends there
+unfoldable pub pdosFit : List ℕ → ℕ → ℕ → Bool
+pdosFit s zero at = eqb at (length s)
+pdosFit s (suc p) at = (leb (nextPdo s at) (length s) && kindFits (getD s at 0) (getD s (at + 4) 0)) && pdosFit s p (nextPdo s at)
+
+unfoldable pub broken : List ℕ → Bool
+broken s =
+    ltb 7 (getD s 3 0)
+    || (ltb 16 (managerCount s)
+    || (ltb 16 (usageCount s)
+    || (ltb (length s) (pdosPlace s)
+    || (someBelow (λ k. ltb 4 (getD s (managerPlace k + 4) 0)) (managerCount s)
+    || (someBelow (λ k. ltb 3 (getD s (usagesPlace s + k) 0)) (usageCount s) || not (pdosFit s (pdoCount s) (pdosPlace s)))))))
+
+-- 5: any control, wanted or not, has an unnamed mode or direction
+unfoldable pub someUnnamed : List ℕ → Bool
+someUnnamed s = someBelow (λ k. unnamed (getD s (managerPlace k + 2) 0)) (managerCount s)
+
+-- the refusals in their order
+abbrev pub sheetRefusals : List ℕ → List Refusal
+sheetRefusals s = when 2 (wrongLength s) ∷ when 3 (wrongVersion s) ∷ when 4 (broken s) ∷ when 5 (someUnnamed s) ∷ []
+
+-- 3: flags: bit 0 has a mailbox, bit 1 CoE among the protocols, bit 2 complete access; 4-5 receive size; 6-7 send size
+unfoldable pub sheetData : List ℕ → Data
+sheetData s =
+    record {
+      mailbox = flagAt (getD s 3 0) 0;
+      coeProtocol = flagAt (getD s 3 0) 1;
+      complete = flagAt (getD s 3 0) 2;
+      receive = bigAt s 4 2;
+      send = bigAt s 6 2;
+      managers = listOf (λ k. managerAt s (managerPlace k)) (managerCount s);
+      usages = listOf (λ k. getD s (usagesPlace s + k) 0) (usageCount s);
+      pdos = pdosFrom s (pdoCount s) (pdosPlace s);
+    }
+
+-- every list of bytes has exactly one answer
+unfoldable pub readSheet : List ℕ → Outcome Data
+readSheet s = decide (sheetRefusals s) (sheetData s)
+
+-- the same in the form that code holds it: places that are not used hold nothing
+abbrev pub noManager : SyncManager
+noManager = record { «start_addr» = 0; control = controlAt 0; enable = false; «usage_type» = 0 }
+
+unfoldable pub deviceOf : List ℕ → Device
+deviceOf s =
+    record {
+      «has_mailbox» = flagAt (getD s 3 0) 0;
+      «coe_protocol» = flagAt (getD s 3 0) 1;
+      «complete_access» = flagAt (getD s 3 0) 2;
+      «receive_size» = record { 0 = bigAt s 4 2 };
+      «send_size» = record { 0 = bigAt s 6 2 };
+      managers = listOf (λ k. managerAt s (managerPlace k)) (managerCount s) ++ replicate (16 - managerCount s) noManager;
+      n = managerCount s;
+      usages = listOf (λ k. getD s (usagesPlace s + k) 0) (usageCount s) ++ replicate (16 - usageCount s) 0;
+      f = usageCount s;
+      pdos = pdosPlace s;
+      p = pdoCount s;
+    }
+
+abbrev pub noDevice : Device
+noDevice =
+    record {
+      «has_mailbox» = false;
+      «coe_protocol» = false;
+      «complete_access» = false;
+      «receive_size» = record { 0 = 0 };
+      «send_size» = record { 0 = 0 };
+      managers = replicate 16 noManager;
+      n = 0;
+      usages = replicate 16 0;
+      f = 0;
+      pdos = 0;
+      p = 0;
+    }
+
+-- what the cases of `Answer` say, beside a value
+abbrev pub answerOf : {A : Type 0} → Answer → A → Outcome A
+answerOf Accepted x = accepted x
+answerOf (Refused n) x = refused n
