@@ -1,0 +1,72 @@
+-- `SyncManagerChannel::put_state`: each part is typed after the one before it.
+-- Assumes nothing.
+use Rattle.wire.proofs.Typing.{then}
+use Rattle.sync_manager_channel.specs.Text.{stateText}
+use borrow.Author.Needs.{needs}
+use Rattle.sync_manager_channel.proofs.SyncManagerChannel.put_state.Statement.{statement}
+use Rattle.sync_manager_channel.proofs.SyncManagerChannel.put_state.Tie as tie
+
+slice-aggregate-put-bytes : tie.Need-slice-aggregate-put-bytes
+slice-aggregate-put-bytes c = search needs
+
+put-bytes-requires : tie.Need-put-bytes-requires
+put-bytes-requires c κs = search needs
+
+fmt-requires : tie.Need-fmt-requires
+fmt-requires c κs = search needs
+
+slice-aggregate-put-bytes-2 : tie.Need-slice-aggregate-put-bytes-2
+slice-aggregate-put-bytes-2 c = search needs
+
+put-bytes-requires-2 : tie.Need-put-bytes-requires-2
+put-bytes-requires-2 c κs = search needs
+
+fmt-requires-2 : tie.Need-fmt-requires-2
+fmt-requires-2 c κs = search needs
+
+slice-aggregate-put-bytes-3 : tie.Need-slice-aggregate-put-bytes-3
+slice-aggregate-put-bytes-3 c = search needs
+
+put-bytes-requires-3 : tie.Need-put-bytes-requires-3
+put-bytes-requires-3 c κs = search needs
+
+slice-aggregate-put-either : tie.Need-slice-aggregate-put-either
+slice-aggregate-put-either c = search needs
+
+slice-aggregate-put-either-2 : tie.Need-slice-aggregate-put-either-2
+slice-aggregate-put-either-2 c = search needs
+
+put-either-requires : tie.Need-put-either-requires
+put-either-requires c κs = search needs
+
+same-length : tie.Need-same-length
+same-length c = search needs
+
+returns : tie.Need-returns
+unfolding stateText
+returns c =
+    let enabled = c .before .before in
+    let comma = enabled .before .before .before .before .before .before in
+    let mode = comma .before .before .before .before .before in
+    let named = mode .before .before .before .before in
+    let direction = named .before .before .before .before .before in
+    let first = direction .before .before .before .before in
+    then (then (then (then (then (first .put-bytes .ensures) (direction .fmt .ensures)) (named .put-bytes2 .ensures)) (mode .fmt2 .ensures)) (comma .put-bytes3 .ensures)) (enabled .put-either .ensures)
+
+pub put-state-spec : {M : Type 1} → statement M
+put-state-spec =
+    tie.close
+    (tie.spec
+    slice-aggregate-put-bytes
+    put-bytes-requires
+    fmt-requires
+    slice-aggregate-put-bytes-2
+    put-bytes-requires-2
+    fmt-requires-2
+    slice-aggregate-put-bytes-3
+    put-bytes-requires-3
+    slice-aggregate-put-either
+    slice-aggregate-put-either-2
+    put-either-requires
+    same-length
+    returns)
