@@ -2,7 +2,7 @@
 -- Assumes nothing.
 use mathlib.Core.Bool.{Bool, true, false, _||_}
 use mathlib.Core.List.{List, [], _∷_, _++_}
-use Prim.Native.Nat.{ℕ, _+_, _*_, _%_}
+use Prim.Native.Nat.{ℕ, _+_, _*_, _%_, _^_, _<_}
 use lib.ListN.{getD}
 use lib.Dec.{ltb}
 use Rattle.wire.specs.Outcome.{Outcome, refused, accepted, when, decide}
@@ -40,6 +40,15 @@ imageOf f =
     ++ (f .«logical_start_bit» % 8 ∷ f .«logical_end_bit» % 8 ∷ [])
     ++ littleOf 2 (f .«physical_start_address»)
     ++ (f .«physical_start_bit» % 8 ∷ (bit (f .«read_enable») + 2 * bit (f .«write_enable»)) ∷ bit (f .enable) ∷ 0 ∷ 0 ∷ 0 ∷ [])
+
+-- each number of a record fits its width in the image
+pub record Fits (f : Fmmu) : Type 0 where
+  pub start : f .«logical_start_address» < 256 ^ 4
+  pub size : f .«length_bytes» .0 < 256 ^ 2
+  pub physical : f .«physical_start_address» < 256 ^ 2
+  pub start-bit : f .«logical_start_bit» < 8
+  pub end-bit : f .«logical_end_bit» < 8
+  pub physical-bit : f .«physical_start_bit» < 8
 
 -- 13: a bit field above 7
 unfoldable pub tooWide : Fmmu → Bool

@@ -105,7 +105,16 @@ impl Fmmu {
         let start = self.logical_start_bit;
         let end = self.logical_end_bit;
         let physical = self.physical_start_bit;
-        7 < start || 7 < end || 7 < physical
+        if 7 < start {
+            return true;
+        }
+        if 7 < end {
+            return true;
+        }
+        if 7 < physical {
+            return true;
+        }
+        false
     }
 
     // Its text, into lent room.

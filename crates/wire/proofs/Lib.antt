@@ -2,6 +2,7 @@
 pub mod Below
 pub mod Fields
 pub mod Numbers
+pub mod Bytes
 pub mod Reserved
 pub mod Copied
 pub mod Typing

@@ -1,0 +1,52 @@
+-- `fmmu::Fmmu::pack_to_slice`: the tests decide between the refusals, with the room as it was, and the copy.
+-- Assumes nothing.
+use mathlib.Core.Path.{refl, sym, _∙_, ap}
+use mathlib.Core.List.{List}
+use Prim.Native.Nat.{ℕ}
+use denote.Ref.{now}
+use Rattle.wire.specs.Room.{over}
+use borrow.Author.Tests.{eq-eqb, ne-eqb}
+use borrow.Author.Needs.{needs}
+use Rattle.fmmu.proofs.Fmmu.pack_to_slice.Statement.{statement}
+use Rattle.fmmu.proofs.Fmmu.pack_to_slice.Tie as tie
+
+returns : tie.Need-returns
+returns c = simp (ne-eqb _ _ (c .if1 .taken)) (record { says = refl; holds = refl })
+
+too-wide-requires : tie.Need-too-wide-requires
+too-wide-requires c κs = search needs
+
+returns-2 : tie.Need-returns-2
+returns-2 c =
+    simp (eq-eqb _ _ (c .before .before .if1 .left), sym (c .before .too-wide .ensures) ∙ c .if2 .taken) (record { says = refl; holds = refl })
+
+pack-requires : tie.Need-pack-requires
+pack-requires c κs = search needs
+
+slice-aggregate-copy : tie.Need-slice-aggregate-copy
+slice-aggregate-copy c = search needs
+
+copy-requires : tie.Need-copy-requires
+copy-requires c κs = search needs
+
+same-length : tie.Need-same-length
+same-length c = search needs
+
+returns-3 : tie.Need-returns-3
+returns-3 c =
+    let a = c .before .before .before .before .before .before .before .before .before .before .args in
+    let copied = c .before .before .copy .ensures ∙ ap (λ (l : List ℕ). over l (now (a .buf))) (c .before .before .before .before .before .pack .ensures) in
+    simp (eq-eqb _ _ (c .before .before .before .before .before .before .before .before .if1 .left), sym (c .before .before .before .before .before .before .before .too-wide .ensures) ∙ c .before .before .before .before .before .before .if2 .left) (record { says = refl; holds = copied })
+
+pub pack-to-slice-spec : {M : Type 1} → statement M
+pack-to-slice-spec =
+    tie.close
+    (tie.spec
+    returns
+    too-wide-requires
+    returns-2
+    pack-requires
+    slice-aggregate-copy
+    copy-requires
+    same-length
+    returns-3)
