@@ -59,11 +59,10 @@ def steps():
 
 
 # Text into room that held a point everywhere: its length, room past it stays; too long: 12, and all of it stays.
-def into(text, size, whole=None):
-    whole = size if whole is None else whole
+def into(text, size):
     if len(text) > size:
-        return "refused 12 |" + "." * whole + "|"
-    return f"{len(text)} |{text}{'.' * (whole - len(text))}|"
+        return "refused 12 |" + "." * size + "|"
+    return f"{len(text)} |{text}{'.' * (size - len(text))}|"
 
 
 def segment_text(start, end):
@@ -79,7 +78,7 @@ def segments():
         less = "refused 10" if start < group or end < group else f"{start - group}..{end - group}"
         out(f"{max(0, end - start)} less {group}: {less} {into(segment_text(start, end), 24)}")
     for start, end, size in ((0, 5, 0), (0, 5, 21), (0, 5, 22), (0, 5, 23), (1, 0, 6), (1, 0, 7), (1, 0, 8)):
-        out(into(segment_text(start, end), size, 24))
+        out(into(segment_text(start, end), size))
 
 
 def bit(b, k):
@@ -109,15 +108,11 @@ def enable(low, high):
     return f" {seen} -> {low & 0b11000011:02x}{high & 0b00000011:02x}"
 
 
-def bytes_of_control():
-    out("control")
+def every_byte():
+    out("control, status and enable bytes")
     for b in range(256):
         out(f"{b:02x}" + (control(b) or " refused 5"))
-    out("status")
-    for b in range(256):
         out(f"{b:02x}" + status(b))
-    out("enable")
-    for b in range(256):
         out(f"{b:02x}00" + enable(b, 0))
         out(f"00{b:02x}" + enable(0, b))
 
@@ -168,12 +163,11 @@ def single(size, i):
 
 
 def images():
-    out("fmmu bits")
+    out("single bits")
     for i in range(128):
         out(fmmu(single(16, i)))
-    out("channel bits")
-    for i in range(64):
-        out(channel(single(8, i)))
+        if i < 64:
+            out(channel(single(8, i)))
     out("other images")
     for size in (15, 16, 17):
         out(fmmu([255] * size))
@@ -184,31 +178,30 @@ def images():
     out(channel([255] * 7))
 
 
-# A record with bit fields of one's own: 1 (room), then 13 (a bit field above 7), else the image.
+# A record to write: 1 (the room isn't 16 bytes), then 13 (a bit field above 7); the room stays as it was.
 def record_into(a, b, c, size):
-    if size != 16:
-        return "refused 1 |" + "." * 18 + "|"
-    if max(a, b, c) > 7:
-        return "refused 13 |" + "." * 18 + "|"
-    raise SystemExit("no such case is shown")
+    number = 1 if size != 16 else 13 if max(a, b, c) > 7 else None
+    assert number is not None, "only refusals are shown here"
+    return f"refused {number} |" + "." * size + "|"
 
 
 def rooms():
-    out("rooms")
-    for a, b, c, size in ((8, 7, 0, 16), (0, 8, 0, 16), (0, 7, 8, 16), (255, 255, 255, 16), (8, 7, 0, 15), (8, 7, 0, 17)):
+    out("image rooms")
+    for a, b, c, size in ((8, 7, 0, 16), (0, 8, 0, 16), (0, 7, 8, 16), (255, 255, 255, 16), (8, 7, 0, 15), (8, 7, 0, 17), (0, 7, 0, 17)):
         out(record_into(a, b, c, size))
+    out("text rooms")
     plain = fmmu_text(5, 2, 0, 7, 0x1100, 0, False, True, True)
-    for size in (88, 89, 90, 91):
-        out(into(plain, size, 96))
+    for size in (89, 90, 96):
+        out(into(plain, size))
     out(into(fmmu_text(5, 2, 255, 8, 0x1100, 100, False, True, True), 96))
     text = channel_text([0, 16, 128, 0, 0x26, 0, 1, 0])
-    for size in (75, 76, 77, 78):
-        out(into(text, size, 96))
+    for size in (76, 77, 78):
+        out(into(text, size))
 
 
 rounding()
 steps()
 segments()
-bytes_of_control()
+every_byte()
 images()
 rooms()

@@ -121,7 +121,9 @@ fn by_bytes(start: u32, n: u16) {
     number(start as u64);
     say(b" + ");
     number(n as u64);
-    let from = PdiOffset { start_address: start };
+    let from = PdiOffset {
+        start_address: start,
+    };
     say_moved(from.increment(ByteLen(n)));
 }
 
@@ -130,7 +132,9 @@ fn by_bits(start: u32, bits: u64) {
     say(b" + ");
     number(bits);
     say(b" bits");
-    let from = PdiOffset { start_address: start };
+    let from = PdiOffset {
+        start_address: start,
+    };
     say_moved(from.increment_byte_aligned(BitLen(bits)));
 }
 
@@ -177,7 +181,9 @@ fn say_written(written: Written, room: &[u8]) {
 }
 
 fn segment(start: u32, end: u32, group: u32) {
-    let from = PdiOffset { start_address: start };
+    let from = PdiOffset {
+        start_address: start,
+    };
     let s = from.up_to(PdiOffset { start_address: end });
     number(s.len() as u64);
     say(b" less ");
@@ -197,13 +203,10 @@ fn segment(start: u32, end: u32, group: u32) {
     say_written(written, &room);
 }
 
-fn segment_in(start: u32, end: u32, size: usize) {
-    let mut room = [46u8; 24];
+fn segment_in(start: u32, end: u32, room: &mut [u8]) {
     let s = PdiSegment { start, end };
-    if size <= 24 {
-        let written = s.fmt(&mut room[..size]);
-        say_written(written, &room);
-    }
+    let written = s.fmt(room);
+    say_written(written, room);
 }
 
 fn segments() {
@@ -220,13 +223,20 @@ fn segments() {
     segment(0, 4294967295, 0);
     segment(4294967294, 4294967295, 4294967294);
     segment(2596069104, 2596069105, 2596069104);
-    segment_in(0, 5, 0);
-    segment_in(0, 5, 21);
-    segment_in(0, 5, 22);
-    segment_in(0, 5, 23);
-    segment_in(1, 0, 6);
-    segment_in(1, 0, 7);
-    segment_in(1, 0, 8);
+    let mut none = [46u8; 0];
+    segment_in(0, 5, &mut none);
+    let mut short = [46u8; 21];
+    segment_in(0, 5, &mut short);
+    let mut exact = [46u8; 22];
+    segment_in(0, 5, &mut exact);
+    let mut long = [46u8; 23];
+    segment_in(0, 5, &mut long);
+    let mut six = [46u8; 6];
+    segment_in(1, 0, &mut six);
+    let mut seven = [46u8; 7];
+    segment_in(1, 0, &mut seven);
+    let mut eight = [46u8; 8];
+    segment_in(1, 0, &mut eight);
 }
 
 // ---- control, status and enable: all 256 bytes each
@@ -255,8 +265,10 @@ fn state_name(state: BufferState) {
 }
 
 fn say_control(c: Control) {
-    mode_name(c.operation_mode);
-    direction_name(c.direction);
+    let mode = c.operation_mode;
+    mode_name(mode);
+    let direction = c.direction;
+    direction_name(direction);
     bit(c.ecat_event_enable);
     bit(c.dls_user_event_enable);
     bit(c.watchdog_enable);
@@ -268,7 +280,8 @@ fn say_status(s: Status) {
     bit(s.has_write_event);
     bit(s.has_read_event);
     bit(s.mailbox_full);
-    state_name(s.buffer_state);
+    let state = s.buffer_state;
+    state_name(state);
     bit(s.read_buffer_open);
     bit(s.write_buffer_open);
     say(b" -> ");
@@ -287,56 +300,56 @@ fn say_enable(e: Enable) {
     bytes(&written);
 }
 
-fn controls() {
-    say(b"control\n");
-    for k in 0..256 {
-        let b = (k % 256) as u8;
-        byte(b);
-        match Control::unpack(b) {
-            ControlRead::Named(c) => say_control(c),
-            ControlRead::Refused(n) => {
-                say(b" ");
-                refused(n);
-            }
+fn control_line(b: u8) {
+    byte(b);
+    match Control::unpack(b) {
+        ControlRead::Named(c) => say_control(c),
+        ControlRead::Refused(n) => {
+            say(b" ");
+            refused(n);
         }
-        say(b"\n");
     }
+    say(b"\n");
 }
 
-fn statuses() {
-    say(b"status\n");
-    for k in 0..256 {
-        let b = (k % 256) as u8;
-        byte(b);
-        say_status(Status::unpack(b));
-        say(b"\n");
-    }
+fn status_line(b: u8) {
+    byte(b);
+    say_status(Status::unpack(b));
+    say(b"\n");
 }
 
-fn enables() {
-    say(b"enable\n");
-    for k in 0..256 {
+fn enable_line(low: u8, high: u8) {
+    byte(low);
+    byte(high);
+    say_enable(Enable::unpack(low, high));
+    say(b"\n");
+}
+
+fn every_byte() {
+    say(b"control, status and enable bytes\n");
+    let mut k: u16 = 0;
+    while k < 256 {
         let b = (k % 256) as u8;
-        byte(b);
-        say(b"00");
-        say_enable(Enable::unpack(b, 0));
-        say(b"\n00");
-        byte(b);
-        say_enable(Enable::unpack(0, b));
-        say(b"\n");
+        control_line(b);
+        status_line(b);
+        enable_line(b, 0);
+        enable_line(0, b);
+        k += 1;
     }
 }
 
 // ---- images: each single bit, read, shown and written
 
+fn say_front(room: &[u8], n: usize) {
+    if n <= room.len() {
+        say(&room[..n]);
+    }
+}
+
 fn say_fmmu(f: Fmmu) {
     let mut room = [46u8; 128];
     match f.fmt(&mut room) {
-        Written::Len(n) => {
-            if n <= 128 {
-                say(&room[..n]);
-            }
-        }
+        Written::Len(n) => say_front(&room, n),
         Written::Refused(n) => refused(n),
     }
     let mut image = [255u8; 16];
@@ -365,19 +378,18 @@ fn fmmu_image(image: &[u8]) {
 fn say_channel(s: SyncManagerChannel) {
     let mut room = [46u8; 96];
     match s.fmt(&mut room) {
-        Written::Len(n) => {
-            if n <= 96 {
-                say(&room[..n]);
-            }
-        }
+        Written::Len(n) => say_front(&room, n),
         Written::Refused(n) => refused(n),
     }
     say(b";");
-    say_control(s.control);
+    let control = s.control;
+    say_control(control);
     say(b";");
-    say_status(s.status);
+    let status = s.status;
+    say_status(status);
     say(b";");
-    say_enable(s.enable);
+    let enable = s.enable;
+    say_enable(enable);
     let mut image = [255u8; 8];
     let written = s.pack_to_slice(&mut image);
     say(b" -> ");
@@ -399,19 +411,33 @@ fn power(k: usize) -> u8 {
     powers[k % 8]
 }
 
-fn images() {
-    say(b"fmmu bits\n");
-    for i in 0..128 {
-        let mut image = [0u8; 16];
+fn fmmu_bit(i: usize) {
+    let mut image = [0u8; 16];
+    if i < 128 {
         image[i / 8] = power(i);
         fmmu_image(&image);
     }
-    say(b"channel bits\n");
-    for i in 0..64 {
-        let mut image = [0u8; 8];
+}
+
+fn channel_bit(i: usize) {
+    let mut image = [0u8; 8];
+    if i < 64 {
         image[i / 8] = power(i);
         channel_image(&image);
     }
+}
+
+fn every_bit() {
+    say(b"single bits\n");
+    let mut i = 0;
+    while i < 128 {
+        fmmu_bit(i);
+        channel_bit(i);
+        i += 1;
+    }
+}
+
+fn other_images() {
     say(b"other images\n");
     let all = [255u8; 18];
     fmmu_image(&all[..15]);
@@ -441,62 +467,66 @@ fn record(start_bit: u8, end_bit: u8, physical_bit: u8) -> Fmmu {
     }
 }
 
-fn fmmu_into(f: Fmmu, size: usize) {
-    let mut image = [46u8; 18];
-    if size <= 18 {
-        let written = f.pack_to_slice(&mut image[..size]);
-        say_written(written, &image);
-    }
+fn fmmu_into(f: Fmmu, room: &mut [u8]) {
+    let written = f.pack_to_slice(room);
+    say_written(written, room);
 }
 
-fn fmmu_text_into(f: Fmmu, size: usize) {
-    let mut room = [46u8; 96];
-    if size <= 96 {
-        let written = f.fmt(&mut room[..size]);
-        say_written(written, &room);
-    }
+fn fmmu_text_into(f: Fmmu, room: &mut [u8]) {
+    let written = f.fmt(room);
+    say_written(written, room);
 }
 
-fn channel_text_into(size: usize) {
+fn channel_text_into(room: &mut [u8]) {
     let image = [0u8, 16, 128, 0, 0x26, 0, 1, 0];
-    let mut room = [46u8; 96];
     match SyncManagerChannel::unpack(image) {
         ChannelRead::Channel(s) => {
-            if size <= 96 {
-                let written = s.fmt(&mut room[..size]);
-                say_written(written, &room);
-            }
+            let written = s.fmt(room);
+            say_written(written, room);
         }
         ChannelRead::Refused(n) => refused(n),
     }
 }
 
-fn rooms() {
-    say(b"rooms\n");
-    fmmu_into(record(8, 7, 0), 16);
-    fmmu_into(record(0, 8, 0), 16);
-    fmmu_into(record(0, 7, 8), 16);
-    fmmu_into(record(255, 255, 255), 16);
-    fmmu_into(record(8, 7, 0), 15);
-    fmmu_into(record(8, 7, 0), 17);
-    fmmu_text_into(record(0, 7, 0), 88);
-    fmmu_text_into(record(0, 7, 0), 89);
-    fmmu_text_into(record(0, 7, 0), 90);
-    fmmu_text_into(record(0, 7, 0), 91);
-    fmmu_text_into(record(255, 8, 100), 96);
-    channel_text_into(75);
-    channel_text_into(76);
-    channel_text_into(77);
-    channel_text_into(78);
+fn image_rooms() {
+    say(b"image rooms\n");
+    let mut exact = [46u8; 16];
+    fmmu_into(record(8, 7, 0), &mut exact);
+    fmmu_into(record(0, 8, 0), &mut exact);
+    fmmu_into(record(0, 7, 8), &mut exact);
+    fmmu_into(record(255, 255, 255), &mut exact);
+    let mut short = [46u8; 15];
+    fmmu_into(record(8, 7, 0), &mut short);
+    let mut long = [46u8; 17];
+    fmmu_into(record(8, 7, 0), &mut long);
+    fmmu_into(record(0, 7, 0), &mut long);
+}
+
+fn text_rooms() {
+    say(b"text rooms\n");
+    let mut short = [46u8; 89];
+    fmmu_text_into(record(0, 7, 0), &mut short);
+    let mut exact = [46u8; 90];
+    fmmu_text_into(record(0, 7, 0), &mut exact);
+    let mut long = [46u8; 96];
+    fmmu_text_into(record(0, 7, 0), &mut long);
+    let mut wide = [46u8; 96];
+    fmmu_text_into(record(255, 8, 100), &mut wide);
+    let mut less = [46u8; 76];
+    channel_text_into(&mut less);
+    let mut same = [46u8; 77];
+    channel_text_into(&mut same);
+    let mut more = [46u8; 78];
+    channel_text_into(&mut more);
 }
 
 fn main() {
     rounding();
     steps();
     segments();
-    controls();
-    statuses();
-    enables();
-    images();
-    rooms();
+    every_byte();
+    every_bit();
+    other_images();
+    image_rooms();
+    text_rooms();
 }
