@@ -78,8 +78,11 @@ broken s =
     || (someBelow (λ k. ltb 3 (getD s (usagesPlace s + k) 0)) (usageCount s) || not (pdosFit s (pdoCount s) (pdosPlace s)))))))
 
 -- 5: any control, wanted or not, has an unnamed mode or direction
+abbrev pub unnamedAt : List ℕ → ℕ → Bool
+unnamedAt s k = unnamed (getD s (managerPlace k + 2) 0)
+
 unfoldable pub someUnnamed : List ℕ → Bool
-someUnnamed s = someBelow (λ k. unnamed (getD s (managerPlace k + 2) 0)) (managerCount s)
+someUnnamed s = someBelow (unnamedAt s) (managerCount s)
 
 -- the refusals in their order
 abbrev pub sheetRefusals : List ℕ → List Refusal
@@ -106,6 +109,14 @@ readSheet s = decide (sheetRefusals s) (sheetData s)
 -- the same in the form that code holds it: places that are not used hold nothing
 abbrev pub noManager : SyncManager
 noManager = record { «start_addr» = 0; control = controlAt 0; enable = false; «usage_type» = 0 }
+
+-- n of them, and nothing where one has no name
+unfoldable pub managersRead : List ℕ → ℕ → List SyncManager
+managersRead s n =
+    cond
+    (someBelow (unnamedAt s) n)
+    (replicate 16 noManager)
+    (listOf (λ k. managerAt s (managerPlace k)) n ++ replicate (16 - n) noManager)
 
 unfoldable pub deviceOf : List ℕ → Device
 deviceOf s =

@@ -1,12 +1,13 @@
 // The device sheet: the one form in which a bay comes in, read whole.
 ghost use mathlib.Core.Path.{_≡_};
 ghost use mathlib.Core.Bool.{true};
-ghost use mathlib.Core.List.{_++_};
-ghost use Prim.Native.Nat.{_+_, _*_, _-_, _≤_};
+ghost use mathlib.Core.List.{[], _∷_, _++_};
+ghost use Rattle.wire.specs.Outcome.{when, decide};
+ghost use Prim.Native.Nat.{ℕ, _+_, _*_, _-_, _≤_, _<_};
 ghost use lib.ListN.{length, getD, replicate};
 ghost use lib.Dec.{ltb};
 ghost use Rattle.sheet.specs.Lists.{listOf, someBelow};
-ghost use Rattle.sheet.specs.Sheet.{wrongLength, pdosFit, broken};
+ghost use Rattle.sheet.specs.Sheet.{wrongLength, kindFits, pdosFit, broken, unnamedAt, managersRead, answerOf};
 use pdi::ByteLen;
 use sync_manager_channel::BufferState;
 use sync_manager_channel::Control;
@@ -73,9 +74,9 @@ fn wrong_length(sheet: &[u8]) -> bool
     16384 < follow
 }
 
-// 4: whether some byte of a row is above its limit; the row has `count` bytes, `step` apart.
+// Whether some byte of a row is above its limit: `count` bytes from `at` on, `step` apart.
 fn some_above(sheet: &[u8], at: usize, step: usize, count: usize, limit: u8) -> bool
-    requires { ⌜ (at + step * count ≤ length (now sheet)) × (count ≤ 16) × (step ≤ 5) × (0 < step) ⌝ }
+    requires { ⌜ (at < 128) × (step ≤ 5) × (count ≤ 16) × ((k : ℕ) → k < count → at + step * k < length (now sheet)) ⌝ }
     ensures { λ r. ⌜ r ≡ someBelow (λ k. ltb limit (getD (now (sheet .entry)) (at + step * k) 0)) count ⌝ }
 {
     let mut k = 0;
@@ -86,4 +87,129 @@ fn some_above(sheet: &[u8], at: usize, step: usize, count: usize, limit: u8) -> 
         k += 1;
     }
     false
+}
+
+// Whether a PDO's kind goes with its count.
+fn kind_fits(kind: u8, m: u8) -> bool
+    ensures { λ r. ⌜ r ≡ kindFits kind m ⌝ }
+{
+    if kind == 0 {
+        return true;
+    }
+    if kind == 1 {
+        return m == 2;
+    }
+    if kind == 2 {
+        return m == 2;
+    }
+    false
+}
+
+// Whether p PDO records stand from `at` on, none past the end and nothing after the last one.
+fn pdos_fit(sheet: &[u8], p: usize, at: usize) -> bool
+    requires { ⌜ (at ≤ length (now sheet)) × (length (now sheet) ≤ 16386) ⌝ }
+    ensures { λ r. ⌜ r ≡ pdosFit (now (sheet .entry)) p at ⌝ }
+{
+    let mut left = p;
+    let mut place = at;
+    while 0 < left {
+        if sheet.len() < place + 5 {
+            return false;
+        }
+        let m = sheet[place + 4];
+        let next = place + 5 + wide(m);
+        if sheet.len() < next {
+            return false;
+        }
+        if !kind_fits(sheet[place], m) {
+            return false;
+        }
+        place = next;
+        left -= 1;
+    }
+    place == sheet.len()
+}
+
+// 4: whether another rule of the sheet is broken.
+fn rule_broken(sheet: &[u8]) -> bool
+    requires { ⌜ (11 ≤ length (now sheet)) × (length (now sheet) ≤ 16386) ⌝ }
+    ensures { λ r. ⌜ r ≡ broken (now (sheet .entry)) ⌝ }
+{
+    let n = wide(sheet[8]);
+    let f = wide(sheet[9]);
+    let p = wide(sheet[10]);
+    if 7 < sheet[3] {
+        return true;
+    }
+    if 16 < n {
+        return true;
+    }
+    if 16 < f {
+        return true;
+    }
+    let usages = 11 + 5 * n;
+    let pdos = usages + f;
+    if sheet.len() < pdos {
+        return true;
+    }
+    if some_above(sheet, 15, 5, n, 4) {
+        return true;
+    }
+    if some_above(sheet, usages, 1, f, 3) {
+        return true;
+    }
+    !pdos_fit(sheet, p, pdos)
+}
+
+// The sync managers of a sheet, or 5 where a control has no name.
+struct Managers {
+    answer: Answer,
+    list: [SyncManager; 16],
+}
+
+const NO_CONTROL: Control = Control {
+    operation_mode: OperationMode::Normal,
+    direction: Direction::MasterRead,
+    ecat_event_enable: false,
+    dls_user_event_enable: false,
+    watchdog_enable: false,
+};
+
+const NO_MANAGER: SyncManager = SyncManager {
+    start_addr: 0,
+    control: NO_CONTROL,
+    enable: false,
+    usage_type: 0,
+};
+
+fn managers_of(sheet: &[u8], n: usize) -> Managers
+    requires { ⌜ (n ≤ 16) × (11 + 5 * n ≤ length (now sheet)) ⌝ }
+    ensures { λ r. ⌜ (answerOf (r .answer) tt ≡ decide (when 5 (someBelow (unnamedAt (now (sheet .entry))) n) ∷ []) tt) × (r .list ≡ managersRead (now (sheet .entry)) n) ⌝ }
+{
+    let mut list = [NO_MANAGER; 16];
+    let mut k = 0;
+    while k < n {
+        let at = 11 + 5 * k;
+        match Control::unpack(sheet[at + 2]) {
+            ControlRead::Named(control) => {
+                list[k] = SyncManager {
+                    start_addr: wire::be16(sheet[at], sheet[at + 1]),
+                    control,
+                    enable: wire::flag(sheet[at + 3], 0),
+                    usage_type: sheet[at + 4],
+                };
+            }
+            ControlRead::Refused(number) => {
+                return Managers {
+                    answer: Answer::Refused(number),
+                    list: [NO_MANAGER; 16],
+                };
+            }
+        }
+        k += 1;
+    }
+    Managers {
+        answer: Answer::Accepted,
+        list,
+    }
 }
