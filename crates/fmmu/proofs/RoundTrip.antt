@@ -131,20 +131,34 @@ write-read l h = (clear, back)
   where
     at : imageOf (fieldsOf l) ≡ l → (k : ℕ) → getD (imageOf (fieldsOf l)) k 0 ≡ getD l k 0
     at e k = ap (λ (m : List ℕ). getD m k 0) e
+
     clear : imageOf (fieldsOf l) ≡ l → Clear reserved l
-    clear e =
-      (bit-exactly _ (h .bytes 6) .0 (at e 6), (bit-exactly _ (h .bytes 7) .0 (at e 7), (bit-exactly _ (h .bytes 10) .0 (at e 10),
-      (access-exactly _ (h .bytes 11) .0 (at e 11), (enable-exactly _ (h .bytes 12) .0 (at e 12),
-      (none-exactly _ (h .bytes 13) .0 (at e 13), (none-exactly _ (h .bytes 14) .0 (at e 14), (none-exactly _ (h .bytes 15) .0 (at e 15), tt))))))))
+    clear e = (
+      bit-exactly _ (h .bytes 6) .0 (at e 6),
+      (
+        bit-exactly _ (h .bytes 7) .0 (at e 7),
+        (
+          bit-exactly _ (h .bytes 10) .0 (at e 10),
+          (
+            access-exactly _ (h .bytes 11) .0 (at e 11),
+            (
+              enable-exactly _ (h .bytes 12) .0 (at e 12),
+              (none-exactly _ (h .bytes 13) .0 (at e 13), (none-exactly _ (h .bytes 14) .0 (at e 14), (none-exactly _ (h .bytes 15) .0 (at e 15), tt))),
+            ),
+          ),
+        ),
+      ),
+    )
+
     back : Clear reserved l → imageOf (fieldsOf l) ≡ l
     back z =
-      let flags = z .1 .1 .1 in
-      let rest = flags .1 .1 in
-      let e : imageOf (fieldsOf l) ≡ spread 16 0 l =
+        let flags = z .1 .1 .1 in
+        let rest = flags .1 .1 in
+        let e : imageOf (fieldsOf l) ≡ spread 16 0 l =
         λ i.
         little-back 4 0 h i ++ little-back 2 4 h i
         ++ (bit-exactly _ (h .bytes 6) .1 (z .0) i ∷ bit-exactly _ (h .bytes 7) .1 (z .1 .0) i ∷ [])
         ++ little-back 2 8 h i
         ++ (bit-exactly _ (h .bytes 10) .1 (z .1 .1 .0) i ∷ access-exactly _ (h .bytes 11) .1 (flags .0) i ∷ enable-exactly _ (h .bytes 12) .1 (flags .1 .0) i
         ∷ none-exactly _ (h .bytes 13) .1 (rest .0) i ∷ none-exactly _ (h .bytes 14) .1 (rest .1 .0) i ∷ none-exactly _ (h .bytes 15) .1 (rest .1 .1 .0) i ∷ []) in
-      e ∙ spread-is h
+        e ∙ spread-is h
