@@ -1,12 +1,11 @@
 -- How long an entry's text is.
 -- Assumes nothing.
-use mathlib.Core.Path.{_≡_}
 use mathlib.Core.Bool.{Bool, true, false, cond}
-use mathlib.Core.List.{List, [], _∷_, _++_}
+use mathlib.Core.List.{List, [], _∷_}
 use Prim.Native.Nat.{ℕ, _≤_}
 use native.Mathlib.Omega.{arith}
 use lib.ListN.{length, length-append}
-use Rattle.wire.specs.Text.{decimalOf, enabledText}
+use Rattle.wire.specs.Text.{enabledText}
 use Rattle.wire.proofs.Digits.{digits-length, decimal-length}
 use Rattle.fmmu.specs.declared.Fmmu.{Fmmu}
 use Rattle.fmmu.specs.Text.{logicalText, physicalText, stateText, fmmuText}
