@@ -1,19 +1,18 @@
 -- The layout both ways: what reading gives of what was written, and writing of what was read.
 -- Assumes nothing.
-use mathlib.Core.Path.{_≡_, refl, sym, _∙_, ap}
+use mathlib.Core.Path.{_≡_, refl, _∙_, ap}
 use mathlib.Core.Bool.{Bool, true, false}
 use mathlib.Core.Logic.{_↔_}
 use mathlib.Core.List.{List, [], _∷_, _++_}
-use Prim.Native.Nat.{ℕ, _+_, _*_, _/_, _%_, _<_}
+use Prim.Native.Nat.{ℕ, _+_, _*_, _%_, _<_}
 use native.Mathlib.Omega.{arith}
-use lib.ListN.{length, getD}
+use lib.ListN.{length, getD, drop}
 use Rattle.wire.specs.Field.{bitsAt, flagAt, bit}
-use Rattle.wire.specs.Number.{littleOf}
 use Rattle.wire.specs.Image.{Image, Clear}
 use Rattle.wire.proofs.Fields.{bit-lt}
 use Rattle.wire.proofs.Numbers.{joined-is, spread, spread-is, little-back}
 use Rattle.wire.proofs.Reserved.{exactly}
-use Rattle.wire.proofs.Bytes.{little-fits, no-bytes, cons-bytes, append-bytes, little-bytes}
+use Rattle.wire.proofs.Bytes.{Bytes, little-fits, no-bytes, cons-bytes, append-bytes, little-bytes}
 use Rattle.fmmu.specs.declared.Fmmu.{Fmmu}
 use Rattle.fmmu.specs.Image.{fieldsOf, imageOf, reserved, Fits}
 
@@ -27,17 +26,11 @@ enableBack b = bit (flagAt b 0)
 abbrev bitBack : ℕ → ℕ
 bitBack b = bitsAt b 0 3 % 8
 
-read-low : (x y : Bool) → flagAt (bit x + 2 * bit y) 0 ≡ x
-read-low true true = refl
-read-low true false = refl
-read-low false true = refl
-read-low false false = refl
-
-read-high : (x y : Bool) → flagAt (bit x + 2 * bit y) 1 ≡ y
-read-high true true = refl
-read-high true false = refl
-read-high false true = refl
-read-high false false = refl
+read-access : (x y : Bool) → (flagAt (bit x + 2 * bit y) 0 ≡ x) × (flagAt (bit x + 2 * bit y) 1 ≡ y)
+read-access true true = (refl, refl)
+read-access true false = (refl, refl)
+read-access false true = (refl, refl)
+read-access false false = (refl, refl)
 
 read-one : (x : Bool) → flagAt (bit x) 0 ≡ x
 read-one true = refl
@@ -58,8 +51,8 @@ read-write f h =
       «logical_end_bit» = read-bits (f .«logical_end_bit») (h .end-bit) i;
       «physical_start_address» = joined-is 2 (f .«physical_start_address») (h .physical) i;
       «physical_start_bit» = read-bits (f .«physical_start_bit») (h .physical-bit) i;
-      «read_enable» = read-low (f .«read_enable») (f .«write_enable») i;
-      «write_enable» = read-high (f .«read_enable») (f .«write_enable») i;
+      «read_enable» = read-access (f .«read_enable») (f .«write_enable») .0 i;
+      «write_enable» = read-access (f .«read_enable») (f .«write_enable») .1 i;
       enable = read-one (f .enable) i;
     }
 
@@ -94,22 +87,23 @@ pub image-length : (f : Fmmu) → length (imageOf f) ≡ 16
 unfolding imageOf
 image-length f = refl
 
+flag-bytes : (r w e : Bool) → Bytes ((bit r + 2 * bit w) ∷ bit e ∷ 0 ∷ 0 ∷ 0 ∷ [])
+flag-bytes r w e =
+    let hr = bit-lt r in
+    let hw = bit-lt w in
+    let he = bit-lt e in
+    cons-bytes (omega arith) (cons-bytes (omega arith) (cons-bytes (omega arith) (cons-bytes (omega arith) (cons-bytes (omega arith) no-bytes))))
+
 -- what is written is sixteen bytes, whatever the entry
 pub image-is : (f : Fmmu) → Image 16 (imageOf f)
 unfolding imageOf
 image-is f =
-    let r = bit-lt (f .«read_enable») in
-    let w = bit-lt (f .«write_enable») in
-    let e = bit-lt (f .enable) in
-    let bits = cons-bytes {x = f .«logical_start_bit» % 8} (omega arith) (cons-bytes {x = f .«logical_end_bit» % 8} (omega arith) no-bytes) in
-    let rest = cons-bytes {x = 0} (omega arith) (cons-bytes {x = 0} (omega arith) (cons-bytes {x = 0} (omega arith) no-bytes)) in
-    let flags = cons-bytes {x = bit (f .«read_enable») + 2 * bit (f .«write_enable»)} (omega arith) (cons-bytes {x = bit (f .enable)} (omega arith) rest) in
+    let bit-byte : (x : ℕ) → x % 8 < 256 = λ x. omega arith in
+    let bits = cons-bytes (bit-byte (f .«logical_start_bit»)) (cons-bytes (bit-byte (f .«logical_end_bit»)) no-bytes) in
     let numbers = append-bytes (little-bytes 4 (f .«logical_start_address»)) (little-bytes 2 (f .«length_bytes» .0)) in
     let physical = append-bytes (append-bytes numbers bits) (little-bytes 2 (f .«physical_start_address»)) in
-    record {
-      long = image-length f;
-      bytes = append-bytes physical (cons-bytes {x = f .«physical_start_bit» % 8} (omega arith) flags) .below;
-    }
+    let flags = cons-bytes (bit-byte (f .«physical_start_bit»)) (flag-bytes (f .«read_enable») (f .«write_enable») (f .enable)) in
+    record { long = image-length f; bytes = append-bytes physical flags .below }
 
 -- a byte comes back exactly if its reserved bits are 0
 bit-exactly : (b : ℕ) → b < 256 → (bitBack b ≡ b) ↔ (bitsAt b 3 5 ≡ 0)
@@ -133,22 +127,11 @@ write-read l h = (clear, back)
     at e k = ap (λ (m : List ℕ). getD m k 0) e
 
     clear : imageOf (fieldsOf l) ≡ l → Clear reserved l
-    clear e = (
-      bit-exactly _ (h .bytes 6) .0 (at e 6),
-      (
-        bit-exactly _ (h .bytes 7) .0 (at e 7),
-        (
-          bit-exactly _ (h .bytes 10) .0 (at e 10),
-          (
-            access-exactly _ (h .bytes 11) .0 (at e 11),
-            (
-              enable-exactly _ (h .bytes 12) .0 (at e 12),
-              (none-exactly _ (h .bytes 13) .0 (at e 13), (none-exactly _ (h .bytes 14) .0 (at e 14), (none-exactly _ (h .bytes 15) .0 (at e 15), tt))),
-            ),
-          ),
-        ),
-      ),
-    )
+    clear e =
+        let rest : Clear (drop 5 reserved) l =
+        (none-exactly _ (h .bytes 13) .0 (at e 13), (none-exactly _ (h .bytes 14) .0 (at e 14), (none-exactly _ (h .bytes 15) .0 (at e 15), tt))) in
+        let flags : Clear (drop 3 reserved) l = (access-exactly _ (h .bytes 11) .0 (at e 11), (enable-exactly _ (h .bytes 12) .0 (at e 12), rest)) in
+        (bit-exactly _ (h .bytes 6) .0 (at e 6), (bit-exactly _ (h .bytes 7) .0 (at e 7), (bit-exactly _ (h .bytes 10) .0 (at e 10), flags)))
 
     back : Clear reserved l → imageOf (fieldsOf l) ≡ l
     back z =

@@ -1,12 +1,11 @@
 -- How long an entry's text is.
 -- Assumes nothing.
-use mathlib.Core.Path.{_≡_}
 use mathlib.Core.Bool.{Bool, true, false, cond}
-use mathlib.Core.List.{List, [], _∷_, _++_}
+use mathlib.Core.List.{List, [], _∷_}
 use Prim.Native.Nat.{ℕ, _≤_}
 use native.Mathlib.Omega.{arith}
 use lib.ListN.{length, length-append}
-use Rattle.wire.specs.Text.{decimalOf, enabledText}
+use Rattle.wire.specs.Text.{enabledText}
 use Rattle.wire.proofs.Digits.{digits-length, decimal-length}
 use Rattle.fmmu.specs.declared.Fmmu.{Fmmu}
 use Rattle.fmmu.specs.Text.{logicalText, physicalText, stateText, fmmuText}
@@ -25,19 +24,17 @@ physical-length f =
     let a = decimal-length (f .«physical_start_bit») in
     simp (length-append, digits-length 16 4) (omega arith)
 
+either-length : (b : Bool) (x y : List ℕ) (n : ℕ) → length x ≤ n → length y ≤ n → length (cond b x y) ≤ n
+either-length true x y n hx hy = hx
+either-length false x y n hx hy = hy
+
 state-length : (f : Fmmu) → length (stateText f) ≤ 14
 unfolding stateText
-state-length f = go (f .«read_enable») (f .«write_enable») (f .enable)
-  where
-    go : (r w e : Bool) → length ((44 ∷ 32 ∷ []) ++ cond r (82 ∷ []) [] ++ cond w (87 ∷ []) (79 ∷ []) ++ (44 ∷ 32 ∷ []) ++ enabledText e) ≤ 14
-    go true true true = omega arith
-    go true true false = omega arith
-    go true false true = omega arith
-    go true false false = omega arith
-    go false true true = omega arith
-    go false true false = omega arith
-    go false false true = omega arith
-    go false false false = omega arith
+state-length f =
+    let r = either-length (f .«read_enable») (82 ∷ []) [] 1 (omega arith) (omega arith) in
+    let w = either-length (f .«write_enable») (87 ∷ []) (79 ∷ []) 1 (omega arith) (omega arith) in
+    let e : length (enabledText (f .enable)) ≤ 8 = either-length (f .enable) _ _ 8 (omega arith) (omega arith) in
+    simp length-append (omega arith)
 
 -- the text of any entry fits 128 bytes
 pub fmmu-length : (f : Fmmu) → length (fmmuText f) ≤ 128

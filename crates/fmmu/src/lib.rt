@@ -48,7 +48,8 @@ impl Fmmu {
     pub fn unpack_from_slice(buf: &[u8]) -> FmmuRead
         ensures { λ r. ⌜ fmmuReadOf r ≡ readEntry (now (buf .entry)) ⌝ }
     {
-        if buf.len() != 16 {
+        let length = buf.len();
+        if length != 16 {
             return FmmuRead::Refused(1);
         }
         let mut image = [0u8; 16];

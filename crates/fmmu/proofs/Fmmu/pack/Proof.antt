@@ -1,11 +1,13 @@
 -- `fmmu::Fmmu::pack`: each byte is what the calls and the masks give of its field.
 -- Assumes nothing.
 use mathlib.Core.Path.{_≡_, _∙_}
-use Prim.Native.Nat.{_+_, _*_}
-use Rattle.wire.specs.Field.{bit}
-use lib.Bits.{and-mask}
+use mathlib.Core.List.{[], _∷_, _++_}
+use Prim.Native.Nat.{_+_, _*_, _%_}
 use native.Mathlib.Omega.{arith}
+use lib.Bits.{bitOr, and-mask}
+use Rattle.wire.specs.Field.{bit}
 use Rattle.wire.proofs.Fields.{above}
+use Rattle.wire.proofs.Numbers.{spread}
 use Rattle.fmmu.specs.Image.{imageOf}
 use borrow.Author.Needs.{needs}
 use Rattle.fmmu.proofs.Fmmu.pack.Statement.{statement}
@@ -53,24 +55,22 @@ bit-of-requires-2 c κs = search needs
 bit-of-requires-3 : tie.Need-bit-of-requires-3
 bit-of-requires-3 c κs = search needs
 
+-- the write flag's bit stands above the read flag's
+access : (c : tie.After-bit-of2) → bitOr (c .before .bit-of .result) ((c .bit-of2 .result * 2) % 256) ≡ bit (c .before .before .before .before .before .before .before .before .args .self .«read_enable») + 2 * bit (c .before .before .before .before .before .before .before .before .args .self .«write_enable»)
+access c =
+    let write = c .bit-of2 in
+    above 8 1 1 (write .result) (c .before .bit-of .ensures .0) (omega arith) (write .ensures .1) (omega arith) ∙ omega (arith, write .ensures .0)
+
 returns : tie.Need-returns
 unfolding imageOf
 returns c =
     let f = c .before .before .before .before .before .before .before .before .before .args .self in
-    let read = c .before .before .bit-of in
-    let write = c .before .bit-of2 in
-    let flags = above 8 1 1 {t = read .result} (write .result) (read .ensures .0) (omega arith) (write .ensures .1) (omega arith) in
-    let twice : bit (f .«read_enable») + write .result * 2 ≡ bit (f .«read_enable») + 2 * bit (f .«write_enable») = omega (arith, write .ensures .0) in
-    rw (
-      c .before .before .before .before .before .before .before .before .le32-bytes .ensures,
-      c .before .before .before .before .before .before .before .le16-bytes .ensures,
-      c .before .before .before .before .before .before .le16-bytes2 .ensures,
-      and-mask (f .«logical_start_bit») 3,
-      and-mask (f .«logical_end_bit») 3,
-      and-mask (f .«physical_start_bit») 3,
-      flags ∙ twice,
-      c .bit-of3 .ensures .0,
-    )
+    let start = c .before .before .before .before .before .before .before .before .le32-bytes .ensures in
+    let size = c .before .before .before .before .before .before .before .le16-bytes .ensures in
+    let physical = c .before .before .before .before .before .before .le16-bytes2 .ensures in
+    λ i.
+    spread 4 0 (start i) ++ spread 2 0 (size i) ++ (and-mask (f .«logical_start_bit») 3 i ∷ and-mask (f .«logical_end_bit») 3 i ∷ [])
+    ++ spread 2 0 (physical i) ++ (and-mask (f .«physical_start_bit») 3 i ∷ access (c .before) i ∷ c .bit-of3 .ensures .0 i ∷ 0 ∷ 0 ∷ 0 ∷ [])
 
 pub pack-spec : {M : Type 1} → statement M
 pack-spec =

@@ -1,7 +1,7 @@
 -- `fmmu::Fmmu::put_logical`: each part is typed after the one before it.
 -- Assumes nothing.
-use mathlib.Core.Path.{_∙_}
 use Rattle.wire.proofs.Typing.{then}
+use Rattle.wire.proofs.Kept.{kept}
 use Rattle.fmmu.specs.Text.{logicalText}
 use borrow.Author.Needs.{needs}
 use Rattle.fmmu.proofs.Fmmu.put_logical.Statement.{statement}
@@ -49,19 +49,6 @@ cast-put-decimal-2 c = search needs
 put-decimal-requires-3 : tie.Need-put-decimal-requires-3
 put-decimal-requires-3 c κs = search needs
 
-same-length : tie.Need-same-length
-same-length c =
-    let end-bit = c .before .before in
-    let end = end-bit .before .before .before .before .before in
-    let size = end .before .before .before .before .before in
-    let comma = size .before .before .before .before in
-    let start-bit = comma .before .before .before .before .before in
-    let colon = start-bit .before .before .before .before .before in
-    let address = colon .before .before .before .before .before in
-    let start = address .before .before .before .before in
-    end-bit .put-decimal3 .kept .0 ∙ end .put-bytes4 .kept .0 ∙ size .put-decimal2 .kept .0 ∙ comma .put-bytes3 .kept .0
-    ∙ start-bit .put-decimal .kept .0 ∙ colon .put-bytes2 .kept .0 ∙ address .put-hex8 .kept .0 ∙ start .put-bytes .kept .0
-
 returns : tie.Need-returns
 unfolding logicalText
 returns c =
@@ -75,6 +62,9 @@ returns c =
     let start = address .before .before .before .before in
     let begun = then (then (then (start .put-bytes .ensures) (address .put-hex8 .ensures)) (colon .put-bytes2 .ensures)) (start-bit .put-decimal .ensures) in
     then (then (then (then begun (comma .put-bytes3 .ensures)) (size .put-decimal2 .ensures)) (end .put-bytes4 .ensures)) (end-bit .put-decimal3 .ensures)
+
+same-length : tie.Need-same-length
+same-length c = kept (returns c)
 
 pub put-logical-spec : {M : Type 1} → statement M
 put-logical-spec =

@@ -1,6 +1,6 @@
 -- `fmmu::Fmmu::unpack_from_slice`: a copy of sixteen lent bytes is those bytes, and they are unpacked.
 -- Assumes nothing.
-use mathlib.Core.Path.{_≡_, _∙_, ap}
+use mathlib.Core.Path.{_∙_, ap}
 use denote.Ref.{now}
 use lib.ListN.{replicate}
 use borrow.Author.Tests.{eq-eqb, ne-eqb}
