@@ -2,3 +2,4 @@
 pub mod Lists
 pub mod Device
 pub mod Sheet
+pub mod Sound

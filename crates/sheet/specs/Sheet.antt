@@ -1,5 +1,6 @@
 -- The grammar of the device sheet (document 01, 'The device sheet'), big-endian: from bytes to device data or a refusal.
 -- Assumes nothing.
+use mathlib.Core.Path.{_≡_}
 use mathlib.Core.Bool.{Bool, true, false, cond, not, _&&_, _||_}
 use mathlib.Core.List.{List, [], _∷_, _++_}
 use Prim.Native.Nat.{ℕ, zero, suc, _+_, _*_, _-_}
@@ -10,7 +11,7 @@ use Rattle.wire.specs.Field.{flagAt}
 use Rattle.wire.specs.Number.{bigAt}
 use Rattle.sync_manager_channel.specs.Image.{controlAt, unnamed}
 use Rattle.sheet.specs.Lists.{listOf, someBelow}
-use Rattle.sheet.specs.Device.{Data, nextPdo, pdosFrom}
+use Rattle.sheet.specs.Device.{Data, nextPdo, pdosFrom, dataOf}
 use Rattle.sheet.specs.declared.SyncManager.{SyncManager}
 use Rattle.sheet.specs.declared.Device.{Device}
 use Rattle.sheet.specs.declared.Answer.{Answer}
@@ -154,3 +155,12 @@ noDevice =
 abbrev pub answerOf : {A : Type 0} → Answer → A → Outcome A
 answerOf Accepted x = accepted x
 answerOf (Refused n) x = refused n
+
+-- the promise of reading: the grammar's answer, and nothing beside a refusal
+abbrev pub deviceAfter : Outcome Data → List ℕ → Device
+deviceAfter (refused n) s = noDevice
+deviceAfter (accepted d) s = deviceOf s
+
+pub record ReadsAs (s : List ℕ) (r : SheetRead) : Type 0 where
+  pub says : answerOf (r .answer) (dataOf (r .device) s) ≡ readSheet s
+  pub holds : r .device ≡ deviceAfter (readSheet s) s

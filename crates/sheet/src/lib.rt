@@ -1,15 +1,14 @@
 // The device sheet: the one form in which a bay comes in, read whole.
 ghost use mathlib.Core.Path.{_≡_};
-ghost use mathlib.Core.Bool.{true};
+ghost use mathlib.Core.Bool.{true, false, cond};
 ghost use mathlib.Core.List.{[], _∷_, _++_};
 ghost use Rattle.wire.specs.Outcome.{when, decide};
 ghost use Prim.Native.Nat.{ℕ, _+_, _*_, _-_, _≤_, _<_};
 ghost use lib.ListN.{length, getD, replicate};
 ghost use lib.Dec.{ltb};
 ghost use Rattle.sheet.specs.Lists.{listOf, someBelow};
-ghost use Rattle.sheet.specs.Sheet.{wrongLength, kindFits, pdosFit, broken, unnamedAt, managersRead, answerOf};
+ghost use Rattle.sheet.specs.Sheet.{wrongLength, kindFits, pdosFit, broken, unnamedAt, someUnnamed, managersRead, deviceOf, noDevice, answerOf, ReadsAs};
 use pdi::ByteLen;
-use sync_manager_channel::BufferState;
 use sync_manager_channel::Control;
 use sync_manager_channel::ControlRead;
 use sync_manager_channel::Direction;
@@ -211,5 +210,90 @@ fn managers_of(sheet: &[u8], n: usize) -> Managers
     Managers {
         answer: Answer::Accepted,
         list,
+    }
+}
+
+// The FMMU usages of a sheet.
+fn usages_of(sheet: &[u8], at: usize, f: usize) -> [u8; 16]
+    requires { ⌜ (f ≤ 16) × (at + f ≤ length (now sheet)) ⌝ }
+    ensures { λ r. ⌜ r ≡ listOf (λ k. getD (now (sheet .entry)) (at + k) 0) f ++ replicate (16 - f) 0 ⌝ }
+{
+    let mut list = [0u8; 16];
+    let mut k = 0;
+    while k < f {
+        list[k] = sheet[at + k];
+        k += 1;
+    }
+    list
+}
+
+// A refusal has nothing beside it.
+fn refused(number: u8) -> SheetRead
+    ensures { λ r. ⌜ (r .answer ≡ Answer.Refused number) × (r .device ≡ noDevice) ⌝ }
+{
+    SheetRead {
+        answer: Answer::Refused(number),
+        device: Device {
+            has_mailbox: false,
+            coe_protocol: false,
+            complete_access: false,
+            receive_size: ByteLen(0),
+            send_size: ByteLen(0),
+            managers: [NO_MANAGER; 16],
+            n: 0,
+            usages: [0; 16],
+            f: 0,
+            pdos: 0,
+            p: 0,
+        },
+    }
+}
+
+// Reads a sheet whole: device data, or the lowest of 2 to 5 that holds.
+pub fn read(sheet: &[u8]) -> SheetRead
+    ensures { λ r. ⌜ ReadsAs (now (sheet .entry)) r ⌝ }
+{
+    if wrong_length(sheet) {
+        return refused(2);
+    }
+    if sheet[2] != 1 {
+        return refused(3);
+    }
+    if rule_broken(sheet) {
+        return refused(4);
+    }
+    device_of(sheet)
+}
+
+// The device data of a sheet that keeps every rule but, perhaps, that controls have names.
+fn device_of(sheet: &[u8]) -> SheetRead
+    requires { ⌜ (11 ≤ length (now sheet)) × (broken (now sheet) ≡ false) ⌝ }
+    ensures { λ r. ⌜ (answerOf (r .answer) tt ≡ decide (when 5 (someUnnamed (now (sheet .entry))) ∷ []) tt) × (r .device ≡ cond (someUnnamed (now (sheet .entry))) noDevice (deviceOf (now (sheet .entry)))) ⌝ }
+{
+    let n = wide(sheet[8]);
+    let f = wide(sheet[9]);
+    let managers = managers_of(sheet, n);
+    let answer = managers.answer;
+    if let Answer::Refused(number) = answer {
+        return refused(number);
+    }
+    let list = managers.list;
+    let usages = 11 + 5 * n;
+    let flags = sheet[3];
+    SheetRead {
+        answer: Answer::Accepted,
+        device: Device {
+            has_mailbox: wire::flag(flags, 0),
+            coe_protocol: wire::flag(flags, 1),
+            complete_access: wire::flag(flags, 2),
+            receive_size: ByteLen(wire::be16(sheet[4], sheet[5])),
+            send_size: ByteLen(wire::be16(sheet[6], sheet[7])),
+            managers: list,
+            n,
+            usages: usages_of(sheet, usages, f),
+            f,
+            pdos: usages + f,
+            p: wide(sheet[10]),
+        },
     }
 }
