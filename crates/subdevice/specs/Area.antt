@@ -1,0 +1,19 @@
+-- A register area: sixteen entries of n bytes, one after the other.
+-- Assumes nothing.
+use mathlib.Core.Bool.{Bool, not}
+use mathlib.Core.List.{List, [], _∷_, _++_}
+use Prim.Native.Nat.{ℕ, zero, suc}
+use lib.ListN.{take, drop}
+
+-- m entries of n bytes from the front
+unfoldable pub chunks : ℕ → ℕ → List ℕ → List (List ℕ)
+chunks n zero l = []
+chunks n (suc m) l = take n l ∷ chunks n m (drop n l)
+
+abbrev pub entriesOf : ℕ → List ℕ → List (List ℕ)
+entriesOf n area = chunks n 16 area
+
+-- and back
+unfoldable pub flat : List (List ℕ) → List ℕ
+flat [] = []
+flat (e ∷ es) = e ++ flat es

@@ -1,0 +1,80 @@
+-- The mailbox pass.
+-- Assumes nothing.
+use mathlib.Core.Path.{_≡_}
+use mathlib.Core.Bool.{Bool, true, false, cond, not, _&&_}
+use mathlib.Core.List.{List, [], _∷_}
+use mathlib.Core.Option.{Option, none, some}
+use Prim.Native.Nat.{ℕ, suc}
+use lib.ListN.{length}
+use lib.Dec.{eqb}
+use Rattle.wire.specs.Outcome.{Outcome, refused, accepted, Refusal, when, decide}
+use Rattle.sheet.specs.Device.{Data}
+use Rattle.sheet.specs.Sheet.{sheetRefusals, sheetData}
+use Rattle.sheet.specs.declared.SyncManager.{SyncManager}
+use Rattle.subdevice.specs.declared.Mailbox.{Mailbox}
+use Rattle.subdevice.specs.declared.Slot.{Slot}
+use Rattle.subdevice.specs.declared.Slot.the-variants.{None, At}
+use Rattle.subdevice.specs.declared.MailboxConfig.{MailboxConfig}
+use Rattle.subdevice.specs.declared.MailboxRead.{MailboxRead}
+use Rattle.subdevice.specs.declared.MailboxRead.the-variants.{Config, Refused}
+use Rattle.subdevice.specs.Bits.{byCoe}
+use Rattle.subdevice.specs.Area.{entriesOf, flat}
+use Rattle.subdevice.specs.Channels.{channelsAfter}
+
+-- each usage 1 is written with the receive size and each usage 2 with the send size; without flag bit 0 nothing is written
+abbrev pub mailboxSize : Data → ℕ → SyncManager → Option ℕ
+mailboxSize d k m =
+    cond
+    (d .mailbox)
+    (cond (eqb (m .«usage_type») 1) (some (d .receive)) (cond (eqb (m .«usage_type») 2) (some (d .send)) none))
+    none
+
+-- the last of a usage (address, size, number); `before` is what was recorded so far
+unfoldable pub lastOf : ℕ → ℕ → Slot → ℕ → List SyncManager → Slot
+lastOf usage size before k [] = before
+lastOf usage size before k (m ∷ ms) =
+    lastOf usage size
+    (cond (eqb (m .«usage_type») usage) (At (record { address = m .«start_addr»; len = record { 0 = size }; «sync_manager» = k })) before)
+    (suc k) ms
+
+-- without flag bit 0 the answer is none, none, no CoE, no complete access
+abbrev pub noMailboxes : MailboxConfig
+noMailboxes = record { read = None; write = None; «has_coe» = false; «complete_access» = false }
+
+abbrev pub configOf : Data → MailboxConfig
+configOf d =
+    cond
+    (d .mailbox)
+    (record {
+      read = lastOf 2 (d .send) None 0 (d .managers);
+      write = lastOf 1 (d .receive) None 0 (d .managers);
+      «has_coe» = byCoe d;
+      «complete_access» = d .complete;
+    })
+    noMailboxes
+
+-- 1: the sync manager area isn't 128 bytes
+abbrev pub notChannels : List ℕ → Bool
+notChannels area = not (eqb (length area) 128)
+
+-- the refusals in their order, and the answer
+abbrev pub mailboxRefusals : List ℕ → List ℕ → List Refusal
+mailboxRefusals sheet area = when 1 (notChannels area) ∷ sheetRefusals sheet
+
+unfoldable pub mailboxPass : List ℕ → List ℕ → Outcome MailboxConfig
+mailboxPass sheet area = decide (mailboxRefusals sheet area) (configOf (sheetData sheet))
+
+-- what the area then holds: a refusal writes nothing
+abbrev pub mailboxArea : Outcome MailboxConfig → Data → List ℕ → List ℕ
+mailboxArea (refused n) d area = area
+mailboxArea (accepted c) d area = flat (channelsAfter (mailboxSize d) 0 (d .managers) (entriesOf 8 area))
+
+-- what the cases of `MailboxRead` say
+abbrev pub mailboxOf : MailboxRead → Outcome MailboxConfig
+mailboxOf (Config c) = accepted c
+mailboxOf (Refused n) = refused n
+
+-- the promise of the pass
+pub record ConfiguresMailboxes (sheet area : List ℕ) (r : MailboxRead) (after : List ℕ) : Type 0 where
+  pub says : mailboxOf r ≡ mailboxPass sheet area
+  pub holds : after ≡ mailboxArea (mailboxPass sheet area) (sheetData sheet) area

@@ -1,0 +1,56 @@
+-- Which sync manager uses which entry: the one place that knows the path.
+-- Assumes nothing.
+use mathlib.Core.Bool.{Bool, true, false, cond}
+use mathlib.Core.List.{List, [], _∷_}
+use Prim.Native.Nat.{ℕ, zero, suc, _+_}
+use lib.Dec.{eqb, ltb}
+use Rattle.pdi.specs.Unit.{bytesOf}
+use Rattle.sheet.specs.Device.{Data}
+use Rattle.subdevice.specs.declared.PdoDirection.{PdoDirection}
+use Rattle.subdevice.specs.Direction.{fmmuUsageOf}
+use Rattle.subdevice.specs.Bits.{Piece, byCoe, piecesOf}
+
+-- a sync manager laid by a pass: the entry that it uses, its size in bytes, its device address
+pub record Use : Type 0 where
+  pub entry : ℕ
+  pub size : ℕ
+  pub at : ℕ
+
+-- each rounded up by itself
+abbrev pub useOf : ℕ → Piece → Use
+useOf k p = record { entry = k; size = bytesOf (p .bits); at = p .address }
+
+-- EEPROM: the entry with its own number, even at 0 bits
+unfoldable pub own : List Piece → List Use
+own [] = []
+own (p ∷ ps) = useOf (p .number) p ∷ own ps
+
+-- with more than 0 bits, the entry that is given for its number
+unfoldable pub given : (ℕ → ℕ) → List Piece → List Use
+given entry [] = []
+given entry (p ∷ ps) = cond (ltb 0 (p .bits)) (useOf (entry (p .number)) p ∷ given entry ps) (given entry ps)
+
+-- the place of the first entry with the usage; the list's length where there is none
+unfoldable pub firstWith : ℕ → List ℕ → ℕ
+firstWith usage [] = zero
+firstWith usage (u ∷ us) = cond (eqb u usage) zero (suc (firstWith usage us))
+
+abbrev pub coeEntry : Data → PdoDirection → ℕ
+coeEntry d r = firstWith (fmmuUsageOf r) (d .usages)
+
+-- CoE: with more than 0 bits the first entry with the wanted usage; EEPROM: its own
+unfoldable pub usesOf : Data → List ℕ → PdoDirection → List Use
+usesOf d ws r = cond (byCoe d) (given (λ number. coeEntry d r) (piecesOf d ws r)) (own (piecesOf d ws r))
+
+-- the bytes of all; and those on the entry k
+unfoldable pub total : List Use → ℕ
+total [] = 0
+total (u ∷ us) = u .size + total us
+
+unfoldable pub totalOn : ℕ → List Use → ℕ
+totalOn k [] = 0
+totalOn k (u ∷ us) = cond (eqb (u .entry) k) (u .size) 0 + totalOn k us
+
+-- the rounded bytes of all wanted sync managers, whatever entries they use
+unfoldable pub sizeOf : Data → List ℕ → PdoDirection → ℕ
+sizeOf d ws r = total (own (piecesOf d ws r))
