@@ -1,9 +1,6 @@
 -- `Control::unpack`: an unnamed mode or direction is refused; else each field is read from its bits.
 -- Assumes nothing.
-use mathlib.Core.Path.{_≡_, refl, _∙_, ap}
-use native.Mathlib.Omega.{arith}
-use lib.Bits.{bitAnd}
-use Rattle.wire.specs.Field.{bitsAt}
+use mathlib.Core.Path.{refl, _∙_, ap}
 use Rattle.wire.specs.Outcome.{accepted}
 use Rattle.wire.proofs.Fields.{masked}
 use Rattle.sync_manager_channel.specs.Image.{modeAt, directionAt, controlAt}

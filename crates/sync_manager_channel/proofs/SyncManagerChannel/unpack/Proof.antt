@@ -2,7 +2,7 @@
 -- Assumes nothing.
 use mathlib.Core.Path.{_≡_, sym, _∙_, ap}
 use native.Mathlib.Omega.{arith}
-use lib.ListN.{length, getD}
+use lib.ListN.{getD}
 use Rattle.wire.specs.Outcome.{refused, accepted}
 use Rattle.sync_manager_channel.specs.Image.{channelOf, readControl, controlReadOf}
 use Rattle.sync_manager_channel.proofs.Read.{control-read, channel-read, channel-refused}
