@@ -2,3 +2,7 @@
 pub mod Named
 pub mod Read
 pub mod Text
+pub mod Packed
+pub mod Bytes
+pub mod RoundTrip
+pub mod Unique

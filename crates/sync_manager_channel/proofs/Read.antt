@@ -1,13 +1,11 @@
 -- A channel is read after its control: the control's refusal is the channel's.
 -- Assumes nothing.
 use mathlib.Core.Path.{_≡_, sym, _∙_, ap}
-use mathlib.Core.Bool.{true, false, not}
 use mathlib.Core.List.{List, [], _∷_}
 use Prim.Native.Nat.{ℕ}
 use lib.ListN.{length, getD}
 use borrow.Author.Tests.{eq-eqb}
 use Rattle.wire.specs.Outcome.{Refusal, refused, accepted, when, decide}
-use Rattle.wire.specs.Image.{notLong}
 use Rattle.wire.proofs.Order.{passed, passed-answer, stopped}
 use Rattle.sync_manager_channel.specs.declared.Control.{Control}
 use Rattle.sync_manager_channel.specs.declared.SyncManagerChannel.{SyncManagerChannel}
@@ -17,7 +15,7 @@ abbrev five : List ℕ → List Refusal
 five l = when 5 (unnamed (getD l 4 0)) ∷ []
 
 -- of eight bytes only the control is tested
-eight : (l : List ℕ) → length l ≡ 8 → readChannel l ≡ decide (five l) (channelOf l)
+pub eight : (l : List ℕ) → length l ≡ 8 → readChannel l ≡ decide (five l) (channelOf l)
 eight l e = rw (eq-eqb (length l) 8 e)
 
 -- a named control is the one that the byte says, and the channel is accepted

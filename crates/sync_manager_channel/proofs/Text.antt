@@ -1,6 +1,5 @@
 -- How long a channel's text is.
 -- Assumes nothing.
-use mathlib.Core.List.{List, [], _∷_, _++_}
 use mathlib.Core.Bool.{Bool, true, false}
 use Prim.Native.Nat.{_≤_}
 use native.Mathlib.Omega.{arith}

@@ -2,7 +2,7 @@
 -- Assumes nothing.
 use mathlib.Core.Bool.{Bool, true, false, cond, not, _&&_, _||_}
 use mathlib.Core.List.{List, [], _∷_, _++_}
-use Prim.Native.Nat.{ℕ, _+_, _*_}
+use Prim.Native.Nat.{ℕ, _+_, _*_, _<_}
 use lib.ListN.{getD}
 use lib.Dec.{eqb}
 use Rattle.wire.specs.Outcome.{Outcome, refused, accepted, when, decide}
@@ -140,6 +140,11 @@ imageOf s =
     littleOf 2 (s .«physical_start_address»)
     ++ littleOf 2 (s .«length_bytes» .0)
     ++ (controlByte (s .control) ∷ statusByte (s .status) ∷ enableLow (s .enable) ∷ enableHigh (s .enable) ∷ [])
+
+-- start and length are numbers of two bytes, as their types say
+pub record Fits (s : SyncManagerChannel) : Type 0 where
+  pub start : s .«physical_start_address» < 65536
+  pub length : s .«length_bytes» .0 < 65536
 
 -- reading a control byte, and reading and writing a single image, with their refusals
 abbrev pub readControl : ℕ → Outcome Control

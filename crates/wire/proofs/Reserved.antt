@@ -1,7 +1,7 @@
 -- Reserved bits of a byte that is read and written: it comes back exactly if they are 0.
 -- Assumes nothing.
-use mathlib.Core.Path.{_≡_, refl}
-use mathlib.Core.Bool.{Bool, true, false, false≢true}
+use mathlib.Core.Path.{_≡_, refl, subst}
+use mathlib.Core.Bool.{Bool, true, false, false≢true, _||_}
 use mathlib.Core.Logic.{_↔_}
 use Prim.Native.Nat.{ℕ, _<_}
 use lib.Dec.{T, eqb}
@@ -15,16 +15,24 @@ alike true b = b
 alike false true = false
 alike false false = true
 
+-- two tests that are alike are of facts that hold together
+together : (a b c d : ℕ) → T (alike (eqb a b) (eqb c d)) → (a ≡ b) ↔ (c ≡ d)
+together a b c d t = go (eqb a b) (eqb c d) t (eq-eqb a b) (eqb-true a b) (eq-eqb c d) (eqb-true c d)
+  where
+    go : (x y : Bool) → T (alike x y) → (a ≡ b → x ≡ true) → (x ≡ true → a ≡ b) → (c ≡ d → y ≡ true) → (y ≡ true → c ≡ d) → (a ≡ b) ↔ (c ≡ d)
+    go true true h p q r s = (λ e. s refl, λ e. q refl)
+    go true false h p q r s = absurd h
+    go false true h p q r s = absurd h
+    go false false h p q r s = (λ e. absurd (false≢true (p e)), λ e. absurd (false≢true (r e)))
+
 -- `back` says what a byte becomes; the test is computed over all bytes
 pub exactly : (back : ℕ → ℕ) (shift width : ℕ) → T (all (λ b. alike (eqb (back b) b) (eqb (bitsAt b shift width) 0)) 256) → (b : ℕ) → b < 256 → (back b ≡ b) ↔ (bitsAt b shift width ≡ 0)
-exactly back shift width t b h =
-    go (eqb (back b) b) (eqb (bitsAt b shift width) 0) (below (λ k. alike (eqb (back k) k) (eqb (bitsAt k shift width) 0)) 256 t b h) (eq-eqb _ _) (eqb-true _ _)
-    (eq-eqb _ _) (eqb-true _ _)
-  where
-    go :
-        (x y : Bool) → T (alike x y) → (back b ≡ b → x ≡ true) → (x ≡ true → back b ≡ b) → (bitsAt b shift width ≡ 0 → y ≡ true) → (y ≡ true → bitsAt b shift width ≡ 0)
-        → (back b ≡ b) ↔ (bitsAt b shift width ≡ 0)
-    go true true a p q r s = (λ e. s refl, λ e. q refl)
-    go true false a p q r s = absurd a
-    go false true a p q r s = absurd a
-    go false false a p q r s = (λ e. absurd (false≢true (p e)), λ e. absurd (false≢true (r e)))
+exactly back shift width t b h = together (back b) b (bitsAt b shift width) 0 (below (λ k. alike (eqb (back k) k) (eqb (bitsAt k shift width) 0)) 256 t b h)
+
+-- the same of the bytes that aren't `refused`
+pub exactly-accepted :
+    (refused : ℕ → Bool) (back : ℕ → ℕ) (shift width : ℕ) → T (all (λ b. refused b || alike (eqb (back b) b) (eqb (bitsAt b shift width) 0)) 256) → (b : ℕ) → b < 256
+    → refused b ≡ false → (back b ≡ b) ↔ (bitsAt b shift width ≡ 0)
+exactly-accepted refused back shift width t b h e =
+    together (back b) b (bitsAt b shift width) 0
+    (subst (λ (r : Bool). T (r || alike (eqb (back b) b) (eqb (bitsAt b shift width) 0))) e (below (λ k. refused k || alike (eqb (back k) k) (eqb (bitsAt k shift width) 0)) 256 t b h))

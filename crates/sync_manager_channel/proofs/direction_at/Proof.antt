@@ -5,10 +5,10 @@ use Rattle.sync_manager_channel.proofs.direction_at.Statement.{statemen
 use Rattle.sync_manager_channel.proofs.direction_at.Tie as tie
 
 returns : tie.Need-returns
-returns c = search (eq-eqb, ne-eqb)
+returns c = search eq-eqb
 
 returns-2 : tie.Need-returns-2
-returns-2 c = search (eq-eqb, ne-eqb)
+returns-2 c = search ne-eqb
 
 pub direction-at-spec : {M : Type 1} → statement M
 direction-at-spec = tie.close (tie.spec returns returns-2)

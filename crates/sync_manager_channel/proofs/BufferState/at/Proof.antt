@@ -5,7 +5,7 @@ use Rattle.sync_manager_channel.proofs.BufferState.at.Statement.{statem
 use Rattle.sync_manager_channel.proofs.BufferState.at.Tie as tie
 
 returns : tie.Need-returns
-returns c = search (eq-eqb, ne-eqb)
+returns c = search eq-eqb
 
 returns-2 : tie.Need-returns-2
 returns-2 c = search (eq-eqb, ne-eqb)
@@ -14,7 +14,7 @@ returns-3 : tie.Need-returns-3
 returns-3 c = search (eq-eqb, ne-eqb)
 
 returns-4 : tie.Need-returns-4
-returns-4 c = search (eq-eqb, ne-eqb)
+returns-4 c = search ne-eqb
 
 pub at-spec : {M : Type 1} → statement M
 at-spec = tie.close (tie.spec returns returns-2 returns-3 returns-4)

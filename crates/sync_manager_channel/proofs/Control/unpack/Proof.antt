@@ -1,12 +1,10 @@
 -- `Control::unpack`: an unnamed mode or direction is refused; else each field is read from its bits.
 -- Assumes nothing.
 use mathlib.Core.Path.{_≡_, refl, _∙_, ap}
-use native.Mathlib.Omega.{arith}
-use lib.Bits.{bitAnd}
-use Rattle.wire.specs.Field.{bitsAt}
+use mathlib.Core.Bool.{false}
 use Rattle.wire.specs.Outcome.{accepted}
 use Rattle.wire.proofs.Fields.{masked}
-use Rattle.sync_manager_channel.specs.Image.{modeAt, directionAt, controlAt}
+use Rattle.sync_manager_channel.specs.Image.{modeAt, directionAt, controlAt, unnamed}
 use Rattle.sync_manager_channel.proofs.Named.{masked-low, unnamed-mode, unnamed-direction, named}
 use borrow.Author.Needs.{needs}
 use Rattle.sync_manager_channel.proofs.Control.unpack.Statement.{statement}
@@ -36,23 +34,23 @@ flag-requires-2 c κs = search needs
 flag-requires-3 : tie.Need-flag-requires-3
 flag-requires-3 c κs = search needs
 
+-- past the three tests
+passed : (c : tie.Else3) → unnamed (c .before .before .before .args .byte) ≡ false
+passed c = named (c .before .before .before .args .byte) (c .before .before .if1 .left) (c .before .if2 .left) (c .if3 .left)
+
 returns-4 : tie.Need-returns-4
 unfolding controlAt
 returns-4 c =
-    let f5 = c .before in
-    let f4 = f5 .before in
-    let d = f4 .before in
-    let m = d .before in
-    let t = m .before in
-    let b = t .before .before .before .args .byte in
-    rw (named b (t .before .before .if1 .left) (t .before .if2 .left) (t .if3 .left))
+    let m = c .before .before .before .before in
+    let b = m .before .before .before .before .args .byte in
+    rw (passed (m .before))
     (λ i.
     accepted
     record {
       «operation_mode» = (m .mode-at .ensures ∙ ap modeAt (masked-low b 2)) i;
-      direction = (d .direction-at .ensures ∙ ap directionAt (masked b 2 2)) i;
-      «ecat_event_enable» = f4 .flag .ensures i;
-      «dls_user_event_enable» = f5 .flag2 .ensures i;
+      direction = (c .before .before .before .direction-at .ensures ∙ ap directionAt (masked b 2 2)) i;
+      «ecat_event_enable» = c .before .before .flag .ensures i;
+      «dls_user_event_enable» = c .before .flag2 .ensures i;
       «watchdog_enable» = c .flag3 .ensures i;
     })
 

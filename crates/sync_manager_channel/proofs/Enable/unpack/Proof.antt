@@ -25,7 +25,16 @@ flag-requires-6 c κs = search needs
 
 returns : tie.Need-returns
 unfolding enableAt
-returns c = cc
+returns c =
+    λ i.
+    record {
+      enable = c .before .before .before .before .before .flag .ensures i;
+      «repeat» = c .before .before .before .before .flag2 .ensures i;
+      «enable_dc_event_bus_write» = c .before .before .before .flag3 .ensures i;
+      «enable_dc_event_local_write» = c .before .before .flag4 .ensures i;
+      «channel_pdi_disabled» = c .before .flag5 .ensures i;
+      «repeat_ack» = c .flag6 .ensures i;
+    }
 
 pub unpack-spec : {M : Type 1} → statement M
 unpack-spec =

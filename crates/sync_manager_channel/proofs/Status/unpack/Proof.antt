@@ -28,18 +28,14 @@ flag-requires-5 c κs = search needs
 returns : tie.Need-returns
 unfolding statusAt
 returns c =
-    let r = c .before in
-    let s = r .before in
-    let f = s .before in
-    let e = f .before in
-    let w = e .before in
+    let b = c .before .before .before .before .before .before .args .byte in
     λ i.
     record {
-      «has_write_event» = w .flag .ensures i;
-      «has_read_event» = e .flag2 .ensures i;
-      «mailbox_full» = f .flag3 .ensures i;
-      «buffer_state» = (s .at .ensures ∙ ap stateAt (masked (w .before .args .byte) 4 2)) i;
-      «read_buffer_open» = r .flag4 .ensures i;
+      «has_write_event» = c .before .before .before .before .before .flag .ensures i;
+      «has_read_event» = c .before .before .before .before .flag2 .ensures i;
+      «mailbox_full» = c .before .before .before .flag3 .ensures i;
+      «buffer_state» = (c .before .before .at .ensures ∙ ap stateAt (masked b 4 2)) i;
+      «read_buffer_open» = c .before .flag4 .ensures i;
       «write_buffer_open» = c .flag5 .ensures i;
     }
 

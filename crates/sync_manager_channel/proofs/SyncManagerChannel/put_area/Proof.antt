@@ -52,7 +52,12 @@ returns c =
     let size = length .before .before .before .before in
     let address = size .before .before .before .before .before in
     let start = address .before .before .before .before in
-    then (then (then (then (then (then (start .put-bytes .ensures) (address .put-hex4 .ensures)) (size .put-bytes2 .ensures)) (length .put-hex42 .ensures)) (brace .put-bytes3 .ensures)) (decimal .put-decimal .ensures)) (close .put-bytes4 .ensures)
+    then
+    (then
+    (then (then (then (then (start .put-bytes .ensures) (address .put-hex4 .ensures)) (size .put-bytes2 .ensures)) (length .put-hex42 .ensures))
+    (brace .put-bytes3 .ensures))
+    (decimal .put-decimal .ensures))
+    (close .put-bytes4 .ensures)
 
 pub put-area-spec : {M : Type 1} → statement M
 put-area-spec =

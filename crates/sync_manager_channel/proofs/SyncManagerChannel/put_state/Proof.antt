@@ -51,7 +51,11 @@ returns c =
     let named = mode .before .before .before .before in
     let direction = named .before .before .before .before .before in
     let first = direction .before .before .before .before in
-    then (then (then (then (then (first .put-bytes .ensures) (direction .fmt .ensures)) (named .put-bytes2 .ensures)) (mode .fmt2 .ensures)) (comma .put-bytes3 .ensures)) (enabled .put-either .ensures)
+    then
+    (then
+    (then (then (then (first .put-bytes .ensures) (direction .fmt .ensures)) (named .put-bytes2 .ensures)) (mode .fmt2 .ensures))
+    (comma .put-bytes3 .ensures))
+    (enabled .put-either .ensures)
 
 pub put-state-spec : {M : Type 1} → statement M
 put-state-spec =

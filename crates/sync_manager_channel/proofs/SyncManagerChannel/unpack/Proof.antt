@@ -2,7 +2,7 @@
 -- Assumes nothing.
 use mathlib.Core.Path.{_≡_, sym, _∙_, ap}
 use native.Mathlib.Omega.{arith}
-use lib.ListN.{length, getD}
+use lib.ListN.{getD}
 use Rattle.wire.specs.Outcome.{refused, accepted}
 use Rattle.sync_manager_channel.specs.Image.{channelOf, readControl, controlReadOf}
 use Rattle.sync_manager_channel.proofs.Read.{control-read, channel-read, channel-refused}
@@ -55,24 +55,22 @@ unpack-requires-3 c κs = search needs
 enum-known-number : tie.Need-enum-known-number
 enum-known-number c = search needs
 
+-- what the arm knows of the control
+told : (c : tie.After-control) → accepted (c .control .given .0 .0) ≡ readControl (getD (c .before .before .before .args .t1) 4 0)
+told c = sym (ap controlReadOf (c .control .given .1)) ∙ c .before .before .unpack .ensures
+
 returns : tie.Need-returns
 unfolding channelOf
 returns c =
-    let status = c .before in
-    let size = status .before in
-    let start = size .before in
-    let m = start .before .before in
-    let s = m .before .before .before in
-    let l = s .args .t1 in
-    let v = m .control .given in
-    let e : accepted (v .0 .0) ≡ readControl (getD l 4 0) = sym (ap controlReadOf (v .1)) ∙ m .before .before .unpack .ensures in
-    channel-read l (v .0 .0) (omega arith) e
+    let m = c .before .before .before .before .before in
+    let l = m .before .before .before .args .t1 in
+    channel-read l (m .control .given .0 .0) (omega arith) (told m)
     (λ i.
     record {
-      «physical_start_address» = start .le16 .ensures i;
-      «length_bytes» = record { 0 = size .le162 .ensures i };
-      control = control-read l (v .0 .0) e i;
-      status = status .unpack2 .ensures i;
+      «physical_start_address» = c .before .before .before .le16 .ensures i;
+      «length_bytes» = record { 0 = c .before .before .le162 .ensures i };
+      control = control-read l (m .control .given .0 .0) (told m) i;
+      status = c .before .unpack2 .ensures i;
       enable = c .unpack3 .ensures i;
     })
 

@@ -1,6 +1,6 @@
 -- `SyncManagerChannel::unpack_from_slice`: eight lent bytes are read as their copy.
 -- Assumes nothing.
-use mathlib.Core.Path.{_∙_, ap, sym}
+use mathlib.Core.Path.{_∙_, ap}
 use borrow.Author.Tests.{ne-eqb}
 use lib.ListN.{replicate}
 use denote.Ref.{now}
