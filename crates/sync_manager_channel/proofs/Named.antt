@@ -7,14 +7,8 @@ use native.Mathlib.Omega.{arith}
 use borrow.Author.Tests.{ne-eqb}
 use lib.Bits.{bitAnd, and-mask}
 use Rattle.wire.specs.Field.{bitsAt}
-use Rattle.wire.proofs.Fields.{masked}
+use Rattle.wire.proofs.Fields.{masked, masked-low}
 use Rattle.sync_manager_channel.specs.Image.{modeNamed, directionNamed, unnamed}
-
--- the lowest field is read by its mask alone
-pub masked-low : (b width : ℕ) → bitAnd b (2 ^ width - 1) ≡ bitsAt b 0 width
-masked-low b width =
-    let e : b ≡ b / 2 ^ 0 = omega arith in
-    and-mask b width ∙ ap (λ (x : ℕ). x % 2 ^ width) e
 
 -- from what is known of the mode and of the direction
 decided : (b : ℕ) (x y : Bool) → modeNamed (bitAnd b 3) ≡ x → directionNamed (bitAnd (b / 4) 3) ≡ y → unnamed b ≡ not (x && y)

@@ -264,7 +264,8 @@ impl SyncManagerChannel {
     pub fn unpack_from_slice(buf: &[u8]) -> ChannelRead
         ensures { λ r. ⌜ channelReadOf r ≡ readChannel (now (buf .entry)) ⌝ }
     {
-        if buf.len() != 8 {
+        let length = buf.len();
+        if length != 8 {
             return ChannelRead::Refused(1);
         }
         let mut image = [0u8; 8];

@@ -1,19 +1,12 @@
--- Bytes of an image: the lowest field of one by a mask, numbers that their bytes bound, and lists that hold nothing but bytes.
+-- Numbers that their bytes bound, and lists that hold nothing but bytes.
 -- Assumes nothing.
-use mathlib.Core.Path.{_≡_, sym, _∙_, ap}
 use mathlib.Core.List.{List, [], _∷_, _++_}
-use Prim.Native.Nat.{ℕ, zero, suc, _+_, _-_, _/_, _%_, _^_, _<_}
-use native.Mathlib.Nat.{pow-suc, div-one}
+use Prim.Native.Nat.{ℕ, zero, suc, _+_, _/_, _^_, _<_}
+use native.Mathlib.Nat.{pow-suc}
 use native.Mathlib.Omega.{arith}
 use lib.ListN.{getD}
-use lib.Bits.{bitAnd, and-mask}
-use Rattle.wire.specs.Field.{bitsAt}
 use Rattle.wire.specs.Number.{littleAt, littleOf}
 use Rattle.wire.specs.Image.{Image}
-
--- the lowest field of a byte is read: masked alone
-pub masked-low : (b width : ℕ) → bitAnd b (2 ^ width - 1) ≡ bitsAt b 0 width
-masked-low b width = and-mask b width ∙ ap (λ (x : ℕ). x % 2 ^ width) (sym (div-one b))
 
 -- n bytes of an image are a number below 256 ^ n
 pub little-fits : {m : ℕ} {l : List ℕ} (n at : ℕ) → Image m l → littleAt l at n < 256 ^ n

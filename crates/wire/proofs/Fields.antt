@@ -3,7 +3,7 @@
 use mathlib.Core.Path.{_≡_, refl, sym, _∙_, ap}
 use mathlib.Core.Bool.{Bool, true, false}
 use Prim.Native.Nat.{ℕ, _+_, _-_, _*_, _/_, _%_, _^_, _<_, _≤_}
-use native.Mathlib.Nat.{add-comm, div-eq-of-lt, zero-mod, lt-of-lt-of-le}
+use native.Mathlib.Nat.{add-comm, div-eq-of-lt, div-one, lt-of-lt-of-le}
 use native.Mathlib.Omega.{arith}
 use lib.Pow.{shl-exact, pow-mono}
 use lib.Bits.{bitAnd, bitOr, and-mask, or-shifted-r}
@@ -13,6 +13,10 @@ use Rattle.wire.specs.Field.{bitsAt, flagAt, bit}
 -- a field is read: shifted down and masked
 pub masked : (b shift width : ℕ) → bitAnd (b / 2 ^ shift) (2 ^ width - 1) ≡ bitsAt b shift width
 masked b shift width = and-mask (b / 2 ^ shift) width
+
+-- the lowest field is masked alone
+pub masked-low : (b width : ℕ) → bitAnd b (2 ^ width - 1) ≡ bitsAt b 0 width
+masked-low b width = and-mask b width ∙ ap (λ (x : ℕ). x % 2 ^ width) (sym (div-one b))
 
 pub flag-masked : (b shift : ℕ) → eqb (bitAnd (b / 2 ^ shift) 1) 1 ≡ flagAt b shift
 flag-masked b shift = ap (λ (x : ℕ). eqb x 1) (masked b shift 1)

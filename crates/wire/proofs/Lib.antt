@@ -6,7 +6,6 @@ pub mod Bytes
 pub mod Reserved
 pub mod Copied
 pub mod Typing
-pub mod Kept
 pub mod Digits
 pub mod Order
 pub mod Pins

@@ -1,6 +1,7 @@
 -- Text typed into room: what comes after what, and what stands there in the end.
 -- Assumes nothing.
 use mathlib.Core.Path.{_≡_, refl, sym, _∙_, ap, subst}
+use mathlib.Core.Bool.{Bool, true, false, cond}
 use mathlib.Core.List.{List, [], _∷_, _++_}
 use Prim.Native.Nat.{ℕ, suc, _+_, _<_, _≤_}
 use native.Mathlib.Nat.{add-zero, zero-add}
@@ -8,6 +9,7 @@ use native.Mathlib.Numerals.{add-one}
 use native.Mathlib.Omega.{arith}
 use lib.ListN.{length, getD, take, drop, set, length-set, length-append, drop-of-length-le}
 use lib.Seq.{drop-cons, sets, sets-eq, take-append-seam}
+use lib.Dec.{ltb}
 use borrow.Author.Tests.{lt-ltb}
 use Rattle.wire.specs.Room.{InRoom, textIn}
 use Rattle.wire.specs.declared.Written.{Written}
@@ -71,3 +73,21 @@ holds {s} {l} {m} {n} h x =
 -- a text that was typed to one side, and then written into the room
 pub written : {s l room after : List ℕ} {n : ℕ} {r : Written} → Holds l n s → InRoom (textIn (take n l) room) (take n l) room r after → InRoom (textIn s room) s room r after
 written {s} {l} {room} {after} {n} {r} h w = subst (λ (t : List ℕ). InRoom (textIn t room) t room r after) (h .text) w
+
+-- typing keeps the room's length
+one-kept : (p : Page) (b : ℕ) → length (typed p b .bytes) ≡ length (p .bytes)
+unfolding typed
+one-kept p b = go (ltb (p .at) (length (p .bytes)))
+  where
+    go : (t : Bool) → length (cond t (page (set (p .bytes) (p .at) b) (p .at + 1)) p .bytes) ≡ length (p .bytes)
+    go true = length-set (p .bytes) (p .at) b
+    go false = refl
+
+all-kept : (p : Page) (s : List ℕ) → length (typedAll p s .bytes) ≡ length (p .bytes)
+unfolding typedAll
+all-kept p [] = refl
+all-kept p (b ∷ s) = all-kept (typed p b) s ∙ one-kept p b
+
+-- after a text is typed the room is as long as before
+pub kept : {p q : Page} {s : List ℕ} → Types p q s → length (q .bytes) ≡ length (p .bytes)
+kept {p} {q} {s} t = ap (λ (o : Page). length (o .bytes)) (t .is) ∙ all-kept p s

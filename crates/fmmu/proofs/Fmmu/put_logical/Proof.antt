@@ -1,7 +1,6 @@
 -- `fmmu::Fmmu::put_logical`: each part is typed after the one before it.
 -- Assumes nothing.
-use Rattle.wire.proofs.Typing.{then}
-use Rattle.wire.proofs.Kept.{kept}
+use Rattle.wire.proofs.Typing.{then, kept}
 use Rattle.fmmu.specs.Text.{logicalText}
 use borrow.Author.Needs.{needs}
 use Rattle.fmmu.proofs.Fmmu.put_logical.Statement.{statement}

@@ -2,7 +2,7 @@
 -- Assumes nothing.
 use lib.ListN.{getD}
 use Rattle.fmmu.specs.Image.{fieldsOf}
-use Rattle.wire.proofs.Bytes.{masked-low}
+use Rattle.wire.proofs.Fields.{masked-low}
 use borrow.Author.Needs.{needs}
 use Rattle.fmmu.proofs.Fmmu.unpack.Statement.{statement}
 use Rattle.fmmu.proofs.Fmmu.unpack.Tie as tie

@@ -5,7 +5,8 @@ use mathlib.Core.Bool.{false}
 use Rattle.wire.specs.Outcome.{accepted}
 use Rattle.wire.proofs.Fields.{masked}
 use Rattle.sync_manager_channel.specs.Image.{modeAt, directionAt, controlAt, unnamed}
-use Rattle.sync_manager_channel.proofs.Named.{masked-low, unnamed-mode, unnamed-direction, named}
+use Rattle.wire.proofs.Fields.{masked-low}
+use Rattle.sync_manager_channel.proofs.Named.{unnamed-mode, unnamed-direction, named}
 use borrow.Author.Needs.{needs}
 use Rattle.sync_manager_channel.proofs.Control.unpack.Statement.{statement}
 use Rattle.sync_manager_channel.proofs.Control.unpack.Tie as tie
