@@ -17,9 +17,9 @@ use Rattle.subdevice.specs.declared.Slot.the-variants.{None, At}
 use Rattle.subdevice.specs.declared.MailboxConfig.{MailboxConfig}
 use Rattle.subdevice.specs.declared.MailboxRead.{MailboxRead}
 use Rattle.subdevice.specs.declared.MailboxRead.the-variants.{Config, Refused}
-use Rattle.subdevice.specs.Bits.{byCoe}
-use Rattle.subdevice.specs.Area.{entriesOf, flat}
-use Rattle.subdevice.specs.Channels.{channelsAfter}
+use Rattle.pdo.specs.Bits.{byCoe}
+use Rattle.area.specs.Area.{entriesOf, flat}
+use Rattle.channels.specs.Channels.{channelsAfter}
 
 -- each usage 1 is written with the receive size and each usage 2 with the send size; without flag bit 0 nothing is written
 abbrev pub mailboxSize : Data → ℕ → SyncManager → Option ℕ

@@ -4,27 +4,22 @@ use mathlib.Core.Path.{_≡_}
 use mathlib.Core.Bool.{Bool, true, false, cond, not, _&&_, _||_}
 use mathlib.Core.List.{List, [], _∷_, _++_}
 use mathlib.Core.Option.{Option, none, some}
-use Prim.Native.Nat.{ℕ, _+_, _-_}
-use lib.ListN.{length, getD}
+use Prim.Native.Nat.{ℕ}
+use lib.ListN.{length}
 use lib.Dec.{eqb, ltb}
 use Rattle.wire.specs.Outcome.{Outcome, refused, accepted, Refusal, when, decide}
 use Rattle.pdi.specs.Unit.{bytesOf, tooManyBits}
-use Rattle.pdi.specs.Offset.{pastEnd}
-use Rattle.pdi.specs.Segment.{segment}
-use Rattle.pdi.specs.declared.PdiSegment.{PdiSegment}
 use Rattle.sheet.specs.Device.{Data}
-use Rattle.sheet.specs.Lists.{someBelow}
 use Rattle.sheet.specs.Sheet.{sheetRefusals, sheetData}
 use Rattle.sheet.specs.declared.SyncManager.{SyncManager}
-use Rattle.subdevice.specs.declared.PdoDirection.{PdoDirection}
-use Rattle.subdevice.specs.declared.Configured.{Configured}
-use Rattle.subdevice.specs.declared.Configured.the-variants.{Mapped, Refused}
-use Rattle.subdevice.specs.Direction.{usageOf}
-use Rattle.subdevice.specs.Bits.{someOf, Piece, byCoe, pathKind, bitsOf, piecesOf}
-use Rattle.subdevice.specs.Use.{Use, coeEntry, usesOf, totalOn, sizeOf}
-use Rattle.subdevice.specs.Area.{entriesOf, flat}
-use Rattle.subdevice.specs.Channels.{channelsAfter}
-use Rattle.subdevice.specs.Entries.{plan, lengthNow}
+use Rattle.pdo.specs.declared.PdoDirection.{PdoDirection}
+use Rattle.pdo.specs.Direction.{usageOf}
+use Rattle.pdo.specs.Bits.{someOf, Piece, byCoe, pathKind, bitsOf, piecesOf}
+use Rattle.entries.specs.Use.{coeEntry, usesOf, sizeOf}
+use Rattle.area.specs.Area.{entriesOf, flat}
+use Rattle.channels.specs.Channels.{channelsAfter}
+use Rattle.entries.specs.Entries.{plan, Planned, planned, configuredOf, entryRefusals}
+use Rattle.entries.specs.declared.Configured.{Configured}
 use Rattle.subdevice.specs.Mailbox.{notChannels}
 
 -- 1: an area isn't 256 (FMMU) or 128 (sync manager) bytes
@@ -42,28 +37,14 @@ someTooMany d ws r = someOf (λ (p : Piece). tooManyBits (p .bits)) (piecesOf d 
 unfoldable pub noEntry : Data → List ℕ → PdoDirection → Bool
 noEntry d ws r = byCoe d && (someOf (λ (p : Piece). ltb 0 (p .bits)) (piecesOf d ws r) && eqb (coeEntry d r) (length (d .usages)))
 
--- 8: an entry's exact length would exceed 65,535
-unfoldable pub tooLong : List Use → List (List ℕ) → Bool
-tooLong us entries = someBelow (λ k. ltb 65535 (lengthNow (getD entries k []) + totalOn k us)) 16
-
--- the refusals that come after the sheet's, in their order; 9: the exact end offset exceeds 4,294,967,295; 10: the offset is below the group start
+-- the refusals that come after the sheet's, in their order: 6, 7, and the entries' 8, 9 and 10
 abbrev pub planRefusals : Data → List ℕ → PdoDirection → ℕ → ℕ → List (List ℕ) → List Refusal
 planRefusals d ws r offset group entries =
-    when 6 (someTooMany d ws r)
-    ∷ when 7 (noEntry d ws r)
-    ∷ when 8 (tooLong (usesOf d ws r) entries)
-    ∷ when 9 (pastEnd (offset + sizeOf d ws r))
-    ∷ when 10 (ltb offset group)
-    ∷ []
+    when 6 (someTooMany d ws r) ∷ when 7 (noEntry d ws r) ∷ entryRefusals (usesOf d ws r) (sizeOf d ws r) offset group entries
 
--- an accepted pass: the segment, start to end less the group start, and the next offset
-pub record Planned : Type 0 where
-  pub segment : PdiSegment
-  pub next : ℕ
-
+-- an accepted pass
 abbrev pub plannedOf : Data → List ℕ → PdoDirection → ℕ → ℕ → Planned
-plannedOf d ws r offset group =
-    record { segment = segment (offset - group) (offset + sizeOf d ws r - group); next = offset + sizeOf d ws r }
+plannedOf d ws r offset group = planned offset group (sizeOf d ws r)
 
 -- the whole call
 abbrev pub passRefusals : List ℕ → List ℕ → PdoDirection → ℕ → ℕ → List ℕ → List ℕ → List Refusal
@@ -86,11 +67,6 @@ entriesAfter (accepted p) d ws r offset area = flat (plan r offset (usesOf d ws 
 abbrev pub channelAreaAfter : Outcome Planned → Data → List ℕ → PdoDirection → List ℕ → List ℕ
 channelAreaAfter (refused n) d ws r area = area
 channelAreaAfter (accepted p) d ws r area = flat (channelsAfter (dataSize d ws r) 0 (d .managers) (entriesOf 8 area))
-
--- what the cases of `Configured` say
-abbrev pub configuredOf : Configured → Outcome Planned
-configuredOf (Mapped s o) = accepted (record { segment = s; next = o .«start_address» })
-configuredOf (Refused n) = refused n
 
 -- the promise of the pass: its answer with the next offset, and both areas
 pub record Configures (sheet ws : List ℕ) (r : PdoDirection) (offset group : ℕ) (fmmus channels : List ℕ) (answer : Configured) (fmmusAfter channelsAfter : List ℕ) : Type 0 where

@@ -1,13 +1,5 @@
 // src/subdevice: types.rs (mailboxes) and configuration.rs (the mailbox pass and the data passes).
 use pdi::ByteLen;
-use pdi::PdiOffset;
-use pdi::PdiSegment;
-
-// Which way process data goes.
-pub enum PdoDirection {
-    MasterRead,
-    MasterWrite,
-}
 
 // A mailbox: its device address, its size, its sync manager's number.
 pub struct Mailbox {
@@ -33,11 +25,5 @@ pub struct MailboxConfig {
 // What the mailbox pass answers.
 pub enum MailboxRead {
     Config(MailboxConfig),
-    Refused(u8),
-}
-
-// What a data pass answers: the segment, counted from the group start, and the next offset.
-pub enum Configured {
-    Mapped(PdiSegment, PdiOffset),
     Refused(u8),
 }

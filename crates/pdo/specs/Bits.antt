@@ -5,10 +5,12 @@ use mathlib.Core.List.{List, [], _∷_, map}
 use Prim.Native.Nat.{ℕ, zero, suc, _+_, _*_}
 use lib.Dec.{eqb, ltb}
 use Rattle.sheet.specs.Device.{Pdo, Data}
+use Rattle.pdi.specs.declared.BitLen.{BitLen}
+use Rattle.sheet.specs.Lists.{listOf}
 use Rattle.sheet.specs.Sound.{sum}
 use Rattle.sheet.specs.declared.SyncManager.{SyncManager}
-use Rattle.subdevice.specs.declared.PdoDirection.{PdoDirection}
-use Rattle.subdevice.specs.Direction.{usageOf, kindOf}
+use Rattle.pdo.specs.declared.PdoDirection.{PdoDirection}
+use Rattle.pdo.specs.Direction.{usageOf, kindOf}
 
 -- some element has it
 abbrev pub someOf : {A : Type 0} → (A → Bool) → List A → Bool
@@ -51,6 +53,13 @@ unfoldable pub bitsOf : ℕ → ℕ → List Pdo → List ℕ → ℕ
 bitsOf kind number [] ws = 0
 bitsOf kind number (p ∷ ps) ws =
     cond (eqb (p .kind) kind && eqb (p .manager) number) (sum (p .lengths) * firstOf ws) 0 + bitsOf kind number ps (othersOf ws)
+
+-- the same as code holds it: what one PDO adds to the sync manager that it names, and the exact bits of sixteen
+abbrev pub partOf : ℕ → Pdo → ℕ → ℕ
+partOf kind p w = cond (eqb (p .kind) kind && ltb (p .manager) 16) (sum (p .lengths) * w) 0
+
+unfoldable pub sumsOf : ℕ → List Pdo → List ℕ → List BitLen
+sumsOf kind ps ws = listOf (λ k. record { 0 = bitsOf kind k ps ws }) 16
 
 -- a wanted sync manager: its number, its exact bits, its address
 pub record Piece : Type 0 where

@@ -1,15 +1,18 @@
 -- The images of the sync managers: sheet address and control, size in bytes, status 0, enabled only if ENABLE is set and the size is above 0.
 -- Assumes nothing.
-use mathlib.Core.Bool.{Bool, true, false, _&&_}
+use mathlib.Core.Bool.{Bool, true, false, cond, _&&_}
 use mathlib.Core.List.{List, [], _∷_}
 use mathlib.Core.Option.{Option, none, some}
 use Prim.Native.Nat.{ℕ, suc}
-use lib.ListN.{set}
+use lib.ListN.{getD, set}
 use lib.Dec.{ltb}
 use Rattle.sync_manager_channel.specs.declared.SyncManagerChannel.{SyncManagerChannel}
 use Rattle.sync_manager_channel.specs.declared.Enable.{Enable}
 use Rattle.sync_manager_channel.specs.Image.{imageOf, statusAt}
 use Rattle.sheet.specs.declared.SyncManager.{SyncManager}
+use Rattle.wire.specs.Room.{over}
+use Rattle.area.specs.Area.{padded, entriesOf, flat}
+use Rattle.channels.specs.declared.Wish.{Wish}
 
 abbrev pub enabled : Bool → Enable
 enabled on =
@@ -41,3 +44,21 @@ written k m (some size) area = set area k (imageOf (channelFor m size))
 unfoldable pub channelsAfter : (ℕ → SyncManager → Option ℕ) → ℕ → List SyncManager → List (List ℕ) → List (List ℕ)
 channelsAfter sizeFor k [] area = area
 channelsAfter sizeFor k (m ∷ ms) area = channelsAfter sizeFor (suc k) ms (written k m (sizeFor k m) area)
+
+-- who gets which size, as code holds it: one wish for each number
+abbrev pub noWish : Wish
+noWish = record { on = false; size = record { 0 = 0 } }
+
+abbrev pub wishOf : Wish → Option ℕ
+wishOf w = cond (w .on) (some (w .size .0)) none
+
+abbrev pub wished : List Wish → ℕ → SyncManager → Option ℕ
+wished ws k m = wishOf (getD ws k noWish)
+
+-- what one entry becomes
+abbrev pub imageFor : List ℕ → SyncManager → Wish → List ℕ
+imageFor before m w = cond (w .on) (imageOf (channelFor m (w .size .0))) before
+
+-- the area after the wishes are written
+unfoldable pub channelArea : List SyncManager → List Wish → List ℕ → List ℕ
+channelArea ms ws area = over (flat (channelsAfter (wished ws) 0 ms (entriesOf 8 (padded 128 area)))) area

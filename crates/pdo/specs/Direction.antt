@@ -2,8 +2,9 @@
 -- Assumes nothing.
 use mathlib.Core.Bool.{Bool, true, false}
 use Prim.Native.Nat.{ℕ}
-use Rattle.subdevice.specs.declared.PdoDirection.{PdoDirection}
-use Rattle.subdevice.specs.declared.PdoDirection.the-variants.{MasterRead, MasterWrite}
+use Rattle.pdo.specs.declared.PdoDirection.{PdoDirection}
+use Rattle.pdo.specs.declared.Terms.{Terms}
+use Rattle.pdo.specs.declared.PdoDirection.the-variants.{MasterRead, MasterWrite}
 
 abbrev pub usageOf : PdoDirection → ℕ
 usageOf MasterRead = 4
@@ -29,3 +30,7 @@ isWrite MasterWrite = true
 abbrev pub other : PdoDirection → PdoDirection
 other MasterRead = MasterWrite
 other MasterWrite = MasterRead
+
+-- all three together
+abbrev pub termsOf : PdoDirection → Terms
+termsOf r = record { usage = usageOf r; «fmmu_usage» = fmmuUsageOf r; kind = kindOf r }

@@ -1,14 +1,19 @@
 -- Which sync manager uses which entry: the one place that knows the path.
 -- Assumes nothing.
-use mathlib.Core.Bool.{Bool, true, false, cond}
+use mathlib.Core.Bool.{Bool, true, false, cond, not, _&&_, _||_}
 use mathlib.Core.List.{List, [], _∷_}
 use Prim.Native.Nat.{ℕ, zero, suc, _+_}
+use lib.ListN.{getD}
 use lib.Dec.{eqb, ltb}
 use Rattle.pdi.specs.Unit.{bytesOf}
 use Rattle.sheet.specs.Device.{Data}
-use Rattle.subdevice.specs.declared.PdoDirection.{PdoDirection}
-use Rattle.subdevice.specs.Direction.{fmmuUsageOf}
-use Rattle.subdevice.specs.Bits.{Piece, byCoe, piecesOf}
+use Rattle.sheet.specs.declared.SyncManager.{SyncManager}
+use Rattle.channels.specs.declared.Wish.{Wish}
+use Rattle.channels.specs.Channels.{noWish}
+use Rattle.entries.specs.declared.Route.{Route}
+use Rattle.pdo.specs.declared.PdoDirection.{PdoDirection}
+use Rattle.pdo.specs.Direction.{fmmuUsageOf}
+use Rattle.pdo.specs.Bits.{Piece, byCoe, piecesOf}
 
 -- a sync manager laid by a pass: the entry that it uses, its size in bytes, its device address
 pub record Use : Type 0 where
@@ -54,3 +59,15 @@ totalOn k (u ∷ us) = cond (eqb (u .entry) k) (u .size) 0 + totalOn k us
 -- the rounded bytes of all wanted sync managers, whatever entries they use
 unfoldable pub sizeOf : Data → List ℕ → PdoDirection → ℕ
 sizeOf d ws r = total (own (piecesOf d ws r))
+
+-- the same as code holds it: whether a sync manager uses an entry, and which, from its wish and the route
+abbrev pub takes : Route → Wish → Bool
+takes route w = w .on && (not (route .coe) || ltb 0 (w .size .0))
+
+unfoldable pub usesFrom : Route → List Wish → ℕ → List SyncManager → List Use
+usesFrom route ws k [] = []
+usesFrom route ws k (m ∷ ms) =
+    cond
+    (takes route (getD ws k noWish))
+    (record { entry = cond (route .coe) (route .entry) k; size = getD ws k noWish .size .0; at = m .«start_addr» } ∷ usesFrom route ws (suc k) ms)
+    (usesFrom route ws (suc k) ms)

@@ -1,0 +1,2 @@
+-- The images of the sync managers.
+pub mod Channels

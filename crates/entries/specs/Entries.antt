@@ -1,0 +1,101 @@
+-- The FMMU entries that a pass leaves.
+-- Assumes nothing.
+use mathlib.Core.Path.{_≡_}
+use mathlib.Core.Bool.{Bool, true, false, cond}
+use mathlib.Core.List.{List, [], _∷_}
+use Prim.Native.Nat.{ℕ, _+_, _-_}
+use lib.ListN.{getD, set}
+use lib.Dec.{ltb}
+use Rattle.wire.specs.Outcome.{Outcome, refused, accepted, Refusal, when, decide}
+use Rattle.wire.specs.Room.{over}
+use Rattle.pdi.specs.Offset.{pastEnd}
+use Rattle.pdi.specs.Segment.{segment}
+use Rattle.pdi.specs.declared.PdiSegment.{PdiSegment}
+use Rattle.sheet.specs.Lists.{someBelow}
+use Rattle.area.specs.Area.{padded, entriesOf, flat}
+use Rattle.fmmu.specs.declared.Fmmu.{Fmmu}
+use Rattle.fmmu.specs.Image.{fieldsOf, imageOf}
+use Rattle.pdo.specs.declared.PdoDirection.{PdoDirection}
+use Rattle.pdo.specs.Direction.{isRead, isWrite}
+use Rattle.entries.specs.declared.Configured.{Configured}
+use Rattle.entries.specs.declared.Configured.the-variants.{Mapped, Refused}
+use Rattle.entries.specs.Use.{Use, total, totalOn}
+
+-- a disabled entry becomes: logical start the offset, the size, bits 0 to 7, the physical start, physical bit 0, its direction bit, enabled
+abbrev pub mapped : PdoDirection → ℕ → ℕ → ℕ → Fmmu
+mapped r start size physical =
+    record {
+      «logical_start_address» = start;
+      «length_bytes» = record { 0 = size };
+      «logical_start_bit» = 0;
+      «logical_end_bit» = 7;
+      «physical_start_address» = physical;
+      «physical_start_bit» = 0;
+      «read_enable» = isRead r;
+      «write_enable» = isWrite r;
+      enable = true;
+    }
+
+-- an enabled entry only has the size added
+abbrev pub grown : Fmmu → ℕ → Fmmu
+grown f size =
+    record {
+      «logical_start_address» = f .«logical_start_address»;
+      «length_bytes» = record { 0 = f .«length_bytes» .0 + size };
+      «logical_start_bit» = f .«logical_start_bit»;
+      «logical_end_bit» = f .«logical_end_bit»;
+      «physical_start_address» = f .«physical_start_address»;
+      «physical_start_bit» = f .«physical_start_bit»;
+      «read_enable» = f .«read_enable»;
+      «write_enable» = f .«write_enable»;
+      enable = f .enable;
+    }
+
+-- what an entry becomes
+abbrev pub laid : PdoDirection → ℕ → Use → Fmmu → Fmmu
+laid r offset u f = cond (f .enable) (grown f (u .size)) (mapped r offset (u .size) (u .at))
+
+-- each use in turn: its entry is written, with reserved bits 0; then the offset moves on by the size; all other bytes stay
+unfoldable pub plan : PdoDirection → ℕ → List Use → List (List ℕ) → List (List ℕ)
+plan r offset [] area = area
+plan r offset (u ∷ us) area =
+    plan r (offset + u .size) us (set area (u .entry) (imageOf (laid r offset u (fieldsOf (getD area (u .entry) [])))))
+
+-- an entry's length, of which a disabled one has none
+abbrev pub lengthNow : List ℕ → ℕ
+lengthNow e = cond (fieldsOf e .enable) (fieldsOf e .«length_bytes» .0) 0
+
+-- 8: an entry's exact length would exceed 65,535
+unfoldable pub tooLong : List Use → List (List ℕ) → Bool
+tooLong us entries = someBelow (λ k. ltb 65535 (lengthNow (getD entries k []) + totalOn k us)) 16
+
+-- an accepted pass: the segment, start to end less the group start, and the next offset
+pub record Planned : Type 0 where
+  pub segment : PdiSegment
+  pub next : ℕ
+
+abbrev pub planned : ℕ → ℕ → ℕ → Planned
+planned offset group size = record { segment = segment (offset - group) (offset + size - group); next = offset + size }
+
+-- what the cases of `Configured` say
+abbrev pub configuredOf : Configured → Outcome Planned
+configuredOf (Mapped s o) = accepted (record { segment = s; next = o .«start_address» })
+configuredOf (Refused n) = refused n
+
+-- the refusals that look at the entries and the offset, in their order; 9: the exact end offset exceeds 4,294,967,295; 10: the offset is below the group start
+abbrev pub entryRefusals : List Use → ℕ → ℕ → ℕ → List (List ℕ) → List Refusal
+entryRefusals us size offset group entries =
+    when 8 (tooLong us entries) ∷ when 9 (pastEnd (offset + size)) ∷ when 10 (ltb offset group) ∷ []
+
+abbrev pub entriesOutcome : List Use → ℕ → ℕ → List (List ℕ) → Outcome Planned
+entriesOutcome us offset group entries = decide (entryRefusals us (total us) offset group entries) (planned offset group (total us))
+
+-- what the area then holds: a refusal writes nothing
+abbrev pub entryArea : Outcome Planned → PdoDirection → ℕ → List Use → List ℕ → List ℕ
+entryArea (refused n) r offset us area = area
+entryArea (accepted p) r offset us area = over (flat (plan r offset us (entriesOf 16 (padded 256 area)))) area
+
+-- the promise of writing the entries
+pub record WritesEntries (us : List Use) (r : PdoDirection) (offset group : ℕ) (area : List ℕ) (answer : Configured) (after : List ℕ) : Type 0 where
+  pub says : configuredOf answer ≡ entriesOutcome us offset group (entriesOf 16 (padded 256 area))
+  pub holds : after ≡ entryArea (entriesOutcome us offset group (entriesOf 16 (padded 256 area))) r offset us area
