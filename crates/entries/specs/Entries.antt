@@ -2,13 +2,14 @@
 -- Assumes nothing.
 use mathlib.Core.Path.{_≡_}
 use mathlib.Core.Bool.{Bool, true, false, cond}
-use mathlib.Core.List.{List, [], _∷_}
+use mathlib.Core.List.{List, [], _∷_, map}
 use Prim.Native.Nat.{ℕ, _+_, _-_}
-use lib.ListN.{getD, set}
+use lib.ListN.{getD, take, set}
 use lib.Dec.{ltb}
 use Rattle.wire.specs.Outcome.{Outcome, refused, accepted, Refusal, when, decide}
 use Rattle.wire.specs.Room.{over}
-use Rattle.pdi.specs.Offset.{pastEnd}
+use Rattle.pdi.specs.Offset.{pastEnd, incremented, movedOf}
+use Rattle.pdi.specs.declared.Moved.{Moved}
 use Rattle.pdi.specs.Segment.{segment}
 use Rattle.pdi.specs.declared.PdiSegment.{PdiSegment}
 use Rattle.sheet.specs.Lists.{someBelow}
@@ -17,6 +18,8 @@ use Rattle.fmmu.specs.declared.Fmmu.{Fmmu}
 use Rattle.fmmu.specs.Image.{fieldsOf, imageOf}
 use Rattle.pdo.specs.declared.PdoDirection.{PdoDirection}
 use Rattle.pdo.specs.Direction.{isRead, isWrite}
+use Rattle.entries.specs.declared.Mapping.{Mapping}
+use Rattle.entries.specs.declared.Mappings.{Mappings}
 use Rattle.entries.specs.declared.Configured.{Configured}
 use Rattle.entries.specs.declared.Configured.the-variants.{Mapped, Refused}
 use Rattle.entries.specs.Use.{Use, total, totalOn}
@@ -62,12 +65,27 @@ plan r offset (u ∷ us) area =
     plan r (offset + u .size) us (set area (u .entry) (imageOf (laid r offset u (fieldsOf (getD area (u .entry) [])))))
 
 -- an entry's length, of which a disabled one has none
+abbrev pub lengthOf : Fmmu → ℕ
+lengthOf f = cond (f .enable) (f .«length_bytes» .0) 0
+
 abbrev pub lengthNow : List ℕ → ℕ
-lengthNow e = cond (fieldsOf e .enable) (fieldsOf e .«length_bytes» .0) 0
+lengthNow e = lengthOf (fieldsOf e)
+
+-- uses as code holds them
+abbrev pub useFrom : Mapping → Use
+useFrom m = record { entry = m .entry; size = m .size .0; at = m .at }
+
+abbrev pub mappedUses : Mappings → List Use
+mappedUses ms = map useFrom (take (ms .count) (ms .list))
 
 -- 8: an entry's exact length would exceed 65,535
 unfoldable pub tooLong : List Use → List (List ℕ) → Bool
 tooLong us entries = someBelow (λ k. ltb 65535 (lengthNow (getD entries k []) + totalOn k us)) 16
+
+-- the promise of laying uses that are not too long: the next offset and the entries, or 9
+pub record Lays (us : List Use) (r : PdoDirection) (offset : ℕ) (entries : List (List ℕ)) (answer : Moved) (after : List (List ℕ)) : Type 0 where
+  pub says : movedOf answer ≡ incremented offset (total us)
+  pub holds : pastEnd (offset + total us) ≡ false → after ≡ plan r offset us entries
 
 -- an accepted pass: the segment, start to end less the group start, and the next offset
 pub record Planned : Type 0 where
