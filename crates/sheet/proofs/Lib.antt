@@ -3,3 +3,6 @@ pub mod Lists
 pub mod Walk
 pub mod Named
 pub mod Broken
+pub mod Reading
+pub mod Sound
+pub mod Unique

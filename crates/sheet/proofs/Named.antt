@@ -50,9 +50,10 @@ managers-on s k m l h p e =
 -- its two ends
 pub managers-stop : (s : List ℕ) (n k number : ℕ) → k < n → refused number ≡ readManager s (managerPlace k) → refused number ≡ decide (five (someBelow (unnamedAt s) n)) (managersOf s n)
 managers-stop s n k number h e =
-    let b = five-stopped (unnamedAt s k) number (managerAt s (managerPlace k)) e in
-    let w = some-hit (unnamedAt s) k n h b in
-    e ∙ rw (b, w)
+    let m = managerAt s (managerPlace k) in
+    let b = five-stopped (unnamedAt s k) number m e in
+    let same : unnamedAt s k ≡ someBelow (unnamedAt s) n = b ∙ sym (some-hit (unnamedAt s) k n h b) in
+    stopped (five (unnamedAt s k)) m number (accepted (managersOf s n)) e ∙ ap (λ (t : Bool). decide (five t) (managersOf s n)) same
 
 pub managers-end : (s : List ℕ) (n k : ℕ) (l : List SyncManager) → k ≡ n → someBelow (unnamedAt s) k ≡ false → l ≡ managersOf s k → accepted l ≡ decide (five (someBelow (unnamedAt s) n)) (managersOf s n)
 managers-end s n k l e h p = rw (← e, h, p)

@@ -1,56 +1,73 @@
-use borrow.Author.Needs.{needs}
+-- `sheet::read`: the tests that led to each return say which refusal is the first.
+-- Assumes nothing.
+use mathlib.Core.Path.{_≡_, sym, _∙_}
+use mathlib.Core.Bool.{false, true}
+use mathlib.Core.List.{[], _∷_}
+use Prim.Native.Nat.{_≤_}
+use native.Mathlib.Omega.{arith}
+use denote.Ref.{now}
+use lib.ListN.{length, getD}
+use lib.Dec.{eqb}
+use borrow.Author.Tests.{eq-eqb, ne-eqb}
+use Rattle.wire.specs.Outcome.{refused, when, decide}
+use Rattle.sheet.specs.Sheet.{wrongLength, broken, someUnnamed, deviceOf}
+use Rattle.sheet.proofs.Broken.{long}
+use Rattle.sheet.proofs.Reading.{reads-as}
 use Rattle.sheet.proofs.read.Statement.{statement}
 use Rattle.sheet.proofs.read.Tie as tie
-use Rattle.sheet.proofs.read.Reads as reads
-use Rattle.sheet.proofs.read.Lts as lts
-use Rattle.sheet.proofs.device_of.Reads as device-of-reads
-use Rattle.sheet.proofs.refused.Reads as refused-reads
-use Rattle.sheet.proofs.rule_broken.Reads as rule-broken-reads
-use Rattle.sheet.proofs.wrong_length.Reads as wrong-length-reads
 
--- src/lib.rt:272:8
 wrong-length-requires : tie.Need-wrong-length-requires
-wrong-length-requires c κs = search needs
+wrong-length-requires c κs = tt
 
--- src/lib.rt:273:9
 refused-requires : tie.Need-refused-requires
-refused-requires c κs = search needs
+refused-requires c κs = tt
 
--- src/lib.rt:273:9
 returns : tie.Need-returns
-returns c = ?
+returns c =
+    let w = sym (c .before .before .wrong-length .ensures) ∙ c .before .if1 .taken in
+    reads-as (now (c .before .before .before .before .args .sheet)) _ (refused 2) (rw w) (c .refused .ensures)
 
--- src/lib.rt:275:8
+-- past the first test
+right-length : (c : tie.Else1) → wrongLength (now (c .before .before .before .args .sheet)) ≡ false
+right-length c = sym (c .before .wrong-length .ensures) ∙ c .if1 .left
+
 shared-slice-read-if2 : tie.Need-shared-slice-read-if2
-shared-slice-read-if2 c = ?
+shared-slice-read-if2 c = omega (arith, long _ (right-length (c .before)))
 
--- src/lib.rt:276:9
 refused-requires-2 : tie.Need-refused-requires-2
-refused-requires-2 c κs = search needs
+refused-requires-2 c κs = tt
 
--- src/lib.rt:276:9
 returns-2 : tie.Need-returns-2
-returns-2 c = ?
+returns-2 c =
+    let w = right-length (c .before .before .before) in
+    let v = ne-eqb _ _ (c .before .if2 .taken) in
+    reads-as (now (c .before .before .before .before .before .before .args .sheet)) _ (refused 3) (rw (w, v)) (c .refused2 .ensures)
 
--- src/lib.rt:278:8
 rule-broken-requires : tie.Need-rule-broken-requires
-rule-broken-requires c κs = ?
+rule-broken-requires c κs = long _ (right-length (c .before .before))
 
--- src/lib.rt:279:9
 refused-requires-3 : tie.Need-refused-requires-3
-refused-requires-3 c κs = search needs
+refused-requires-3 c κs = tt
 
--- src/lib.rt:279:9
 returns-3 : tie.Need-returns-3
-returns-3 c = ?
+returns-3 c =
+    let w = right-length (c .before .before .before .before .before) in
+    let v = eq-eqb _ _ (c .before .before .before .if2 .left) in
+    let k = sym (c .before .before .rule-broken .ensures) ∙ c .before .if3 .taken in
+    reads-as (now (c .before .before .before .before .before .before .before .before .args .sheet)) _ (refused 4) (rw (w, v, k)) (c .refused3 .ensures)
 
--- src/lib.rt:281:5
 device-of-requires : tie.Need-device-of-requires
-device-of-requires c κs = ?
+device-of-requires c κs =
+    let l = long _ (right-length (c .before .before .before .before)) in
+    (l .0, l .1, sym (c .before .rule-broken .ensures) ∙ c .if3 .left)
 
--- src/lib.rt:269:1
 returns-4 : tie.Need-returns-4
-returns-4 c = ?
+returns-4 c =
+    let s = now (c .before .before .before .before .before .before .before .before .args .sheet) in
+    let w = right-length (c .before .before .before .before .before) in
+    let v = eq-eqb _ _ (c .before .before .before .if2 .left) in
+    let k = sym (c .before .before .rule-broken .ensures) ∙ c .before .if3 .left in
+    reads-as s _ (decide (when 5 (someUnnamed s) ∷ []) (deviceOf s)) (rw (w, v, k)) (c .device-of .ensures)
 
 pub read-spec : {M : Type 1} → statement M
 read-spec =
