@@ -1,4 +1,4 @@
--- The rules of a sheet with its counts as the code has them, and what a sheet that keeps them is known to hold.
+-- The rules of a sheet as the code finds them broken, and what a sheet that keeps them is known to hold.
 -- Assumes nothing.
 use mathlib.Core.Path.{_≡_, refl, sym, _∙_, ap}
 use mathlib.Core.Bool.{Bool, true, false, not, _||_, false≢true}
@@ -7,37 +7,80 @@ use Prim.Native.Nat.{ℕ, _+_, _*_, _≤_, _<_}
 use native.Mathlib.Omega.{arith}
 use lib.ListN.{length, getD}
 use lib.Dec.{eqb, ltb}
-use borrow.Author.Tests.{ltb-false, eqb-true, not-false}
+use borrow.Author.Tests.{eq-eqb, ne-eqb, lt-ltb, le-ltb, ltb-false, eqb-true, not-false}
 use Rattle.sheet.specs.Lists.{someBelow}
-use Rattle.sheet.specs.Sheet.{follow, managerCount, usageCount, pdoCount, managerPlace, usagesPlace, pdosPlace, wrongLength, pdosFit, broken}
+use Rattle.sheet.specs.Sheet.{follow, managerCount, usageCount, pdoCount, managerPlace, usagesPlace, pdosPlace, wrongLength, pdosFit, someManagerWrong, someUsageWrong, broken}
 use Rattle.sheet.proofs.Lists.{some-same}
 
--- the length's rule, with L as the code has it
-pub length-as : (s : List ℕ) (f : ℕ) → f ≡ follow s → wrongLength s ≡ ltb (length s) 2 || (not (eqb (length s) (f + 2)) || (ltb f 9 || ltb 16384 f))
-unfolding wrongLength
-length-as s f e = rw e refl
+or-true : (b : Bool) → b || true ≡ true
+or-true true = refl
+or-true false = refl
 
--- the other rules, with the counts as the code has them
-abbrev pub rules : List ℕ → ℕ → ℕ → ℕ → Bool
-rules s n f p =
-    ltb 7 (getD s 3 0)
-    || (ltb 16 n
-    || (ltb 16 f
-    || (ltb (length s) (11 + 5 * n + f)
-    || (someBelow (λ k. ltb 4 (getD s (15 + 5 * k) 0)) n
-    || (someBelow (λ k. ltb 3 (getD s (11 + 5 * n + 1 * k) 0)) f || not (pdosFit s p (11 + 5 * n + f)))))))
+-- 2, as the code finds it: by one of its parts, or by the last after the others
+module _ (s : List ℕ) where
+  pub short : length s < 2 → wrongLength s ≡ true
+  unfolding wrongLength
+  short h = rw (lt-ltb (length s) 2 h) refl
 
-pub broken-as : (s : List ℕ) (n f p : ℕ) → n ≡ managerCount s → f ≡ usageCount s → p ≡ pdoCount s → broken s ≡ rules s n f p
-unfolding broken
-broken-as s n f p en ef ep =
-    let u = some-same (λ k. ltb 4 (getD s (managerPlace k + 4) 0)) (λ k. ltb 4 (getD s (15 + 5 * k) 0)) (managerCount s)
-            (λ k h. ap (λ (x : ℕ). ltb 4 (getD s x 0)) (omega arith)) in
-    let v = some-same (λ k. ltb 3 (getD s (usagesPlace s + k) 0)) (λ k. ltb 3 (getD s (usagesPlace s + 1 * k) 0)) (usageCount s)
-            (λ k h. ap (λ (x : ℕ). ltb 3 (getD s x 0)) (omega arith)) in
-    rw (en, ef, ep) (λ i.
-    ltb 7 (getD s 3 0)
-    || (ltb 16 (managerCount s)
-    || (ltb 16 (usageCount s) || (ltb (length s) (pdosPlace s) || (u i || (v i || not (pdosFit s (pdoCount s) (pdosPlace s))))))))
+  pub other-length : (length s ≡ follow s + 2 → ⊥) → wrongLength s ≡ true
+  unfolding wrongLength
+  other-length h = rw (ne-eqb (length s) (follow s + 2) h) (or-true (ltb (length s) 2))
+
+  pub too-low : follow s < 9 → wrongLength s ≡ true
+  unfolding wrongLength
+  too-low h = simp (lt-ltb (follow s) 9 h, or-true)
+
+  pub only-high : (f : ℕ) → f ≡ follow s → 2 ≤ length s → length s ≡ follow s + 2 → 9 ≤ follow s → wrongLength s ≡ ltb 16384 f
+  unfolding wrongLength
+  only-high f e h l low = rw (e, le-ltb (length s) 2 h, eq-eqb (length s) (follow s + 2) l, le-ltb (follow s) 9 low) refl
+
+-- 4, likewise
+module _ (s : List ℕ) where
+  pub flags-broken : 7 < getD s 3 0 → broken s ≡ true
+  unfolding broken
+  flags-broken h = rw (lt-ltb 7 (getD s 3 0) h) refl
+
+  pub managers-broken : 16 < managerCount s → broken s ≡ true
+  unfolding broken
+  managers-broken h = simp (lt-ltb 16 (managerCount s) h, or-true)
+
+  pub usages-broken : 16 < usageCount s → broken s ≡ true
+  unfolding broken
+  usages-broken h = simp (lt-ltb 16 (usageCount s) h, or-true)
+
+  pub places-broken : length s < pdosPlace s → broken s ≡ true
+  unfolding broken
+  places-broken h = simp (lt-ltb (length s) (pdosPlace s) h, or-true)
+
+  -- the two questions over bytes, from what the code asks
+  pub manager-bytes : (n : ℕ) {b : Bool} → n ≡ managerCount s → b ≡ someBelow (λ k. ltb 4 (getD s (15 + 5 * k) 0)) n → someManagerWrong s ≡ b
+  unfolding someManagerWrong
+  manager-bytes n {b} e h =
+      some-same (λ k. ltb 4 (getD s (managerPlace k + 4) 0)) (λ k. ltb 4 (getD s (15 + 5 * k) 0)) (managerCount s)
+      (λ k l. ap (λ (x : ℕ). ltb 4 (getD s x 0)) (omega arith))
+      ∙ ap (someBelow (λ k. ltb 4 (getD s (15 + 5 * k) 0))) (sym e) ∙ sym h
+
+  pub usage-bytes : (n f : ℕ) {b : Bool} → n ≡ managerCount s → f ≡ usageCount s → b ≡ someBelow (λ k. ltb 3 (getD s (11 + 5 * n + 1 * k) 0)) f → someUsageWrong s ≡ b
+  unfolding someUsageWrong
+  usage-bytes n f {b} en ef h =
+      some-same (λ k. ltb 3 (getD s (usagesPlace s + k) 0)) (λ k. ltb 3 (getD s (11 + 5 * n + 1 * k) 0)) (usageCount s)
+      (λ k l. ap (λ (x : ℕ). ltb 3 (getD s x 0)) (omega arith))
+      ∙ ap (someBelow (λ k. ltb 3 (getD s (11 + 5 * n + 1 * k) 0))) (sym ef) ∙ sym h
+
+  pub manager-broken : someManagerWrong s ≡ true → broken s ≡ true
+  unfolding broken
+  manager-broken h = simp (h, or-true)
+
+  pub usage-broken : someUsageWrong s ≡ true → broken s ≡ true
+  unfolding broken
+  usage-broken h = simp (h, or-true)
+
+  pub walk-same : {n f p : ℕ} → n ≡ managerCount s → f ≡ usageCount s → p ≡ pdoCount s → pdosFit s p (11 + 5 * n + f) ≡ pdosFit s (pdoCount s) (pdosPlace s)
+  walk-same en ef ep = rw (en, ef, ep) refl
+
+  pub only-walk : getD s 3 0 ≤ 7 → managerCount s ≤ 16 → usageCount s ≤ 16 → pdosPlace s ≤ length s → someManagerWrong s ≡ false → someUsageWrong s ≡ false → broken s ≡ not (pdosFit s (pdoCount s) (pdosPlace s))
+  unfolding broken
+  only-walk a b c d u v = rw (le-ltb 7 (getD s 3 0) a, le-ltb 16 (managerCount s) b, le-ltb 16 (usageCount s) c, le-ltb (length s) (pdosPlace s) d, u, v) refl
 
 -- nothing of a chain holds, so no part of it does
 none : (a b : Bool) → a || b ≡ false → (a ≡ false) × (b ≡ false)
@@ -67,10 +110,10 @@ pub record Kept (s : List ℕ) : Type 0 where
 
 -- the chain of rules from each on
 abbrev lastOn : List ℕ → Bool
-lastOn s = someBelow (λ k. ltb 3 (getD s (usagesPlace s + k) 0)) (usageCount s) || not (pdosFit s (pdoCount s) (pdosPlace s))
+lastOn s = someUsageWrong s || not (pdosFit s (pdoCount s) (pdosPlace s))
 
 abbrev bytesOn : List ℕ → Bool
-bytesOn s = someBelow (λ k. ltb 4 (getD s (managerPlace k + 4) 0)) (managerCount s) || lastOn s
+bytesOn s = someManagerWrong s || lastOn s
 
 abbrev placesOn : List ℕ → Bool
 placesOn s = ltb (length s) (pdosPlace s) || bytesOn s
@@ -88,8 +131,8 @@ kept s h =
     let b = none (ltb 16 (managerCount s)) (usagesOn s) a in
     let c = none (ltb 16 (usageCount s)) (placesOn s) (b .1) in
     let d = none (ltb (length s) (pdosPlace s)) (bytesOn s) (c .1) in
-    let e = none (someBelow (λ k. ltb 4 (getD s (managerPlace k + 4) 0)) (managerCount s)) (lastOn s) (d .1) .1 in
-    let w = none (someBelow (λ k. ltb 3 (getD s (usagesPlace s + k) 0)) (usageCount s)) (not (pdosFit s (pdoCount s) (pdosPlace s))) e .1 in
+    let e = none (someManagerWrong s) (lastOn s) (d .1) .1 in
+    let w = none (someUsageWrong s) (not (pdosFit s (pdoCount s) (pdosPlace s))) e .1 in
     record {
       managers = ltb-false 16 (managerCount s) (b .0);
       usages = ltb-false 16 (usageCount s) (c .0);

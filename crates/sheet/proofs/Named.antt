@@ -38,6 +38,14 @@ manager-read s at c e p =
 pub manager-refused : (s : List ℕ) (at n : ℕ) → refused n ≡ readControl (getD s (at + 2) 0) → refused n ≡ readManager s at
 manager-refused s at n e = stopped (five (unnamed (getD s (at + 2) 0))) (controlAt (getD s (at + 2) 0)) n (accepted (managerAt s at)) e
 
+-- one without a name stops the loop
+pub managers-stop : (s : List ℕ) (n k number : ℕ) → k < n → refused number ≡ readManager s (managerPlace k) → refused number ≡ decide (five (someBelow (unnamedAt s) n)) (managersOf s n)
+managers-stop s n k number h e =
+    let m = managerAt s (managerPlace k) in
+    let b = five-stopped (unnamedAt s k) number m e in
+    let same : unnamedAt s k ≡ someBelow (unnamedAt s) n = b ∙ sym (some-hit (unnamedAt s) k n h b) in
+    stopped (five (unnamedAt s k)) m number (accepted (managersOf s n)) e ∙ ap (λ (t : Bool). decide (five t) (managersOf s n)) same
+
 -- a turn of the loop
 pub managers-named : (s : List ℕ) (k : ℕ) (m : SyncManager) → someBelow (unnamedAt s) k ≡ false → accepted m ≡ readManager s (managerPlace k) → someBelow (unnamedAt s) (k + 1) ≡ false
 managers-named s k m h e = some-miss (unnamedAt s) k h (five-passed (unnamedAt s k) m (managerAt s (managerPlace k)) e)
@@ -47,13 +55,6 @@ managers-on s k m l h p e =
     ap (set l k) (passed-answer (five (unnamedAt s k)) (managerAt s (managerPlace k)) m e)
     ∙ filled (λ (j : ℕ). managerAt s (managerPlace j)) noManager 16 k l h p
 
--- its two ends
-pub managers-stop : (s : List ℕ) (n k number : ℕ) → k < n → refused number ≡ readManager s (managerPlace k) → refused number ≡ decide (five (someBelow (unnamedAt s) n)) (managersOf s n)
-managers-stop s n k number h e =
-    let m = managerAt s (managerPlace k) in
-    let b = five-stopped (unnamedAt s k) number m e in
-    let same : unnamedAt s k ≡ someBelow (unnamedAt s) n = b ∙ sym (some-hit (unnamedAt s) k n h b) in
-    stopped (five (unnamedAt s k)) m number (accepted (managersOf s n)) e ∙ ap (λ (t : Bool). decide (five t) (managersOf s n)) same
-
+-- the loop's end
 pub managers-end : (s : List ℕ) (n k : ℕ) (l : List SyncManager) → k ≡ n → someBelow (unnamedAt s) k ≡ false → l ≡ managersOf s k → accepted l ≡ decide (five (someBelow (unnamedAt s) n)) (managersOf s n)
 managers-end s n k l e h p = rw (← e, h, p)

@@ -79,14 +79,22 @@ unfoldable pub pdosFit : List ℕ → ℕ → ℕ → Bool
 pdosFit s zero at = eqb at (length s)
 pdosFit s (suc p) at = (leb (nextPdo s at) (length s) && kindFits (getD s at 0) (getD s (at + 4) 0)) && pdosFit s p (nextPdo s at)
 
+-- a sync manager's usage is 0 to 4, an FMMU's 0 to 3
+unfoldable pub someManagerWrong : List ℕ → Bool
+someManagerWrong s = someBelow (λ k. ltb 4 (getD s (managerPlace k + 4) 0)) (managerCount s)
+
+unfoldable pub someUsageWrong : List ℕ → Bool
+someUsageWrong s = someBelow (λ k. ltb 3 (getD s (usagesPlace s + k) 0)) (usageCount s)
+
+-- flags above bit 2 are 0, at most 16 sync managers, at most 16 usages, both within the sheet, their values, the PDOs
 unfoldable pub broken : List ℕ → Bool
 broken s =
     ltb 7 (getD s 3 0)
     || (ltb 16 (managerCount s)
     || (ltb 16 (usageCount s)
     || (ltb (length s) (pdosPlace s)
-    || (someBelow (λ k. ltb 4 (getD s (managerPlace k + 4) 0)) (managerCount s)
-    || (someBelow (λ k. ltb 3 (getD s (usagesPlace s + k) 0)) (usageCount s) || not (pdosFit s (pdoCount s) (pdosPlace s)))))))
+    || (someManagerWrong s
+    || (someUsageWrong s || not (pdosFit s (pdoCount s) (pdosPlace s)))))))
 
 -- 5: any control, wanted or not, has an unnamed mode or direction
 abbrev pub unnamedAt : List ℕ → ℕ → Bool

@@ -1,15 +1,12 @@
--- `sheet::rule_broken`: the tests that led to each return say which rule is broken.
+-- `sheet::rule_broken`: the test that led to each return says which rule is broken.
 -- Assumes nothing.
-use mathlib.Core.Path.{_≡_, sym, _∙_}
+use mathlib.Core.Path.{_≡_, sym, _∙_, ap}
+use mathlib.Core.Bool.{not}
 use native.Mathlib.Omega.{arith}
 use denote.Ref.{now}
-use borrow.Author.Tests.{eq-eqb, ne-eqb, lt-ltb, le-ltb, le-leb, lt-leb}
-use Rattle.sheet.specs.Sheet.{broken}
-use Rattle.sheet.proofs.Broken.{rules, broken-as}
+use Rattle.sheet.proofs.Broken.{flags-broken, managers-broken, usages-broken, places-broken, manager-bytes, usage-bytes, manager-broken, usage-broken, walk-same, only-walk}
 use Rattle.sheet.proofs.rule_broken.Statement.{statement}
 use Rattle.sheet.proofs.rule_broken.Tie as tie
-
-ruleset tests = (eq-eqb, ne-eqb, lt-ltb, le-ltb, le-leb, lt-leb)
 
 shared-slice-read-wide : tie.Need-shared-slice-read-wide
 shared-slice-read-wide c = omega arith
@@ -32,20 +29,29 @@ wide-requires-3 c κs = tt
 shared-slice-read-if1 : tie.Need-shared-slice-read-if1
 shared-slice-read-if1 c = omega arith
 
--- the rules with the counts as the code has them
-chained : (c : tie.After-wide3) → let w = c .before .before .before .before in let s = now (w .before .before .before .args .sheet) in broken s ≡ rules s (w .wide .result) (c .before .before .wide2 .result) (c .wide3 .result)
-chained c =
-    let w = c .before .before .before .before in
-    broken-as (now (w .before .before .before .args .sheet)) _ _ _ (w .wide .ensures .0) (c .before .before .wide2 .ensures .0) (c .wide3 .ensures .0)
-
 returns : tie.Need-returns
-returns c = sym (chained (c .before .before) ∙ search tests)
+returns c =
+    let w = c .before .before in
+    let f = w .before .before in
+    let n = f .before .before in
+    let s = now (n .before .before .before .args .sheet) in
+    sym (flags-broken s (omega arith))
 
 returns-2 : tie.Need-returns-2
-returns-2 c = sym (chained (c .before .before .before) ∙ search tests)
+returns-2 c =
+    let w = c .before .before .before in
+    let f = w .before .before in
+    let n = f .before .before in
+    let s = now (n .before .before .before .args .sheet) in
+    sym (managers-broken s (omega arith))
 
 returns-3 : tie.Need-returns-3
-returns-3 c = sym (chained (c .before .before .before .before) ∙ search tests)
+returns-3 c =
+    let w = c .before .before .before .before in
+    let f = w .before .before in
+    let n = f .before .before in
+    let s = now (n .before .before .before .args .sheet) in
+    sym (usages-broken s (omega arith))
 
 mul-usages : tie.Need-mul-usages
 mul-usages c = omega arith
@@ -57,25 +63,52 @@ add-pdos : tie.Need-add-pdos
 add-pdos c = omega arith
 
 returns-4 : tie.Need-returns-4
-returns-4 c = sym (chained (c .before .before .before .before .before) ∙ search tests)
+returns-4 c =
+    let w = c .before .before .before .before .before in
+    let f = w .before .before in
+    let n = f .before .before in
+    let s = now (n .before .before .before .args .sheet) in
+    sym (places-broken s (omega arith))
 
 some-above-requires : tie.Need-some-above-requires
 some-above-requires c κs = (omega arith, λ k h. omega arith)
 
 returns-5 : tie.Need-returns-5
-returns-5 c = sym (chained (c .before .before .before .before .before .before .before) ∙ search (tests, sym (c .before .some-above .ensures) ∙ c .if5 .taken))
+returns-5 c =
+    let w = c .before .before .before .before .before .before .before in
+    let f = w .before .before in
+    let n = f .before .before in
+    let s = now (n .before .before .before .args .sheet) in
+    sym (manager-broken s (manager-bytes s (n .wide .result) (n .wide .ensures .0) (c .before .some-above .ensures) ∙ c .if5 .taken))
 
 some-above-requires-2 : tie.Need-some-above-requires-2
 some-above-requires-2 c κs = (omega arith, λ k h. omega arith)
 
 returns-6 : tie.Need-returns-6
-returns-6 c = sym (chained (c .before .before .before .before .before .before .before .before .before) ∙ search (tests, sym (c .before .before .before .some-above .ensures) ∙ c .before .before .if5 .left, sym (c .before .some-above2 .ensures) ∙ c .if6 .taken))
+returns-6 c =
+    let w = c .before .before .before .before .before .before .before .before .before in
+    let f = w .before .before in
+    let n = f .before .before in
+    let s = now (n .before .before .before .args .sheet) in
+    sym (usage-broken s (usage-bytes s (n .wide .result) (f .wide2 .result) (n .wide .ensures .0) (f .wide2 .ensures .0) (c .before .some-above2 .ensures) ∙ c .if6 .taken))
 
 pdos-fit-requires : tie.Need-pdos-fit-requires
 pdos-fit-requires c κs = (omega arith, omega arith)
 
 returns-7 : tie.Need-returns-7
-returns-7 c = sym (chained (c .before .before .before .before .before .before .before .before .before .before) ∙ search (tests, sym (c .before .before .before .before .some-above .ensures) ∙ c .before .before .before .if5 .left, sym (c .before .before .some-above2 .ensures) ∙ c .before .if6 .left, sym (c .pdos-fit .ensures)))
+returns-7 c =
+    let u = c .before .before in
+    let m = u .before .before in
+    let w = m .before .before .before .before .before .before in
+    let f = w .before .before in
+    let n = f .before .before in
+    let s = now (n .before .before .before .args .sheet) in
+    let en = n .wide .ensures .0 in
+    let ef = f .wide2 .ensures .0 in
+    let hm = manager-bytes s (n .wide .result) en (m .some-above .ensures) ∙ u .before .if5 .left in
+    let hu = usage-bytes s (n .wide .result) (f .wide2 .result) en ef (u .some-above2 .ensures) ∙ c .before .if6 .left in
+    ap not (c .pdos-fit .ensures ∙ walk-same s en ef (w .wide3 .ensures .0))
+    ∙ sym (only-walk s (omega arith) (omega arith) (omega arith) (omega arith) hm hu)
 
 pub rule-broken-spec : {M : Type 1} → statement M
 rule-broken-spec =

@@ -1,44 +1,53 @@
--- `sheet::wrong_length`: the tests that led to each return say which part of `wrongLength` holds.
+-- `sheet::wrong_length`: the test that led to each return says which part of the length's rule is broken.
 -- Assumes nothing.
-use mathlib.Core.Path.{sym, _∙_}
+use mathlib.Core.Path.{_≡_, sym}
+use Prim.Native.Nat.{_+_}
 use native.Mathlib.Omega.{arith}
 use denote.Ref.{now}
-use borrow.Author.Needs.{needs}
-use borrow.Author.Tests.{eq-eqb, ne-eqb, lt-ltb, le-ltb, le-leb, lt-leb}
-use Rattle.sheet.specs.Sheet.{wrongLength}
-use Rattle.sheet.proofs.Broken.{length-as}
+use lib.ListN.{length}
+use Rattle.sheet.specs.Sheet.{follow}
+use Rattle.sheet.proofs.Broken.{short, other-length, too-low, only-high}
 use Rattle.sheet.proofs.wrong_length.Statement.{statement}
 use Rattle.sheet.proofs.wrong_length.Tie as tie
 
-ruleset tests = (eq-eqb, ne-eqb, lt-ltb, le-ltb, le-leb, lt-leb)
-
 returns : tie.Need-returns
-unfolding wrongLength
-returns c = search tests
+returns c = sym (short (now (c .before .before .args .sheet)) (c .if1 .taken))
 
 shared-slice-read-be16 : tie.Need-shared-slice-read-be16
-shared-slice-read-be16 c = search needs
+shared-slice-read-be16 c = omega arith
 
 shared-slice-read-be16-2 : tie.Need-shared-slice-read-be16-2
-shared-slice-read-be16-2 c = search needs
+shared-slice-read-be16-2 c = omega arith
 
 be16-requires : tie.Need-be16-requires
-be16-requires c κs = search needs
+be16-requires c κs = tt
 
 cast-follow : tie.Need-cast-follow
-cast-follow c = search needs
+cast-follow c = omega arith
 
 add-if2 : tie.Need-add-if2
-add-if2 c = search needs
+add-if2 c = omega arith
 
 returns-2 : tie.Need-returns-2
-returns-2 c = sym (length-as (now (c .before .before .before .before .before .before .args .sheet)) (c .before .be16 .result) (c .before .be16 .ensures) ∙ search tests)
+returns-2 c =
+    let be = c .before .be16 in
+    let s = now (c .before .before .before .before .before .before .args .sheet) in
+    let e : be .result ≡ follow s = be .ensures in
+    sym (other-length s (λ h. c .if2 .taken (omega arith)))
 
 returns-3 : tie.Need-returns-3
-returns-3 c = sym (length-as (now (c .before .before .before .before .before .before .before .args .sheet)) (c .before .before .be16 .result) (c .before .before .be16 .ensures) ∙ search tests)
+returns-3 c =
+    let be = c .before .before .be16 in
+    let s = now (c .before .before .before .before .before .before .before .args .sheet) in
+    let e : be .result ≡ follow s = be .ensures in
+    sym (too-low s (omega arith))
 
 returns-4 : tie.Need-returns-4
-returns-4 c = sym (length-as (now (c .before .before .before .before .before .before .before .args .sheet)) (c .before .before .be16 .result) (c .before .before .be16 .ensures) ∙ search tests)
+returns-4 c =
+    let be = c .before .before .be16 in
+    let s = now (c .before .before .before .before .before .before .before .args .sheet) in
+    let e : be .result ≡ follow s = be .ensures in
+    sym (only-high s (be .result) e (omega arith) (omega arith) (omega arith))
 
 pub wrong-length-spec : {M : Type 1} → statement M
 wrong-length-spec =
