@@ -24,7 +24,7 @@ answer-determined (Refused n) x = refl
 same-read : (s : List ℕ) (x y : SheetRead) → ReadsAs s x → ReadsAs s y → x ≡ y
 same-read s x y p q =
     let a : x .answer ≡ y .answer =
-        sym (answer-determined (x .answer) (dataOf (x .device) s)) ∙ ap answer-back (same (p .says) (q .says)) ∙ answer-determined (y .answer) (dataOf (y .device) s) in
+    sym (answer-determined (x .answer) (dataOf (x .device) s)) ∙ ap answer-back (same (p .says) (q .says)) ∙ answer-determined (y .answer) (dataOf (y .device) s) in
     λ i. record { answer = a i; device = same (p .holds) (q .holds) i }
 
 pub read-pins : Pins read.Post (λ κs r s. r)

@@ -1,13 +1,13 @@
 // The device sheet: the one form in which a bay comes in, read whole.
 ghost use mathlib.Core.Path.{_≡_};
-ghost use mathlib.Core.Bool.{true, false, cond};
-ghost use mathlib.Core.List.{[], _∷_, _++_};
+ghost use mathlib.Core.Bool.{false};
+ghost use mathlib.Core.List.{[], _∷_};
 ghost use Rattle.wire.specs.Outcome as Outcome;
 ghost use Rattle.wire.specs.Outcome.{when, decide};
-ghost use Prim.Native.Nat.{ℕ, _+_, _*_, _-_, _≤_, _<_};
-ghost use lib.ListN.{length, getD, replicate};
+ghost use Prim.Native.Nat.{ℕ, _+_, _*_, _≤_, _<_};
+ghost use lib.ListN.{length, getD};
 ghost use lib.Dec.{ltb};
-ghost use Rattle.sheet.specs.Lists.{listOf, someBelow};
+ghost use Rattle.sheet.specs.Lists.{someBelow};
 ghost use Rattle.sheet.specs.Sheet.{wrongLength, kindFits, pdosFit, broken, unnamedAt, someUnnamed, managersOf, usagesOf, deviceOf, readManager, managerReadOf, answerOf, sheetReadOf, ReadsAs};
 use pdi::ByteLen;
 use sync_manager_channel::Control;
@@ -265,22 +265,6 @@ fn refused(number: u8) -> SheetRead
     }
 }
 
-// Reads a sheet whole: device data, or the lowest of 2 to 5 that holds.
-pub fn read(sheet: &[u8]) -> SheetRead
-    ensures { λ r. ⌜ ReadsAs (now (sheet .entry)) r ⌝ }
-{
-    if wrong_length(sheet) {
-        return refused(2);
-    }
-    if sheet[2] != 1 {
-        return refused(3);
-    }
-    if rule_broken(sheet) {
-        return refused(4);
-    }
-    device_of(sheet)
-}
-
 // The device data of a sheet that keeps every rule but, perhaps, that controls have names.
 fn device_of(sheet: &[u8]) -> SheetRead
     requires { ⌜ (11 ≤ length (now sheet)) × (length (now sheet) ≤ 16386) × (broken (now sheet) ≡ false) ⌝ }
@@ -312,4 +296,20 @@ fn device_of(sheet: &[u8]) -> SheetRead
             p: wide(sheet[10]),
         },
     }
+}
+
+// Reads a sheet whole: device data, or the lowest of 2 to 5 that holds.
+pub fn read(sheet: &[u8]) -> SheetRead
+    ensures { λ r. ⌜ ReadsAs (now (sheet .entry)) r ⌝ }
+{
+    if wrong_length(sheet) {
+        return refused(2);
+    }
+    if sheet[2] != 1 {
+        return refused(3);
+    }
+    if rule_broken(sheet) {
+        return refused(4);
+    }
+    device_of(sheet)
 }
