@@ -1,10 +1,9 @@
 -- Sync managers read one after another: each with a name, or 5.
 -- Assumes nothing.
-use mathlib.Core.Path.{_≡_, refl, sym, _∙_, ap, ap₂}
+use mathlib.Core.Path.{_≡_, refl, sym, _∙_, ap}
 use mathlib.Core.Bool.{Bool, true, false}
 use mathlib.Core.List.{List, [], _∷_}
 use Prim.Native.Nat.{ℕ, _+_, _<_}
-use native.Mathlib.Omega.{arith}
 use lib.ListN.{getD, set}
 use Rattle.wire.specs.Outcome.{Refusal, refused, accepted, when, decide}
 use Rattle.wire.proofs.Order.{never, passed, passed-answer, stopped}

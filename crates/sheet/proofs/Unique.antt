@@ -9,7 +9,7 @@ use Rattle.sheet.specs.declared.Answer.{Answer}
 use Rattle.sheet.specs.declared.Answer.the-variants.{Accepted, Refused}
 use Rattle.sheet.specs.declared.SheetRead.{SheetRead}
 use Rattle.sheet.specs.Device.{dataOf}
-use Rattle.sheet.specs.Sheet.{answerOf, readSheet, ReadsAs}
+use Rattle.sheet.specs.Sheet.{answerOf, ReadsAs}
 use Rattle.sheet.proofs.read.Reads as read
 
 -- the number determines the answer

@@ -1,7 +1,5 @@
 // Runs the reader of device sheets: document 01's sample whole and damaged, and the limits of each rule. What it must write,
 // `stdout`, was made by tests/sheets.py from document 01 alone, and shares nothing with the code that runs here.
-ghost use mathlib.Core.Path.{_≡_};
-ghost use lib.ListN.{length};
 use libc::STDOUT_FILENO;
 use sheet::Answer;
 use sheet::Device;
@@ -193,8 +191,8 @@ fn heads() {
     );
 }
 
-// Sync managers: controls, enables and usages.
-fn managers() {
+// Controls and enables of sync managers.
+fn controls() {
     named(
         b"control a6, enable fe",
         b"\x00\x0e\x01\x00\x00\x00\x00\x00\x01\x00\x00\x10\x00\xa6\xfe\x01",
@@ -219,6 +217,10 @@ fn managers() {
         b"control 0c, usage 3",
         b"\x00\x0e\x01\x00\x00\x00\x00\x00\x01\x00\x00\x10\x00\x0c\x00\x03",
     );
+}
+
+// The order of 3, 4 and 5; usages of sync managers.
+fn managers() {
     named(
         b"control 23, usage 5",
         b"\x00\x0e\x01\x00\x00\x00\x00\x00\x01\x00\x00\x10\x00\x23\x01\x05",
@@ -323,69 +325,11 @@ fn kinds() {
 
 // ---- the sample of document 01
 
-fn sample() -> [u8; 58]
-    ensures { λ r. ⌜ 58 ≡ length r ⌝ }
-{
-    [
-        0x00,
-        0x38,
-        0x01,
-        0x03,
-        0x00,
-        0x80,
-        0x00,
-        0x80,
-        0x05,
-        0x02,
-        0x03,
-        0x10,
-        0x00,
-        0x26,
-        0x01,
-        0x01,
-        0x10,
-        0x80,
-        0x22,
-        0x01,
-        0x02,
-        0x11,
-        0x00,
-        0x64,
-        0x01,
-        0x03,
-        0x11,
-        0x80,
-        0x20,
-        0x01,
-        0x04,
-        0x11,
-        0x83,
-        0x20,
-        0x01,
-        0x04,
-        0x01,
-        0x02,
-        0x00,
-        0x03,
-        0x1a,
-        0x00,
-        0x02,
-        0x0c,
-        0x05,
-        0x00,
-        0x04,
-        0x1a,
-        0x01,
-        0x02,
-        0x08,
-        0x01,
-        0x00,
-        0x02,
-        0x16,
-        0x00,
-        0x01,
-        0x10,
-    ]
+fn sample(room: &mut [u8]) {
+    wire::copy(
+        b"\x00\x38\x01\x03\x00\x80\x00\x80\x05\x02\x03\x10\x00\x26\x01\x01\x10\x80\x22\x01\x02\x11\x00\x64\x01\x03\x11\x80\x20\x01\x04\x11\x83\x20\x01\x04\x01\x02\x00\x03\x1a\x00\x02\x0c\x05\x00\x04\x1a\x01\x02\x08\x01\x00\x02\x16\x00\x01\x10",
+        room,
+    );
 }
 
 // The first n bytes of it, for each n.
@@ -398,15 +342,15 @@ fn fronts(whole: &[u8]) {
 }
 
 fn one_more() {
-    let whole = sample();
     let mut long = [0u8; 59];
-    wire::copy(&whole, &mut long);
+    sample(&mut long);
     line(&long);
 }
 
 // One byte of it set to 255, for each byte.
 fn damaged(i: usize) {
-    let mut whole = sample();
+    let mut whole = [0u8; 58];
+    sample(&mut whole);
     if i < 58 {
         whole[i] = 255;
         line(&whole);
@@ -414,7 +358,8 @@ fn damaged(i: usize) {
 }
 
 fn sample_and_damage() {
-    let whole = sample();
+    let mut whole = [0u8; 58];
+    sample(&mut whole);
     say(b"the sample's fronts\n");
     fronts(&whole);
     say(b"one byte more\n");
@@ -527,6 +472,7 @@ fn sixteen_usages() {
 
 fn main() {
     heads();
+    controls();
     managers();
     usages_and_coe();
     kinds();

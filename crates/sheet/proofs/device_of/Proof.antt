@@ -1,13 +1,11 @@
 -- `sheet::device_of`: the sync managers' refusal is the device's; else each field is read from its bytes.
 -- Assumes nothing.
-use mathlib.Core.Path.{_≡_, sym, _∙_, ap, ap₂}
-use Prim.Native.Nat.{ℕ, _+_, _*_, _≤_}
+use mathlib.Core.Path.{sym, _∙_, ap, ap₂}
+use Prim.Native.Nat.{ℕ, _+_, _*_}
 use native.Mathlib.Omega.{arith}
 use denote.Ref.{now}
-use lib.ListN.{length, getD}
-use Rattle.wire.specs.Outcome.{refused, accepted}
 use Rattle.sheet.specs.declared.Answer.{Answer}
-use Rattle.sheet.specs.Sheet.{managerCount, usagesOf, deviceOf, answerOf}
+use Rattle.sheet.specs.Sheet.{usagesOf, deviceOf, answerOf}
 use Rattle.sheet.proofs.Broken.{kept}
 use Rattle.sheet.proofs.Reading.{device-refused, managers-list, device-read}
 use borrow.Author.Needs.{needs}

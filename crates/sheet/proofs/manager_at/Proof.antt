@@ -4,7 +4,7 @@ use mathlib.Core.Path.{_≡_, sym, _∙_, ap}
 use Prim.Native.Nat.{_+_}
 use native.Mathlib.Omega.{arith}
 use denote.Ref.{now}
-use lib.ListN.{length, getD}
+use lib.ListN.{getD}
 use Rattle.wire.specs.Outcome.{refused, accepted}
 use Rattle.sync_manager_channel.specs.Image.{readControl, controlReadOf}
 use Rattle.sheet.proofs.Named.{manager-control, manager-read, manager-refused}

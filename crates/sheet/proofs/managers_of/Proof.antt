@@ -2,11 +2,10 @@
 -- Assumes nothing.
 use mathlib.Core.Path.{_≡_, refl, sym, _∙_, ap}
 use mathlib.Core.Bool.{false}
-use Prim.Native.Nat.{ℕ, _+_, _*_, _-_, _≤_, _<_}
+use Prim.Native.Nat.{_-_, _≤_}
 use native.Mathlib.Omega.{arith}
 use denote.Ref.{now}
-use lib.ListN.{length}
-use Rattle.wire.specs.Outcome.{refused, accepted}
+use Rattle.wire.specs.Outcome.{accepted}
 use Rattle.sync_manager_channel.specs.Image.{controlAt}
 use Rattle.sheet.specs.Lists.{listOf, someBelow}
 use Rattle.sheet.specs.Sheet.{managerPlace, unnamedAt, managersOf, readManager, managerReadOf}

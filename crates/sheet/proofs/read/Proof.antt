@@ -1,16 +1,13 @@
 -- `sheet::read`: the tests that led to each return say which refusal is the first.
 -- Assumes nothing.
 use mathlib.Core.Path.{_≡_, sym, _∙_}
-use mathlib.Core.Bool.{false, true}
+use mathlib.Core.Bool.{false}
 use mathlib.Core.List.{[], _∷_}
-use Prim.Native.Nat.{_≤_}
 use native.Mathlib.Omega.{arith}
 use denote.Ref.{now}
-use lib.ListN.{length, getD}
-use lib.Dec.{eqb}
 use borrow.Author.Tests.{eq-eqb, ne-eqb}
 use Rattle.wire.specs.Outcome.{refused, when, decide}
-use Rattle.sheet.specs.Sheet.{wrongLength, broken, someUnnamed, deviceOf}
+use Rattle.sheet.specs.Sheet.{wrongLength, someUnnamed, deviceOf}
 use Rattle.sheet.proofs.Broken.{long}
 use Rattle.sheet.proofs.Reading.{reads-as}
 use Rattle.sheet.proofs.read.Statement.{statement}

@@ -1,10 +1,10 @@
 -- `sheet::usages_of`: after k turns the first k usages stand in the list.
 -- Assumes nothing.
 use mathlib.Core.Path.{_≡_, refl, _∙_, ap}
-use Prim.Native.Nat.{ℕ, _+_, _-_, _≤_, _<_}
+use Prim.Native.Nat.{ℕ, _+_, _-_, _≤_}
 use native.Mathlib.Omega.{arith}
 use denote.Ref.{now}
-use lib.ListN.{length, getD}
+use lib.ListN.{getD}
 use Rattle.sheet.specs.Lists.{listOf}
 use Rattle.sheet.specs.Sheet.{usagesOf}
 use Rattle.sheet.proofs.Lists.{filled}

@@ -1,10 +1,8 @@
 -- `sheet::wrong_length`: the test that led to each return says which part of the length's rule is broken.
 -- Assumes nothing.
 use mathlib.Core.Path.{_≡_, sym}
-use Prim.Native.Nat.{_+_}
 use native.Mathlib.Omega.{arith}
 use denote.Ref.{now}
-use lib.ListN.{length}
 use Rattle.sheet.specs.Sheet.{follow}
 use Rattle.sheet.proofs.Broken.{short, other-length, too-low, only-high}
 use Rattle.sheet.proofs.wrong_length.Statement.{statement}

@@ -11,6 +11,9 @@ Inv-loop i₀ i = i ≤ 58
 abbrev μ-loop : tie.MeasureT-loop
 μ-loop i₀ i = 58 - i
 
+slice-aggregate-sample : tie.Need-slice-aggregate-sample Inv-loop μ-loop
+slice-aggregate-sample c = omega arith
+
 sample-requires : tie.Need-sample-requires Inv-loop μ-loop
 sample-requires c κs = tt
 
@@ -65,6 +68,7 @@ sample-and-damage-spec =
     (tie.spec
     Inv-loop
     μ-loop
+    slice-aggregate-sample
     sample-requires
     slice-aggregate-say
     say-requires
