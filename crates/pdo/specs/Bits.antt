@@ -1,8 +1,8 @@
 -- The exact bits of each wanted sync manager.
 -- Assumes nothing.
-use mathlib.Core.Bool.{Bool, true, false, cond, _&&_, _||_}
+use mathlib.Core.Bool.{Bool, false, cond, _&&_, _||_}
 use mathlib.Core.List.{List, [], _∷_, map}
-use Prim.Native.Nat.{ℕ, zero, suc, _+_, _*_}
+use Prim.Native.Nat.{ℕ, suc, _+_, _*_}
 use lib.Dec.{eqb, ltb}
 use Rattle.sheet.specs.Device.{Pdo, Data}
 use Rattle.pdi.specs.declared.BitLen.{BitLen}
@@ -41,8 +41,11 @@ othersOf [] = []
 othersOf (w ∷ ws) = ws
 
 -- CoE is on if flag bits 0 and 1 are set and a read mailbox of length above 0 exists
+abbrev pub coeOn : Bool → Bool → ℕ → List SyncManager → Bool
+coeOn mailbox protocol send managers = mailbox && (protocol && (ltb 0 send && someOf (λ (m : SyncManager). eqb (m .«usage_type») 2) managers))
+
 unfoldable pub byCoe : Data → Bool
-byCoe d = d .mailbox && (d .coeProtocol && (ltb 0 (d .send) && someOf (λ (m : SyncManager). eqb (m .«usage_type») 2) (d .managers)))
+byCoe d = coeOn (d .mailbox) (d .coeProtocol) (d .send) (d .managers)
 
 -- the PDOs that count: kind 0 on the CoE path, else the direction's kind
 abbrev pub pathKind : Data → PdoDirection → ℕ

@@ -1,7 +1,7 @@
 // Directions, and the exact bits of each sync manager, summed in one walk over the PDO records.
 ghost use mathlib.Core.Path.{_≡_};
-ghost use Prim.Native.Nat.{ℕ, _+_, _*_, _≤_};
-ghost use lib.ListN.{getD};
+ghost use Prim.Native.Nat.{_+_, _≤_};
+ghost use lib.ListN.{length, getD};
 ghost use Rattle.sheet.specs.Lists.{listOf};
 ghost use Rattle.sheet.specs.Sound.{sum};
 ghost use Rattle.sheet.specs.Device.{pdoAt, pdosFrom};
@@ -58,19 +58,33 @@ fn wide(x: u8) -> usize
     x as usize
 }
 
+// The sum of the bytes of a part.
+fn sum_bytes(part: &[u8]) -> u64
+    requires { ⌜ length (now part) ≤ 255 ⌝ }
+    ensures { λ r. ⌜ (r ≡ sum (now (part .entry))) × (r ≤ 65025) ⌝ }
+{
+    let mut total: u64 = 0;
+    let mut k = 0;
+    while k < part.len() {
+        total += wide(part[k]) as u64;
+        k += 1;
+    }
+    total
+}
+
 // The sum of m bytes; past the end they count as 0.
 fn sum_of(bytes: &[u8], from: usize, m: u8) -> u64
     requires { ⌜ from ≤ 9223372036854775813 ⌝ }
     ensures { λ r. ⌜ (r ≡ sum (listOf (λ k. getD (now (bytes .entry)) (from + k) 0) m)) × (r ≤ 65025) ⌝ }
 {
-    let mut total: u64 = 0;
-    let mut k = 0;
-    let count = wide(m);
-    while k < count {
-        total += byte_at(bytes, from + k) as u64;
-        k += 1;
+    let end = from + wide(m);
+    if end <= bytes.len() {
+        return sum_bytes(&bytes[from..end]);
     }
-    total
+    if bytes.len() <= from {
+        return 0;
+    }
+    sum_bytes(&bytes[from..])
 }
 
 // The bits of the PDO at a place.
@@ -89,7 +103,7 @@ fn multiplier_at(multipliers: &[u8], i: usize) -> u64
     ensures { λ r. ⌜ (r ≡ getD (now (multipliers .entry)) i 1) × (r ≤ 255) ⌝ }
 {
     if i < multipliers.len() {
-        return multipliers[i] as u64;
+        return wide(multipliers[i]) as u64;
     }
     1
 }

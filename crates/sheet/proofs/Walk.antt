@@ -1,16 +1,22 @@
 -- The walk over PDO records: a turn of it, and its end.
 -- Assumes nothing.
-use mathlib.Core.Path.{_≡_, refl, sym, _∙_, ap}
+use mathlib.Core.Path.{_≡_, refl}
 use mathlib.Core.Bool.{Bool, true, false, _&&_}
 use mathlib.Core.List.{List}
 use Prim.Native.Nat.{ℕ, zero, suc, _+_, _-_, _≤_, _<_}
 use native.Mathlib.Numerals.{sub-one}
 use native.Mathlib.Omega.{arith}
 use lib.ListN.{length, getD}
-use lib.Dec.{leb}
+use lib.Dec.{eqb, leb}
 use borrow.Author.Tests.{le-leb, lt-leb}
 use Rattle.sheet.specs.Device.{nextPdo}
 use Rattle.sheet.specs.Sheet.{kindFits, pdosFit}
+
+-- no record is left
+pub walk-end : (s : List ℕ) (left at : ℕ) → left ≤ 0 → pdosFit s left at ≡ eqb at (length s)
+unfolding pdosFit
+walk-end s zero at l = refl
+walk-end s (suc n) at l = absurd (omega arith)
 
 -- a record that runs past the end
 pub walk-past : (s : List ℕ) (left at : ℕ) → 0 < left → length s < nextPdo s at → pdosFit s left at ≡ false

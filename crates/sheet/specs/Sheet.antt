@@ -1,7 +1,7 @@
 -- The grammar of the device sheet (document 01, 'The device sheet'), big-endian: from bytes to device data or a refusal.
 -- Assumes nothing.
 use mathlib.Core.Path.{_≡_}
-use mathlib.Core.Bool.{Bool, true, false, cond, not, _&&_, _||_}
+use mathlib.Core.Bool.{Bool, false, not, _&&_, _||_}
 use mathlib.Core.List.{List, [], _∷_, _++_}
 use Prim.Native.Nat.{ℕ, zero, suc, _+_, _*_, _-_}
 use lib.ListN.{length, getD, replicate}
@@ -17,6 +17,8 @@ use Rattle.sheet.specs.declared.Device.{Device}
 use Rattle.sheet.specs.declared.Answer.{Answer}
 use Rattle.sheet.specs.declared.Answer.the-variants.{Accepted, Refused}
 use Rattle.sheet.specs.declared.SheetRead.{SheetRead}
+use Rattle.sheet.specs.declared.ManagerRead.{ManagerRead}
+use Rattle.sheet.specs.declared.ManagerRead.the-variants as manager
 
 -- 0-1: L, the bytes that follow
 abbrev pub follow : List ℕ → ℕ
@@ -52,6 +54,14 @@ managerAt s at =
       «usage_type» = getD s (at + 4) 0;
     }
 
+-- one is read, or refused with 5
+abbrev pub readManager : List ℕ → ℕ → Outcome SyncManager
+readManager s at = decide (when 5 (unnamed (getD s (at + 2) 0)) ∷ []) (managerAt s at)
+
+abbrev pub managerReadOf : ManagerRead → Outcome SyncManager
+managerReadOf (manager.Manager m) = accepted m
+managerReadOf (manager.Refused n) = refused n
+
 -- 2: under 2 bytes, not L+2 long, or L out of range
 unfoldable pub wrongLength : List ℕ → Bool
 wrongLength s = ltb (length s) 2 || (not (eqb (length s) (follow s + 2)) || (ltb (follow s) 9 || ltb 16384 (follow s)))
@@ -61,7 +71,7 @@ abbrev pub wrongVersion : List ℕ → Bool
 wrongVersion s = not (eqb (getD s 2 0) 1)
 
 -- 4: another sheet rule is broken. A PDO: kind 0, or kinds 1 and 2 with m = 2
-abbrev pub kindFits : ℕ → ℕ → Bool
+unfoldable pub kindFits : ℕ → ℕ → Bool
 kindFits kind m = eqb kind 0 || ((eqb kind 1 || eqb kind 2) && eqb m 2)
 
 -- p of them from a place on, none past the end, and the sheet ends there
@@ -69,14 +79,22 @@ unfoldable pub pdosFit : List ℕ → ℕ → ℕ → Bool
 pdosFit s zero at = eqb at (length s)
 pdosFit s (suc p) at = (leb (nextPdo s at) (length s) && kindFits (getD s at 0) (getD s (at + 4) 0)) && pdosFit s p (nextPdo s at)
 
+-- a sync manager's usage is 0 to 4, an FMMU's 0 to 3
+unfoldable pub someManagerWrong : List ℕ → Bool
+someManagerWrong s = someBelow (λ k. ltb 4 (getD s (managerPlace k + 4) 0)) (managerCount s)
+
+unfoldable pub someUsageWrong : List ℕ → Bool
+someUsageWrong s = someBelow (λ k. ltb 3 (getD s (usagesPlace s + k) 0)) (usageCount s)
+
+-- flags above bit 2 are 0, at most 16 sync managers, at most 16 usages, both within the sheet, their values, the PDOs
 unfoldable pub broken : List ℕ → Bool
 broken s =
     ltb 7 (getD s 3 0)
     || (ltb 16 (managerCount s)
     || (ltb 16 (usageCount s)
     || (ltb (length s) (pdosPlace s)
-    || (someBelow (λ k. ltb 4 (getD s (managerPlace k + 4) 0)) (managerCount s)
-    || (someBelow (λ k. ltb 3 (getD s (usagesPlace s + k) 0)) (usageCount s) || not (pdosFit s (pdoCount s) (pdosPlace s)))))))
+    || (someManagerWrong s
+    || (someUsageWrong s || not (pdosFit s (pdoCount s) (pdosPlace s)))))))
 
 -- 5: any control, wanted or not, has an unnamed mode or direction
 abbrev pub unnamedAt : List ℕ → ℕ → Bool
@@ -111,13 +129,11 @@ readSheet s = decide (sheetRefusals s) (sheetData s)
 abbrev pub noManager : SyncManager
 noManager = record { «start_addr» = 0; control = controlAt 0; enable = false; «usage_type» = 0 }
 
--- n of them, and nothing where one has no name
-unfoldable pub managersRead : List ℕ → ℕ → List SyncManager
-managersRead s n =
-    cond
-    (someBelow (unnamedAt s) n)
-    (replicate 16 noManager)
-    (listOf (λ k. managerAt s (managerPlace k)) n ++ replicate (16 - n) noManager)
+abbrev pub managersOf : List ℕ → ℕ → List SyncManager
+managersOf s n = listOf (λ k. managerAt s (managerPlace k)) n ++ replicate (16 - n) noManager
+
+abbrev pub usagesOf : List ℕ → ℕ → ℕ → List ℕ
+usagesOf s at f = listOf (λ k. getD s (at + k) 0) f ++ replicate (16 - f) 0
 
 unfoldable pub deviceOf : List ℕ → Device
 deviceOf s =
@@ -127,9 +143,9 @@ deviceOf s =
       «complete_access» = flagAt (getD s 3 0) 2;
       «receive_size» = record { 0 = bigAt s 4 2 };
       «send_size» = record { 0 = bigAt s 6 2 };
-      managers = listOf (λ k. managerAt s (managerPlace k)) (managerCount s) ++ replicate (16 - managerCount s) noManager;
+      managers = managersOf s (managerCount s);
       n = managerCount s;
-      usages = listOf (λ k. getD s (usagesPlace s + k) 0) (usageCount s) ++ replicate (16 - usageCount s) 0;
+      usages = usagesOf s (usagesPlace s) (usageCount s);
       f = usageCount s;
       pdos = pdosPlace s;
       p = pdoCount s;
@@ -155,6 +171,11 @@ noDevice =
 abbrev pub answerOf : {A : Type 0} → Answer → A → Outcome A
 answerOf Accepted x = accepted x
 answerOf (Refused n) x = refused n
+
+-- an outcome in the form that code answers it: nothing beside a refusal
+abbrev pub sheetReadOf : Outcome Device → SheetRead
+sheetReadOf (refused n) = record { answer = Refused n; device = noDevice }
+sheetReadOf (accepted d) = record { answer = Accepted; device = d }
 
 -- the promise of reading: the grammar's answer, and nothing beside a refusal
 abbrev pub deviceAfter : Outcome Data → List ℕ → Device

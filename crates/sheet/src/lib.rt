@@ -1,13 +1,14 @@
 // The device sheet: the one form in which a bay comes in, read whole.
 ghost use mathlib.Core.Path.{_≡_};
-ghost use mathlib.Core.Bool.{true, false, cond};
-ghost use mathlib.Core.List.{[], _∷_, _++_};
+ghost use mathlib.Core.Bool.{false};
+ghost use mathlib.Core.List.{[], _∷_};
+ghost use Rattle.wire.specs.Outcome as Outcome;
 ghost use Rattle.wire.specs.Outcome.{when, decide};
-ghost use Prim.Native.Nat.{ℕ, _+_, _*_, _-_, _≤_, _<_};
-ghost use lib.ListN.{length, getD, replicate};
+ghost use Prim.Native.Nat.{ℕ, _+_, _*_, _≤_, _<_};
+ghost use lib.ListN.{length, getD};
 ghost use lib.Dec.{ltb};
-ghost use Rattle.sheet.specs.Lists.{listOf, someBelow};
-ghost use Rattle.sheet.specs.Sheet.{wrongLength, kindFits, pdosFit, broken, unnamedAt, someUnnamed, managersRead, deviceOf, noDevice, answerOf, ReadsAs};
+ghost use Rattle.sheet.specs.Lists.{someBelow};
+ghost use Rattle.sheet.specs.Sheet.{wrongLength, kindFits, pdosFit, broken, unnamedAt, someUnnamed, managersOf, usagesOf, deviceOf, readManager, managerReadOf, answerOf, sheetReadOf, ReadsAs};
 use pdi::ByteLen;
 use sync_manager_channel::Control;
 use sync_manager_channel::ControlRead;
@@ -75,7 +76,7 @@ fn wrong_length(sheet: &[u8]) -> bool
 
 // Whether some byte of a row is above its limit: `count` bytes from `at` on, `step` apart.
 fn some_above(sheet: &[u8], at: usize, step: usize, count: usize, limit: u8) -> bool
-    requires { ⌜ (at < 128) × (step ≤ 5) × (count ≤ 16) × ((k : ℕ) → k < count → at + step * k < length (now sheet)) ⌝ }
+    requires { ⌜ (length (now sheet) ≤ 16386) × ((k : ℕ) → k < count → at + step * k < length (now sheet)) ⌝ }
     ensures { λ r. ⌜ r ≡ someBelow (λ k. ltb limit (getD (now (sheet .entry)) (at + step * k) 0)) count ⌝ }
 {
     let mut k = 0;
@@ -160,10 +161,25 @@ fn rule_broken(sheet: &[u8]) -> bool
     !pdos_fit(sheet, p, pdos)
 }
 
-// The sync managers of a sheet, or 5 where a control has no name.
-struct Managers {
-    answer: Answer,
-    list: [SyncManager; 16],
+// A sync manager of a sheet, or 5 where its control has no name.
+enum ManagerRead {
+    Manager(SyncManager),
+    Refused(u8),
+}
+
+fn manager_at(sheet: &[u8], at: usize) -> ManagerRead
+    requires { ⌜ at + 5 ≤ length (now sheet) ⌝ }
+    ensures { λ r. ⌜ managerReadOf r ≡ readManager (now (sheet .entry)) at ⌝ }
+{
+    match Control::unpack(sheet[at + 2]) {
+        ControlRead::Named(control) => ManagerRead::Manager(SyncManager {
+            start_addr: wire::be16(sheet[at], sheet[at + 1]),
+            control,
+            enable: wire::flag(sheet[at + 3], 0),
+            usage_type: sheet[at + 4],
+        }),
+        ControlRead::Refused(number) => ManagerRead::Refused(number),
+    }
 }
 
 const NO_CONTROL: Control = Control {
@@ -181,27 +197,27 @@ const NO_MANAGER: SyncManager = SyncManager {
     usage_type: 0,
 };
 
+// The sync managers of a sheet, or 5.
+struct Managers {
+    answer: Answer,
+    list: [SyncManager; 16],
+}
+
 fn managers_of(sheet: &[u8], n: usize) -> Managers
     requires { ⌜ (n ≤ 16) × (11 + 5 * n ≤ length (now sheet)) ⌝ }
-    ensures { λ r. ⌜ (answerOf (r .answer) tt ≡ decide (when 5 (someBelow (unnamedAt (now (sheet .entry))) n) ∷ []) tt) × (r .list ≡ managersRead (now (sheet .entry)) n) ⌝ }
+    ensures { λ r. ⌜ answerOf (r .answer) (r .list) ≡ decide (when 5 (someBelow (unnamedAt (now (sheet .entry))) n) ∷ []) (managersOf (now (sheet .entry)) n) ⌝ }
 {
     let mut list = [NO_MANAGER; 16];
     let mut k = 0;
     while k < n {
-        let at = 11 + 5 * k;
-        match Control::unpack(sheet[at + 2]) {
-            ControlRead::Named(control) => {
-                list[k] = SyncManager {
-                    start_addr: wire::be16(sheet[at], sheet[at + 1]),
-                    control,
-                    enable: wire::flag(sheet[at + 3], 0),
-                    usage_type: sheet[at + 4],
-                };
+        match manager_at(sheet, 11 + 5 * k) {
+            ManagerRead::Manager(manager) => {
+                list[k] = manager;
             }
-            ControlRead::Refused(number) => {
+            ManagerRead::Refused(number) => {
                 return Managers {
                     answer: Answer::Refused(number),
-                    list: [NO_MANAGER; 16],
+                    list,
                 };
             }
         }
@@ -215,8 +231,8 @@ fn managers_of(sheet: &[u8], n: usize) -> Managers
 
 // The FMMU usages of a sheet.
 fn usages_of(sheet: &[u8], at: usize, f: usize) -> [u8; 16]
-    requires { ⌜ (f ≤ 16) × (at + f ≤ length (now sheet)) ⌝ }
-    ensures { λ r. ⌜ r ≡ listOf (λ k. getD (now (sheet .entry)) (at + k) 0) f ++ replicate (16 - f) 0 ⌝ }
+    requires { ⌜ (f ≤ 16) × (at + f ≤ length (now sheet)) × (length (now sheet) ≤ 16386) ⌝ }
+    ensures { λ r. ⌜ r ≡ usagesOf (now (sheet .entry)) at f ⌝ }
 {
     let mut list = [0u8; 16];
     let mut k = 0;
@@ -229,7 +245,7 @@ fn usages_of(sheet: &[u8], at: usize, f: usize) -> [u8; 16]
 
 // A refusal has nothing beside it.
 fn refused(number: u8) -> SheetRead
-    ensures { λ r. ⌜ (r .answer ≡ Answer.Refused number) × (r .device ≡ noDevice) ⌝ }
+    ensures { λ r. ⌜ r ≡ sheetReadOf (Outcome.refused number) ⌝ }
 {
     SheetRead {
         answer: Answer::Refused(number),
@@ -249,26 +265,10 @@ fn refused(number: u8) -> SheetRead
     }
 }
 
-// Reads a sheet whole: device data, or the lowest of 2 to 5 that holds.
-pub fn read(sheet: &[u8]) -> SheetRead
-    ensures { λ r. ⌜ ReadsAs (now (sheet .entry)) r ⌝ }
-{
-    if wrong_length(sheet) {
-        return refused(2);
-    }
-    if sheet[2] != 1 {
-        return refused(3);
-    }
-    if rule_broken(sheet) {
-        return refused(4);
-    }
-    device_of(sheet)
-}
-
 // The device data of a sheet that keeps every rule but, perhaps, that controls have names.
 fn device_of(sheet: &[u8]) -> SheetRead
-    requires { ⌜ (11 ≤ length (now sheet)) × (broken (now sheet) ≡ false) ⌝ }
-    ensures { λ r. ⌜ (answerOf (r .answer) tt ≡ decide (when 5 (someUnnamed (now (sheet .entry))) ∷ []) tt) × (r .device ≡ cond (someUnnamed (now (sheet .entry))) noDevice (deviceOf (now (sheet .entry)))) ⌝ }
+    requires { ⌜ (11 ≤ length (now sheet)) × (length (now sheet) ≤ 16386) × (broken (now sheet) ≡ false) ⌝ }
+    ensures { λ r. ⌜ r ≡ sheetReadOf (decide (when 5 (someUnnamed (now (sheet .entry))) ∷ []) (deviceOf (now (sheet .entry)))) ⌝ }
 {
     let n = wide(sheet[8]);
     let f = wide(sheet[9]);
@@ -296,4 +296,20 @@ fn device_of(sheet: &[u8]) -> SheetRead
             p: wide(sheet[10]),
         },
     }
+}
+
+// Reads a sheet whole: device data, or the lowest of 2 to 5 that holds.
+pub fn read(sheet: &[u8]) -> SheetRead
+    ensures { λ r. ⌜ ReadsAs (now (sheet .entry)) r ⌝ }
+{
+    if wrong_length(sheet) {
+        return refused(2);
+    }
+    if sheet[2] != 1 {
+        return refused(3);
+    }
+    if rule_broken(sheet) {
+        return refused(4);
+    }
+    device_of(sheet)
 }

@@ -30,12 +30,13 @@ mailboxSize d k m =
     none
 
 -- the last of a usage (address, size, number); `before` is what was recorded so far
+abbrev pub laterOf : ℕ → ℕ → Slot → ℕ → SyncManager → Slot
+laterOf usage size before k m =
+    cond (eqb (m .«usage_type») usage) (At (record { address = m .«start_addr»; len = record { 0 = size }; «sync_manager» = k })) before
+
 unfoldable pub lastOf : ℕ → ℕ → Slot → ℕ → List SyncManager → Slot
 lastOf usage size before k [] = before
-lastOf usage size before k (m ∷ ms) =
-    lastOf usage size
-    (cond (eqb (m .«usage_type») usage) (At (record { address = m .«start_addr»; len = record { 0 = size }; «sync_manager» = k })) before)
-    (suc k) ms
+lastOf usage size before k (m ∷ ms) = lastOf usage size (laterOf usage size before k m) (suc k) ms
 
 -- without flag bit 0 the answer is none, none, no CoE, no complete access
 abbrev pub noMailboxes : MailboxConfig

@@ -1,5 +1,24 @@
 // src/subdevice: types.rs (mailboxes) and configuration.rs (the mailbox pass and the data passes).
+ghost use mathlib.Core.Path.{_≡_};
+ghost use mathlib.Core.Bool.{_&&_};
+ghost use mathlib.Core.List.{[], _∷_};
+ghost use lib.Dec.{eqb};
+ghost use Rattle.pdi.specs.Unit.{tooManyBits};
+ghost use Prim.Native.Nat.{_≤_, min};
+ghost use lib.ListN.{take};
+ghost use Rattle.wire.specs.Outcome.{when, decide};
+ghost use Rattle.sheet.specs.Sheet.{answerOf};
+ghost use Rattle.pdo.specs.Bits.{coeOn};
+ghost use Rattle.entries.specs.Use.{firstWith};
+ghost use Rattle.subdevice.specs.Wishes.{someUsage, sizedOf, dataWish, wishesAfter, someTooWide, mailboxWish, mailboxWishes};
+ghost use Rattle.subdevice.specs.Mailbox.{laterOf, lastOf};
+use channels::Wish;
+use pdi::BitLen;
 use pdi::ByteLen;
+use pdi::Rounded;
+use sheet::Answer;
+use sheet::Device;
+use sheet::SyncManager;
 
 // A mailbox: its device address, its size, its sync manager's number.
 pub struct Mailbox {
@@ -26,4 +45,177 @@ pub struct MailboxConfig {
 pub enum MailboxRead {
     Config(MailboxConfig),
     Refused(u8),
+}
+
+const NO_WISH: Wish = Wish {
+    on: false,
+    size: ByteLen(0),
+};
+
+fn least(a: usize, b: usize) -> usize
+    ensures { λ r. ⌜ r ≡ min a b ⌝ }
+{
+    if a < b { a } else { b }
+}
+
+// Whether a sync manager has the usage.
+fn some_usage(managers: [SyncManager; 16], n: usize, usage: u8) -> bool
+    ensures { λ r. ⌜ r ≡ someUsage usage (take n managers) ⌝ }
+{
+    let count = least(n, 16);
+    let mut k = 0;
+    while k < count {
+        let m = managers[k];
+        if m.usage_type == usage {
+            return true;
+        }
+        k += 1;
+    }
+    false
+}
+
+// Whether CoE is on: flag bits 0 and 1, and a read mailbox of length above 0.
+fn coe_on(device: Device) -> bool
+    ensures { λ r. ⌜ r ≡ coeOn (device .«has_mailbox») (device .«coe_protocol») (device .«send_size» .0) (take (device .n) (device .managers)) ⌝ }
+{
+    if !device.has_mailbox {
+        return false;
+    }
+    if !device.coe_protocol {
+        return false;
+    }
+    let send = device.send_size;
+    if send.0 == 0 {
+        return false;
+    }
+    let managers = device.managers;
+    some_usage(managers, device.n, 2)
+}
+
+// The place of the first FMMU entry with the usage; the count where there is none.
+fn first_with(usages: [u8; 16], f: usize, usage: u8) -> usize
+    ensures { λ r. ⌜ r ≡ firstWith usage (take f usages) ⌝ }
+{
+    let count = least(f, 16);
+    let mut k = 0;
+    while k < count {
+        if usages[k] == usage {
+            return k;
+        }
+        k += 1;
+    }
+    k
+}
+
+// Which sync managers a data pass writes, each rounded up by itself, or 6.
+struct Wishes {
+    answer: Answer,
+    list: [Wish; 16],
+}
+
+// One sync manager's wish, or 6.
+enum Sized {
+    To(Wish),
+    Refused(u8),
+}
+
+fn data_wish(usage: u8, wanted: u8, bits: BitLen) -> Sized
+    ensures { λ r. ⌜ sizedOf r ≡ decide (when 6 (eqb usage wanted && tooManyBits (bits .0)) ∷ []) (dataWish usage wanted (bits .0)) ⌝ }
+{
+    if usage != wanted {
+        return Sized::To(NO_WISH);
+    }
+    match bits.round_up() {
+        Rounded::Bytes(size) => Sized::To(Wish { on: true, size }),
+        Rounded::Refused(number) => Sized::Refused(number),
+    }
+}
+
+fn data_wishes(managers: [SyncManager; 16], n: usize, usage: u8, sums: [BitLen; 16]) -> Wishes
+    ensures { λ r. ⌜ (answerOf {A = Unit {0}} (r .answer) tt ≡ decide (when 6 (someTooWide usage sums (take n managers)) ∷ []) tt) × (r .list ≡ wishesAfter usage sums (take n managers)) ⌝ }
+{
+    let mut list = [NO_WISH; 16];
+    let count = least(n, 16);
+    let mut k = 0;
+    while k < count {
+        let m = managers[k];
+        let bits = sums[k];
+        match data_wish(m.usage_type, usage, bits) {
+            Sized::To(w) => {
+                list[k] = w;
+            }
+            Sized::Refused(number) => {
+                return Wishes {
+                    answer: Answer::Refused(number),
+                    list: [NO_WISH; 16],
+                };
+            }
+        }
+        k += 1;
+    }
+    Wishes {
+        answer: Answer::Accepted,
+        list,
+    }
+}
+
+// Which sync managers the mailbox pass writes: usage 1 with the receive size, usage 2 with the send size.
+fn mailbox_wishes(managers: [SyncManager; 16], n: usize, receive: ByteLen, send: ByteLen) -> [Wish; 16]
+    ensures { λ r. ⌜ r ≡ mailboxWishes (receive .0) (send .0) (take n managers) ⌝ }
+{
+    let mut list = [NO_WISH; 16];
+    let count = least(n, 16);
+    let mut k = 0;
+    while k < count {
+        let m = managers[k];
+        list[k] = mailbox_wish(m.usage_type, receive, send);
+        k += 1;
+    }
+    list
+}
+
+fn mailbox_wish(usage: u8, receive: ByteLen, send: ByteLen) -> Wish
+    ensures { λ r. ⌜ r ≡ mailboxWish usage (receive .0) (send .0) ⌝ }
+{
+    if usage == 1 {
+        return Wish {
+            on: true,
+            size: receive,
+        };
+    }
+    if usage == 2 {
+        return Wish {
+            on: true,
+            size: send,
+        };
+    }
+    NO_WISH
+}
+
+// What is recorded after one more sync manager: itself if it has the usage, else what was recorded so far.
+fn later(before: Slot, manager: SyncManager, usage: u8, size: ByteLen, number: u8) -> Slot
+    ensures { λ r. ⌜ r ≡ laterOf usage (size .0) before number manager ⌝ }
+{
+    if manager.usage_type != usage {
+        return before;
+    }
+    Slot::At(Mailbox {
+        address: manager.start_addr,
+        len: size,
+        sync_manager: number,
+    })
+}
+
+// The last sync manager with the usage, as a mailbox.
+fn last_of(managers: [SyncManager; 16], n: usize, usage: u8, size: ByteLen) -> Slot
+    ensures { λ r. ⌜ r ≡ lastOf usage (size .0) Slot.None 0 (take n managers) ⌝ }
+{
+    let mut found = Slot::None;
+    let count = least(n, 16);
+    let mut k = 0;
+    while k < count {
+        found = later(found, managers[k], usage, size, k as u8);
+        k += 1;
+    }
+    found
 }

@@ -1,23 +1,27 @@
+-- `sheet::kind_fits`: the tests that led to each return say which case of `kindFits` holds.
+-- Assumes nothing.
+use borrow.Author.Tests.{eq-eqb, ne-eqb, lt-ltb, le-ltb, le-leb, lt-leb}
+use Rattle.sheet.specs.Sheet.{kindFits}
 use Rattle.sheet.proofs.kind_fits.Statement.{statement}
 use Rattle.sheet.proofs.kind_fits.Tie as tie
-use Rattle.sheet.proofs.kind_fits.Reads as reads
-use Rattle.sheet.proofs.kind_fits.Lts as lts
 
--- src/lib.rt:97:9
+ruleset tests = (eq-eqb, ne-eqb, lt-ltb, le-ltb, le-leb, lt-leb)
+
 returns : tie.Need-returns
-returns c = ?
+unfolding kindFits
+returns c = search tests
 
--- src/lib.rt:100:9
 returns-2 : tie.Need-returns-2
-returns-2 c = ?
+unfolding kindFits
+returns-2 c = search tests
 
--- src/lib.rt:103:9
 returns-3 : tie.Need-returns-3
-returns-3 c = ?
+unfolding kindFits
+returns-3 c = search tests
 
--- src/lib.rt:93:1
 returns-4 : tie.Need-returns-4
-returns-4 c = ?
+unfolding kindFits
+returns-4 c = search tests
 
 pub kind-fits-spec : {M : Type 1} → statement M
 kind-fits-spec = tie.close (tie.spec returns returns-2 returns-3 returns-4)

@@ -1,79 +1,87 @@
+-- `sheet::pdos_fit`: whether the records left fit from where the walk stands is whether all fit from the start.
+-- Assumes nothing.
+use mathlib.Core.Path.{_≡_, refl, sym, _∙_}
+use Prim.Native.Nat.{_+_, _≤_}
+use native.Mathlib.Omega.{arith}
+use denote.Ref.{now}
+use lib.ListN.{length}
+use borrow.Author.Tests.{not-true, not-false}
+use Rattle.sheet.specs.Sheet.{pdosFit}
+use Rattle.sheet.proofs.Walk.{walk-end, walk-past, walk-odd, walk-on}
 use Rattle.sheet.proofs.pdos_fit.Statement.{statement}
 use Rattle.sheet.proofs.pdos_fit.Tie as tie
-use Rattle.sheet.proofs.pdos_fit.Reads as reads
-use Rattle.sheet.proofs.pdos_fit.Lts as lts
-use Rattle.sheet.proofs.kind_fits.Reads as kind-fits-reads
-use Rattle.sheet.proofs.wide.Reads as wide-reads
 
 abbrev Inv-loop : tie.InvT-loop
-Inv-loop sheet p at left₀ place₀ left place = ?
+Inv-loop sheet p at left₀ place₀ left place = (place ≤ length sheet) × (pdosFit sheet left place ≡ pdosFit sheet p at)
 
 abbrev μ-loop : tie.MeasureT-loop
-μ-loop sheet p at left₀ place₀ left place = ?
+μ-loop sheet p at left₀ place₀ left place = left
 
--- src/lib.rt:112:5
 loop-holds : tie.Need-loop-holds Inv-loop μ-loop
-loop-holds c = ?
+loop-holds c = (c .before .pre .0, refl)
 
--- src/lib.rt:113:26
 add-if1 : tie.Need-add-if1 Inv-loop μ-loop
-add-if1 c = ?
+add-if1 c = omega arith
 
--- src/lib.rt:114:13
 returns : tie.Need-returns Inv-loop μ-loop
-returns c = ?
+returns c =
+    let l = c .before .before .loop in
+    let s = now (c .before .before .before .before .args .sheet) in
+    sym (walk-past s (l .left) (l .place) (omega arith) (omega arith)) ∙ l .inv .1
 
--- src/lib.rt:116:23
 add-m : tie.Need-add-m Inv-loop μ-loop
-add-m c = ?
+add-m c = omega arith
 
--- src/lib.rt:116:17
 shared-slice-read-m : tie.Need-shared-slice-read-m Inv-loop μ-loop
-shared-slice-read-m c = ?
+shared-slice-read-m c = omega arith
 
--- src/lib.rt:117:20
 add-next : tie.Need-add-next Inv-loop μ-loop
-add-next c = ?
+add-next c = omega arith
 
--- src/lib.rt:117:32
 wide-requires : tie.Need-wide-requires Inv-loop μ-loop
-wide-requires c κs = ?
+wide-requires c κs = tt
 
--- src/lib.rt:117:20
 add-next-2 : tie.Need-add-next-2 Inv-loop μ-loop
-add-next-2 c = ?
+add-next-2 c = omega arith
 
--- src/lib.rt:119:13
 returns-2 : tie.Need-returns-2 Inv-loop μ-loop
-returns-2 c = ?
+returns-2 c =
+    let l = c .before .before .before .before .before .loop in
+    let s = now (c .before .before .before .before .before .before .before .args .sheet) in
+    sym (walk-past s (l .left) (l .place) (omega arith) (omega arith)) ∙ l .inv .1
 
--- src/lib.rt:121:23
 shared-slice-read-kind-fits : tie.Need-shared-slice-read-kind-fits Inv-loop μ-loop
-shared-slice-read-kind-fits c = ?
+shared-slice-read-kind-fits c = omega arith
 
--- src/lib.rt:121:13
 kind-fits-requires : tie.Need-kind-fits-requires Inv-loop μ-loop
-kind-fits-requires c κs = ?
+kind-fits-requires c κs = tt
 
--- src/lib.rt:122:13
 returns-3 : tie.Need-returns-3 Inv-loop μ-loop
-returns-3 c = ?
+returns-3 c =
+    let fits = c .before in
+    let l = fits .before .before .before .before .before .before .before .loop in
+    let s = now (fits .before .before .before .before .before .before .before .before .before .args .sheet) in
+    sym (walk-odd s (l .left) (l .place) (omega arith) (sym (fits .kind-fits .ensures) ∙ not-true (fits .kind-fits .result) (c .if3 .taken))) ∙ l .inv .1
 
--- src/lib.rt:125:9
 sub-left : tie.Need-sub-left Inv-loop μ-loop
-sub-left c = ?
+sub-left c = omega arith
 
--- src/lib.rt:112:5
 loop-less : tie.Need-loop-less Inv-loop μ-loop
-loop-less c = ?
+loop-less c = omega arith
 
--- src/lib.rt:112:5
 loop-again : tie.Need-loop-again Inv-loop μ-loop
-loop-again c = ?
+loop-again c =
+    let fits = c .before in
+    let wide = fits .before .before .before in
+    let l = wide .before .before .before .before .loop in
+    let s = now (wide .before .before .before .before .before .before .args .sheet) in
+    let k = sym (fits .kind-fits .ensures) ∙ not-false (fits .kind-fits .result) (c .if3 .left) in
+    (omega arith, walk-on s (l .left) (l .place) (l .place + 5 + wide .wide .result) (omega arith) (omega arith) (omega arith) k ∙ l .inv .1)
 
--- src/lib.rt:106:1
 returns-4 : tie.Need-returns-4 Inv-loop μ-loop
-returns-4 c = ?
+returns-4 c =
+    let l = c .before .loop in
+    sym (walk-end (now (c .before .before .before .args .sheet)) (l .left) (l .place) (omega arith)) ∙ l .inv .1
 
 pub pdos-fit-spec : {M : Type 1} → statement M
 pdos-fit-spec =

@@ -1,91 +1,114 @@
-use borrow.Author.Needs.{needs}
+-- `sheet::rule_broken`: the test that led to each return says which rule is broken.
+-- Assumes nothing.
+use mathlib.Core.Path.{sym, _∙_, ap}
+use mathlib.Core.Bool.{not}
+use native.Mathlib.Omega.{arith}
+use denote.Ref.{now}
+use Rattle.sheet.proofs.Broken.{flags-broken, managers-broken, usages-broken, places-broken, manager-bytes, usage-bytes, manager-broken, usage-broken, walk-same, only-walk}
 use Rattle.sheet.proofs.rule_broken.Statement.{statement}
 use Rattle.sheet.proofs.rule_broken.Tie as tie
-use Rattle.sheet.proofs.rule_broken.Reads as reads
-use Rattle.sheet.proofs.rule_broken.Lts as lts
-use Rattle.sheet.proofs.pdos_fit.Reads as pdos-fit-reads
-use Rattle.sheet.proofs.some_above.Reads as some-above-reads
-use Rattle.sheet.proofs.wide.Reads as wide-reads
 
--- src/lib.rt:138:18
 shared-slice-read-wide : tie.Need-shared-slice-read-wide
-shared-slice-read-wide c = search needs
+shared-slice-read-wide c = omega arith
 
--- src/lib.rt:138:9
 wide-requires : tie.Need-wide-requires
-wide-requires c κs = search needs
+wide-requires c κs = tt
 
--- src/lib.rt:139:18
 shared-slice-read-wide-2 : tie.Need-shared-slice-read-wide-2
-shared-slice-read-wide-2 c = search needs
+shared-slice-read-wide-2 c = omega arith
 
--- src/lib.rt:139:9
 wide-requires-2 : tie.Need-wide-requires-2
-wide-requires-2 c κs = search needs
+wide-requires-2 c κs = tt
 
--- src/lib.rt:140:18
 shared-slice-read-wide-3 : tie.Need-shared-slice-read-wide-3
-shared-slice-read-wide-3 c = search needs
+shared-slice-read-wide-3 c = omega arith
 
--- src/lib.rt:140:9
 wide-requires-3 : tie.Need-wide-requires-3
-wide-requires-3 c κs = search needs
+wide-requires-3 c κs = tt
 
--- src/lib.rt:141:12
 shared-slice-read-if1 : tie.Need-shared-slice-read-if1
-shared-slice-read-if1 c = search needs
+shared-slice-read-if1 c = omega arith
 
--- src/lib.rt:142:9
 returns : tie.Need-returns
-returns c = ?
+returns c =
+    let w = c .before .before in
+    let f = w .before .before in
+    let n = f .before .before in
+    let s = now (n .before .before .before .args .sheet) in
+    sym (flags-broken s (omega arith))
 
--- src/lib.rt:145:9
 returns-2 : tie.Need-returns-2
-returns-2 c = ?
+returns-2 c =
+    let w = c .before .before .before in
+    let f = w .before .before in
+    let n = f .before .before in
+    let s = now (n .before .before .before .args .sheet) in
+    sym (managers-broken s (omega arith))
 
--- src/lib.rt:148:9
 returns-3 : tie.Need-returns-3
-returns-3 c = ?
+returns-3 c =
+    let w = c .before .before .before .before in
+    let f = w .before .before in
+    let n = f .before .before in
+    let s = now (n .before .before .before .args .sheet) in
+    sym (usages-broken s (omega arith))
 
--- src/lib.rt:150:23
 mul-usages : tie.Need-mul-usages
-mul-usages c = search needs
+mul-usages c = omega arith
 
--- src/lib.rt:150:18
 add-usages : tie.Need-add-usages
-add-usages c = search needs
+add-usages c = omega arith
 
--- src/lib.rt:151:16
 add-pdos : tie.Need-add-pdos
-add-pdos c = search needs
+add-pdos c = omega arith
 
--- src/lib.rt:153:9
 returns-4 : tie.Need-returns-4
-returns-4 c = ?
+returns-4 c =
+    let w = c .before .before .before .before .before in
+    let f = w .before .before in
+    let n = f .before .before in
+    let s = now (n .before .before .before .args .sheet) in
+    sym (places-broken s (omega arith))
 
--- src/lib.rt:155:8
 some-above-requires : tie.Need-some-above-requires
-some-above-requires c κs = search needs
+some-above-requires c κs = (omega arith, λ k h. omega arith)
 
--- src/lib.rt:156:9
 returns-5 : tie.Need-returns-5
-returns-5 c = ?
+returns-5 c =
+    let w = c .before .before .before .before .before .before .before in
+    let f = w .before .before in
+    let n = f .before .before in
+    let s = now (n .before .before .before .args .sheet) in
+    sym (manager-broken s (manager-bytes s (n .wide .result) (n .wide .ensures .0) (c .before .some-above .ensures) ∙ c .if5 .taken))
 
--- src/lib.rt:158:8
 some-above-requires-2 : tie.Need-some-above-requires-2
-some-above-requires-2 c κs = search needs
+some-above-requires-2 c κs = (omega arith, λ k h. omega arith)
 
--- src/lib.rt:159:9
 returns-6 : tie.Need-returns-6
-returns-6 c = ?
+returns-6 c =
+    let w = c .before .before .before .before .before .before .before .before .before in
+    let f = w .before .before in
+    let n = f .before .before in
+    let s = now (n .before .before .before .args .sheet) in
+    sym (usage-broken s (usage-bytes s (n .wide .result) (f .wide2 .result) (n .wide .ensures .0) (f .wide2 .ensures .0) (c .before .some-above2 .ensures) ∙ c .if6 .taken))
 
--- src/lib.rt:161:6
 pdos-fit-requires : tie.Need-pdos-fit-requires
-pdos-fit-requires c κs = search needs
+pdos-fit-requires c κs = (omega arith, omega arith)
 
--- src/lib.rt:134:1
 returns-7 : tie.Need-returns-7
-returns-7 c = ?
+returns-7 c =
+    let u = c .before .before in
+    let m = u .before .before in
+    let w = m .before .before .before .before .before .before in
+    let f = w .before .before in
+    let n = f .before .before in
+    let s = now (n .before .before .before .args .sheet) in
+    let en = n .wide .ensures .0 in
+    let ef = f .wide2 .ensures .0 in
+    let hm = manager-bytes s (n .wide .result) en (m .some-above .ensures) ∙ u .before .if5 .left in
+    let hu = usage-bytes s (n .wide .result) (f .wide2 .result) en ef (u .some-above2 .ensures) ∙ c .before .if6 .left in
+    ap not (c .pdos-fit .ensures ∙ walk-same s en ef (w .wide3 .ensures .0))
+    ∙ sym (only-walk s (omega arith) (omega arith) (omega arith) (omega arith) hm hu)
 
 pub rule-broken-spec : {M : Type 1} → statement M
 rule-broken-spec =

@@ -1,49 +1,65 @@
+-- `sheet::some_above`: none of the bytes looked at so far is above the limit.
+-- Assumes nothing.
+use mathlib.Core.Path.{_≡_, refl, sym, _∙_, ap}
+use mathlib.Core.Bool.{false}
+use Prim.Native.Nat.{ℕ, _+_, _*_, _-_, _≤_, _<_}
+use native.Mathlib.Omega.{arith}
+use denote.Ref.{now}
+use lib.ListN.{length, getD}
+use lib.Dec.{ltb}
+use borrow.Author.Tests.{lt-ltb, le-ltb}
+use Rattle.sheet.specs.Lists.{someBelow}
+use Rattle.sheet.proofs.Lists.{some-hit, some-miss}
 use Rattle.sheet.proofs.some_above.Statement.{statement}
 use Rattle.sheet.proofs.some_above.Tie as tie
-use Rattle.sheet.proofs.some_above.Reads as reads
-use Rattle.sheet.proofs.some_above.Lts as lts
 
 abbrev Inv-loop : tie.InvT-loop
-Inv-loop sheet at step count limit k₀ k = ?
+Inv-loop sheet at step count limit k₀ k = (k ≤ count) × (someBelow (λ j. ltb limit (getD sheet (at + step * j) 0)) k ≡ false)
 
 abbrev μ-loop : tie.MeasureT-loop
-μ-loop sheet at step count limit k₀ k = ?
+μ-loop sheet at step count limit k₀ k = count - k
 
--- src/lib.rt:83:5
 loop-holds : tie.Need-loop-holds Inv-loop μ-loop
-loop-holds c = ?
+unfolding someBelow
+loop-holds c = (omega arith, refl)
 
--- src/lib.rt:84:31
+-- the byte looked at stands in the sheet
+within : (c : tie.In-loop Inv-loop μ-loop) → let a = c .before .before .args in a .at + a .step * c .before .loop .k < length (now (a .sheet))
+within c = c .before .before .pre .1 (c .before .loop .k) (c .loop-test .taken)
+
 mul-if1 : tie.Need-mul-if1 Inv-loop μ-loop
-mul-if1 c = ?
+mul-if1 c = omega (arith, within c)
 
--- src/lib.rt:84:26
 add-if1 : tie.Need-add-if1 Inv-loop μ-loop
-add-if1 c = ?
+add-if1 c = omega (arith, within c)
 
--- src/lib.rt:84:20
 shared-slice-read-if1 : tie.Need-shared-slice-read-if1 Inv-loop μ-loop
-shared-slice-read-if1 c = ?
+shared-slice-read-if1 c = omega (arith, within (c .before))
 
--- src/lib.rt:85:13
 returns : tie.Need-returns Inv-loop μ-loop
-returns c = ?
+returns c =
+    let k = c .before .before .before .loop .k in
+    let a = c .before .before .before .before .args in
+    sym (some-hit (λ (j : ℕ). ltb (a .limit) (getD (now (a .sheet)) (a .at + a .step * j) 0)) k (a .count) (c .before .before .loop-test .taken) (lt-ltb _ _ (c .if1 .taken)))
 
--- src/lib.rt:87:9
 add-k : tie.Need-add-k Inv-loop μ-loop
-add-k c = ?
+add-k c = omega arith
 
--- src/lib.rt:83:5
 loop-less : tie.Need-loop-less Inv-loop μ-loop
-loop-less c = ?
+loop-less c = omega arith
 
--- src/lib.rt:83:5
 loop-again : tie.Need-loop-again Inv-loop μ-loop
-loop-again c = ?
+loop-again c =
+    let l = c .before .before .before .loop in
+    let a = c .before .before .before .before .args in
+    (omega arith, some-miss (λ (j : ℕ). ltb (a .limit) (getD (now (a .sheet)) (a .at + a .step * j) 0)) (l .k) (l .inv .1) (le-ltb _ _ (c .if1 .left)))
 
--- src/lib.rt:78:1
 returns-2 : tie.Need-returns-2 Inv-loop μ-loop
-returns-2 c = ?
+returns-2 c =
+    let l = c .before .loop in
+    let a = c .before .before .args in
+    let e : l .k ≡ a .count = omega arith in
+    sym (l .inv .1) ∙ ap (someBelow (λ (j : ℕ). ltb (a .limit) (getD (now (a .sheet)) (a .at + a .step * j) 0))) e
 
 pub some-above-spec : {M : Type 1} → statement M
 some-above-spec =

@@ -1,45 +1,51 @@
-use borrow.Author.Needs.{needs}
+-- `sheet::wrong_length`: the test that led to each return says which part of the length's rule is broken.
+-- Assumes nothing.
+use mathlib.Core.Path.{_≡_, sym}
+use native.Mathlib.Omega.{arith}
+use denote.Ref.{now}
+use Rattle.sheet.specs.Sheet.{follow}
+use Rattle.sheet.proofs.Broken.{short, other-length, too-low, only-high}
 use Rattle.sheet.proofs.wrong_length.Statement.{statement}
 use Rattle.sheet.proofs.wrong_length.Tie as tie
-use Rattle.sheet.proofs.wrong_length.Reads as reads
-use Rattle.sheet.proofs.wrong_length.Lts as lts
-use Rattle.wire.proofs.be16.Reads as be16-reads
 
--- src/lib.rt:65:9
 returns : tie.Need-returns
-returns c = ?
+returns c = sym (short (now (c .before .before .args .sheet)) (c .if1 .taken))
 
--- src/lib.rt:67:29
 shared-slice-read-be16 : tie.Need-shared-slice-read-be16
-shared-slice-read-be16 c = search needs
+shared-slice-read-be16 c = omega arith
 
--- src/lib.rt:67:39
 shared-slice-read-be16-2 : tie.Need-shared-slice-read-be16-2
-shared-slice-read-be16-2 c = search needs
+shared-slice-read-be16-2 c = omega arith
 
--- src/lib.rt:67:18
 be16-requires : tie.Need-be16-requires
-be16-requires c κs = search needs
+be16-requires c κs = tt
 
--- src/lib.rt:67:18
 cast-follow : tie.Need-cast-follow
-cast-follow c = search needs
+cast-follow c = omega arith
 
--- src/lib.rt:68:23
 add-if2 : tie.Need-add-if2
-add-if2 c = search needs
+add-if2 c = omega arith
 
--- src/lib.rt:69:9
 returns-2 : tie.Need-returns-2
-returns-2 c = ?
+returns-2 c =
+    let be = c .before .be16 in
+    let s = now (c .before .before .before .before .before .before .args .sheet) in
+    let e : be .result ≡ follow s = be .ensures in
+    sym (other-length s (λ h. c .if2 .taken (omega arith)))
 
--- src/lib.rt:72:9
 returns-3 : tie.Need-returns-3
-returns-3 c = ?
+returns-3 c =
+    let be = c .before .before .be16 in
+    let s = now (c .before .before .before .before .before .before .before .args .sheet) in
+    let e : be .result ≡ follow s = be .ensures in
+    sym (too-low s (omega arith))
 
--- src/lib.rt:61:1
 returns-4 : tie.Need-returns-4
-returns-4 c = ?
+returns-4 c =
+    let be = c .before .before .be16 in
+    let s = now (c .before .before .before .before .before .before .before .args .sheet) in
+    let e : be .result ≡ follow s = be .ensures in
+    sym (only-high s (be .result) e (omega arith) (omega arith) (omega arith))
 
 pub wrong-length-spec : {M : Type 1} → statement M
 wrong-length-spec =

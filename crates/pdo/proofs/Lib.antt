@@ -1,0 +1,6 @@
+-- Laws that belong to no one function.
+pub mod Part
+pub mod Records
+pub mod Bits
+pub mod Sums
+pub mod Unique

@@ -1,0 +1,136 @@
+-- A turn of a loop over the sync managers that are used, and its end.
+-- Assumes nothing.
+use mathlib.Core.Path.{_≡_, refl, sym, _∙_, ap}
+use mathlib.Core.Bool.{Bool, true, false, cond, _||_, _&&_, false≢true}
+use mathlib.Core.List.{List, [], _∷_, _++_}
+use Prim.Native.Nat.{ℕ, zero, suc, _+_, _-_, _<_, _≤_, min}
+use native.Mathlib.Nat.{min-le-left, min-le-right, le-min, not-suc-le-zero, le-of-suc-le-suc}
+use native.Mathlib.Numerals.{add-one}
+use native.Mathlib.Omega.{arith}
+use lib.ListN.{length, getD, take, drop, replicate, length-take, drop-of-length-le}
+use lib.Seq.{drop-cons, getD-take}
+use lib.Dec.{eqb}
+use borrow.Author.Tests.{eq-eqb, ne-eqb}
+use Rattle.wire.specs.Outcome.{refused, accepted, when, decide}
+use Rattle.wire.proofs.Order.{never}
+use Rattle.pdi.specs.Unit.{tooManyBits}
+use Rattle.sheet.specs.Lists.{listOf}
+use Rattle.sheet.specs.declared.SyncManager.{SyncManager}
+use Rattle.pdo.specs.Bits.{someOf, Piece, piecesFrom}
+use Rattle.entries.specs.Use.{firstWith}
+use Rattle.subdevice.specs.declared.Slot.{Slot}
+use Rattle.subdevice.specs.Mailbox.{laterOf, lastOf}
+use Rattle.sync_manager_channel.specs.declared.OperationMode.the-variants.{Normal}
+use Rattle.sync_manager_channel.specs.declared.Direction.the-variants.{MasterRead}
+
+-- what stands in an array of sync managers before anything is written there
+abbrev pub blank : SyncManager
+blank =
+    record {
+      «start_addr» = 0;
+      control = record { «operation_mode» = Normal; direction = MasterRead; «ecat_event_enable» = false; «dls_user_event_enable» = false; «watchdog_enable» = false };
+      enable = false;
+      «usage_type» = 0;
+    }
+
+-- within the list it doesn't matter what would stand past its end
+pub getD-any : {A : Type 0} (l : List A) (k : ℕ) (d e : A) → k < length l → getD l k d ≡ getD l k e
+getD-any [] k d e h = absurd (not-suc-le-zero h)
+getD-any (x ∷ l) zero d e h = refl
+getD-any (x ∷ l) (suc k) d e h = getD-any l k d e (le-of-suc-le-suc h)
+
+-- of an array of m places the first n are used: the loop runs to the smaller of the two
+module _ {A : Type 0} (l : List A) (n m : ℕ) (long : length l ≡ m) where
+  pub used : length (take n l) ≡ min n m
+  used = length-take n l ∙ ap (min n) long
+
+  pub turn : (k : ℕ) (d : A) → k < min n m → drop k (take n l) ≡ getD l k d ∷ drop (k + 1) (take n l)
+  turn k d h =
+      let a = min-le-left n m in
+      let below : k < length (take n l) = rw used h in
+      let here : k < n = omega arith in
+      drop-cons (take n l) k d below ∙ ap (λ (x : A). x ∷ drop (suc k) (take n l)) (getD-take n l k d here) ∙ ap (λ (j : ℕ). getD l k d ∷ drop j (take n l)) (sym (add-one k))
+
+  pub taken-at : (k : ℕ) (d e : A) → k < min n m → getD (take n l) k e ≡ getD l k d
+  taken-at k d e h =
+      let a = min-le-left n m in
+      let b = min-le-right n m in
+      let here : k < n = omega arith in
+      let within : k < length l = omega arith in
+      getD-take n l k e here ∙ getD-any l k e d within
+
+  pub over : (k : ℕ) → min n m ≤ k → drop k (take n l) ≡ []
+  over k h = let past : length (take n l) ≤ k = rw used h in drop-of-length-le (take n l) past
+
+-- one that has the usage, and one that hasn't
+pub some-here : {A : Type 0} (f : A → Bool) (x : A) (xs ys : List A) → ys ≡ x ∷ xs → f x ≡ true → someOf f ys ≡ true
+some-here f x xs ys e h = ap (someOf f) e ∙ rw h
+
+pub some-not-here : {A : Type 0} (f : A → Bool) (x : A) (xs ys : List A) → ys ≡ x ∷ xs → f x ≡ false → someOf f xs ≡ someOf f ys
+some-not-here f x xs ys e h = sym (ap (someOf f) e ∙ rw h)
+
+-- the first with the usage: one more that hasn't it
+pub first-here : (usage u : ℕ) (us l : List ℕ) (k : ℕ) → l ≡ u ∷ us → u ≡ usage → k ≡ k + firstWith usage l
+unfolding firstWith
+first-here usage u us l k e h = rw (e, eq-eqb u usage h) (omega arith)
+
+pub first-not-here : (usage u : ℕ) (us l : List ℕ) (k : ℕ) → l ≡ u ∷ us → (u ≡ usage → ⊥) → k + 1 + firstWith usage us ≡ k + firstWith usage l
+unfolding firstWith
+first-not-here usage u us l k e h = rw (e, ne-eqb u usage h) (omega arith)
+
+pub first-nowhere : (usage : ℕ) (l : List ℕ) (k : ℕ) → l ≡ [] → k ≡ k + firstWith usage l
+unfolding firstWith
+first-nowhere usage l k e = rw e (omega arith)
+
+-- the last with the usage: what is recorded after one more
+pub last-turn : (usage size k : ℕ) (before after : Slot) (m : SyncManager) (ms l : List SyncManager) → l ≡ m ∷ ms → after ≡ laterOf usage size before k m → lastOf usage size after (k + 1) ms ≡ lastOf usage size before k l
+unfolding lastOf
+last-turn usage size k before after m ms l e h = rw (e, h, add-one)
+
+pub last-end : (usage size k : ℕ) (before : Slot) (l : List SyncManager) → l ≡ [] → before ≡ lastOf usage size before k l
+unfolding lastOf
+last-end usage size k before l e = rw e
+
+-- what one refusal's answer says of its condition
+pub not-refused : {A : Type 0} (n : ℕ) (t : Bool) (x b : A) → accepted b ≡ decide (when n t ∷ []) x → t ≡ false
+not-refused n true x b e = absurd (never (sym e))
+not-refused n false x b e = refl
+
+pub was-refused : {A : Type 0} (n m : ℕ) (t : Bool) (x : A) → refused m ≡ decide (when n t ∷ []) x → (t ≡ true) × (m ≡ n)
+was-refused n m true x e = (refl, cc)
+was-refused n m false x e = absurd (never e)
+
+-- one more sync manager: it isn't wanted or has few enough bits, or it has too many
+abbrev pub wide : Piece → Bool
+wide p = tooManyBits (p .bits)
+
+module _ (usage : ℕ) (bits : ℕ → ℕ) (k : ℕ) (m : SyncManager) (ms l : List SyncManager) (e : l ≡ m ∷ ms) where
+  pub few-bits : (eqb (m .«usage_type») usage && tooManyBits (bits k)) ≡ false → someOf wide (piecesFrom usage bits (k + 1) ms) ≡ someOf wide (piecesFrom usage bits k l)
+  unfolding piecesFrom
+  few-bits h = rw (e, add-one) (go (eqb (m .«usage_type») usage) h)
+    where
+      go :
+          (t : Bool) → (t && tooManyBits (bits k)) ≡ false
+          → someOf wide (piecesFrom usage bits (suc k) ms)
+          ≡ someOf wide (cond t (record { number = k; bits = bits k; address = m .«start_addr» } ∷ piecesFrom usage bits (suc k) ms) (piecesFrom usage bits (suc k) ms))
+      go true h = rw h
+      go false h = refl
+
+  pub too-many-bits : (eqb (m .«usage_type») usage && tooManyBits (bits k)) ≡ true → someOf wide (piecesFrom usage bits k l) ≡ true
+  unfolding piecesFrom
+  too-many-bits h = rw e (go (eqb (m .«usage_type») usage) h)
+    where
+      go :
+          (t : Bool) → (t && tooManyBits (bits k)) ≡ true
+          → someOf wide (cond t (record { number = k; bits = bits k; address = m .«start_addr» } ∷ piecesFrom usage bits (suc k) ms) (piecesFrom usage bits (suc k) ms)) ≡ true
+      go true h = rw h
+      go false h = absurd (false≢true h)
+
+pub none-wanted : (usage : ℕ) (bits : ℕ → ℕ) (k : ℕ) (l : List SyncManager) → l ≡ [] → someOf wide (piecesFrom usage bits k l) ≡ false
+unfolding piecesFrom
+none-wanted usage bits k l e = rw e
+
+-- none of sixteen is filled yet
+pub none-yet : {A : Type 0} (f : ℕ → A) (d : A) → replicate 16 d ≡ listOf f 0 ++ replicate (16 - 0) d
+unfolding listOf
+none-yet f d = refl
