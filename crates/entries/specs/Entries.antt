@@ -3,7 +3,7 @@
 use mathlib.Core.Path.{_≡_}
 use mathlib.Core.Bool.{Bool, true, false, cond}
 use mathlib.Core.List.{List, [], _∷_, map}
-use Prim.Native.Nat.{ℕ, _+_, _-_}
+use Prim.Native.Nat.{ℕ, _+_, _-_, _<_, _≤_}
 use lib.ListN.{getD, take, set}
 use lib.Dec.{ltb}
 use Rattle.wire.specs.Outcome.{Outcome, refused, accepted, Refusal, when, decide}
@@ -58,11 +58,15 @@ grown f size =
 abbrev pub laid : PdoDirection → ℕ → Use → Fmmu → Fmmu
 laid r offset u f = cond (f .enable) (grown f (u .size)) (mapped r offset (u .size) (u .at))
 
--- each use in turn: its entry is written, with reserved bits 0; then the offset moves on by the size; all other bytes stay
+-- its entry is written, with reserved bits 0; a number past the last one is no entry
+abbrev pub withUse : PdoDirection → ℕ → Use → List (List ℕ) → List (List ℕ)
+withUse r offset u area = set area (u .entry) (imageOf (laid r offset u (fieldsOf (getD area (u .entry) []))))
+
+-- each use in turn is written; then the offset moves on by the size; all other bytes stay
 unfoldable pub plan : PdoDirection → ℕ → List Use → List (List ℕ) → List (List ℕ)
 plan r offset [] area = area
 plan r offset (u ∷ us) area =
-    plan r (offset + u .size) us (set area (u .entry) (imageOf (laid r offset u (fieldsOf (getD area (u .entry) [])))))
+    plan r (offset + u .size) us (withUse r offset u area)
 
 -- an entry's length, of which a disabled one has none
 abbrev pub lengthOf : Fmmu → ℕ
@@ -77,6 +81,11 @@ useFrom m = record { entry = m .entry; size = m .size .0; at = m .at }
 
 abbrev pub mappedUses : Mappings → List Use
 mappedUses ms = map useFrom (take (ms .count) (ms .list))
+
+-- the bytes that come onto each entry, those of the uses in `rest` still to be added; none is above `most`
+pub record Totals (us rest : List Use) (most : ℕ) (totals : List ℕ) : Type 0 where
+  pub sum : (k : ℕ) → k < 16 → getD totals k 0 + totalOn k rest ≡ totalOn k us
+  pub below : (k : ℕ) → getD totals k 0 ≤ most
 
 -- 8: an entry's exact length would exceed 65,535
 unfoldable pub tooLong : List Use → List (List ℕ) → Bool

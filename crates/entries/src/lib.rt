@@ -1,10 +1,12 @@
 // The FMMU entries of a pass: `write_fmmu_config` of configuration.rs, over a whole area.
 ghost use mathlib.Core.Path.{_≡_};
-ghost use lib.ListN.{take};
-ghost use mathlib.Core.Bool.{false};
-ghost use Prim.Native.Nat.{_+_, _≤_, min};
+ghost use lib.ListN.{length, getD, take};
+ghost use mathlib.Core.Bool.{false, cond};
+ghost use mathlib.Core.List.{[]};
+ghost use Prim.Native.Nat.{_+_, _<_, _≤_, min};
+ghost use Rattle.pdo.specs.Direction.{isRead};
 ghost use Rattle.entries.specs.Use.{takes, usesFrom};
-ghost use Rattle.entries.specs.Entries.{laid, tooLong, lengthNow, lengthOf, useFrom, mappedUses, Lays, WritesEntries};
+ghost use Rattle.entries.specs.Entries.{laid, withUse, tooLong, lengthNow, lengthOf, useFrom, mappedUses, Totals, Lays, WritesEntries};
 use channels::Wish;
 use fmmu::Fmmu;
 use pdi::ByteLen;
@@ -89,9 +91,19 @@ fn takes_entry(route: Route, wish: Wish) -> bool
     0 < wish.size.0
 }
 
+// Which entry it uses: on the CoE path the given one, else its own.
+fn entry_of(route: Route, number: usize) -> usize
+    ensures { λ r. ⌜ r ≡ cond (route .coe) (route .entry) number ⌝ }
+{
+    if route.coe {
+        return route.entry;
+    }
+    number
+}
+
 // The sync managers that use an entry, in rising number.
 fn mappings_of(managers: [SyncManager; 16], n: usize, wishes: [Wish; 16], route: Route) -> Mappings
-    ensures { λ r. ⌜ (r .count ≤ 16) × (mappedUses r ≡ usesFrom route wishes 0 (take n managers)) ⌝ }
+    ensures { λ r. ⌜ (r .count ≤ 16) × (length (r .list) ≡ 16) × (mappedUses r ≡ usesFrom route wishes 0 (take n managers)) ⌝ }
 {
     let mut list = [Mapping {
         entry: 0,
@@ -102,13 +114,15 @@ fn mappings_of(managers: [SyncManager; 16], n: usize, wishes: [Wish; 16], route:
     let most = least(n, 16);
     let mut k = 0;
     while k < most {
-        if takes_entry(route, wishes[k]) {
-            let size = wishes[k].size;
-            let entry = if route.coe { route.entry } else { k };
+        let wish = wishes[k];
+        let manager = managers[k];
+        if takes_entry(route, wish) {
+            let entry = entry_of(route, k);
+            let size = wish.size;
             list[count] = Mapping {
                 entry,
                 size,
-                at: managers[k].start_addr,
+                at: manager.start_addr,
             };
             count += 1;
         }
@@ -117,10 +131,10 @@ fn mappings_of(managers: [SyncManager; 16], n: usize, wishes: [Wish; 16], route:
     Mappings { list, count }
 }
 
-// 8: whether an entry would grow past 65,535 bytes.
-fn too_long(entries: &[[u8; 16]; 16], mappings: Mappings) -> bool
-    requires { ⌜ mappings .count ≤ 16 ⌝ }
-    ensures { λ r. ⌜ r ≡ tooLong (mappedUses mappings) (now (entries .entry)) ⌝ }
+// The bytes that come onto each entry.
+fn totals_of(mappings: Mappings) -> [u32; 16]
+    requires { ⌜ (mappings .count ≤ 16) × (length (mappings .list) ≡ 16) ⌝ }
+    ensures { λ r. ⌜ Totals (mappedUses mappings) [] 1048560 r ⌝ }
 {
     let mut totals = [0u32; 16];
     let mut j = 0;
@@ -129,11 +143,25 @@ fn too_long(entries: &[[u8; 16]; 16], mappings: Mappings) -> bool
         let e = m.entry;
         if e < 16 {
             totals[e] = totals[e] + (m.size.0 as u32);
-            if 65535 < length_now(entries[e]) + totals[e] {
-                return true;
-            }
         }
         j += 1;
+    }
+    totals
+}
+
+// 8: whether an entry would grow past 65,535 bytes.
+fn too_long(entries: &[[u8; 16]; 16], mappings: Mappings) -> bool
+    requires { ⌜ (mappings .count ≤ 16) × (length (mappings .list) ≡ 16) ⌝ }
+    ensures { λ r. ⌜ r ≡ tooLong (mappedUses mappings) (now (entries .entry)) ⌝ }
+{
+    let totals = totals_of(mappings);
+    let mut k = 0;
+    while k < 16 {
+        let length = length_now(entries[k]);
+        if 65535 < length + totals[k] {
+            return true;
+        }
+        k += 1;
     }
     false
 }
@@ -149,24 +177,31 @@ fn length_now(image: [u8; 16]) -> u32
     0
 }
 
+// Whether the direction is the reading one.
+fn reads(direction: PdoDirection) -> bool
+    ensures { λ r. ⌜ r ≡ isRead direction ⌝ }
+{
+    match direction {
+        PdoDirection::MasterRead => true,
+        PdoDirection::MasterWrite => false,
+    }
+}
+
 // What an entry becomes: an enabled one only has the size added, a disabled one is made new.
 fn laid_entry(before: Fmmu, mapping: Mapping, offset: PdiOffset, direction: PdoDirection) -> Fmmu
     requires { ⌜ lengthOf before + mapping .size .0 ≤ 65535 ⌝ }
     ensures { λ r. ⌜ r ≡ laid direction (offset .«start_address») (useFrom mapping) before ⌝ }
 {
     if before.enable {
+        let length = ByteLen(before.length_bytes.0 + mapping.size.0);
         let mut grown = before;
-        grown.length_bytes = ByteLen(before.length_bytes.0 + mapping.size.0);
+        grown.length_bytes = length;
         return grown;
     }
-    let size = mapping.size;
-    let read = match direction {
-        PdoDirection::MasterRead => true,
-        PdoDirection::MasterWrite => false,
-    };
+    let read = reads(direction);
     Fmmu {
         logical_start_address: offset.start_address,
-        length_bytes: size,
+        length_bytes: ByteLen(mapping.size.0),
         logical_start_bit: 0,
         logical_end_bit: 7,
         physical_start_address: mapping.at,
@@ -177,6 +212,20 @@ fn laid_entry(before: Fmmu, mapping: Mapping, offset: PdiOffset, direction: PdoD
     }
 }
 
+// Lays one sync manager into its entry; a number past the last one is no entry.
+fn lay_one(entries: &mut [[u8; 16]; 16], mapping: Mapping, offset: PdiOffset, direction: PdoDirection)
+    requires { ⌜ (length (now entries) ≡ 16) × (mapping .entry < 16 → lengthNow (getD (now entries) (mapping .entry) []) + mapping .size .0 ≤ 65535) ⌝ }
+    ensures { λ _. ⌜ now (entries .exit) ≡ withUse direction (offset .«start_address») (useFrom mapping) (now (entries .entry)) ⌝ }
+{
+    let e = mapping.entry;
+    if e < 16 {
+        let image = entries[e];
+        let before = Fmmu::unpack(image);
+        let after = laid_entry(before, mapping, offset, direction);
+        entries[e] = after.pack();
+    }
+}
+
 // Lays the sync managers one after another into the entries, from the offset on.
 fn lay(
     entries: &mut [[u8; 16]; 16],
@@ -184,18 +233,14 @@ fn lay(
     offset: PdiOffset,
     direction: PdoDirection,
 ) -> Moved
-    requires { ⌜ (mappings .count ≤ 16) × (tooLong (mappedUses mappings) (now entries) ≡ false) ⌝ }
+    requires { ⌜ (mappings .count ≤ 16) × (length (mappings .list) ≡ 16) × (length (now entries) ≡ 16) × (tooLong (mappedUses mappings) (now entries) ≡ false) ⌝ }
     ensures { λ r. ⌜ Lays (mappedUses mappings) direction (offset .«start_address») (now (entries .entry)) r (now (entries .exit)) ⌝ }
 {
     let mut next = offset;
     let mut j = 0;
     while j < mappings.count {
         let m = mappings.list[j];
-        let e = m.entry;
-        if e < 16 {
-            let before = Fmmu::unpack(entries[e]);
-            entries[e] = laid_entry(before, m, next, direction).pack();
-        }
+        lay_one(entries, m, next, direction);
         match next.increment(m.size) {
             Moved::To(o) => next = o,
             Moved::Refused(number) => return Moved::Refused(number),

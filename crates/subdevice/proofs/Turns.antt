@@ -100,35 +100,35 @@ pub was-refused : {A : Type 0} (n m : ℕ) (t : Bool) (x : A) → refused m ≡ 
 was-refused n m true x e = (refl, cc)
 was-refused n m false x e = absurd (never e)
 
--- one more sync manager: it isn't wanted or has few enough bits, or it has too many
-abbrev pub wide : Piece → Bool
-wide p = tooManyBits (p .bits)
+-- a question about the bits of the wanted sync managers: of one more, and of none
+abbrev pub ask : (ℕ → Bool) → List Piece → Bool
+ask t ps = someOf (λ (p : Piece). t (p .bits)) ps
 
-module _ (usage : ℕ) (bits : ℕ → ℕ) (k : ℕ) (m : SyncManager) (ms l : List SyncManager) (e : l ≡ m ∷ ms) where
-  pub few-bits : (eqb (m .«usage_type») usage && tooManyBits (bits k)) ≡ false → someOf wide (piecesFrom usage bits (k + 1) ms) ≡ someOf wide (piecesFrom usage bits k l)
+module _ (t : ℕ → Bool) (usage : ℕ) (bits : ℕ → ℕ) (k : ℕ) (m : SyncManager) (ms l : List SyncManager) (e : l ≡ m ∷ ms) where
+  pub ask-on : (eqb (m .«usage_type») usage && t (bits k)) ≡ false → ask t (piecesFrom usage bits (k + 1) ms) ≡ ask t (piecesFrom usage bits k l)
   unfolding piecesFrom
-  few-bits h = rw (e, add-one) (go (eqb (m .«usage_type») usage) h)
+  ask-on h = rw (e, add-one) (go (eqb (m .«usage_type») usage) h)
     where
       go :
-          (t : Bool) → (t && tooManyBits (bits k)) ≡ false
-          → someOf wide (piecesFrom usage bits (suc k) ms)
-          ≡ someOf wide (cond t (record { number = k; bits = bits k; address = m .«start_addr» } ∷ piecesFrom usage bits (suc k) ms) (piecesFrom usage bits (suc k) ms))
+          (b : Bool) → (b && t (bits k)) ≡ false
+          → ask t (piecesFrom usage bits (suc k) ms)
+          ≡ ask t (cond b (record { number = k; bits = bits k; address = m .«start_addr» } ∷ piecesFrom usage bits (suc k) ms) (piecesFrom usage bits (suc k) ms))
       go true h = rw h
       go false h = refl
 
-  pub too-many-bits : (eqb (m .«usage_type») usage && tooManyBits (bits k)) ≡ true → someOf wide (piecesFrom usage bits k l) ≡ true
+  pub ask-here : (eqb (m .«usage_type») usage && t (bits k)) ≡ true → ask t (piecesFrom usage bits k l) ≡ true
   unfolding piecesFrom
-  too-many-bits h = rw e (go (eqb (m .«usage_type») usage) h)
+  ask-here h = rw e (go (eqb (m .«usage_type») usage) h)
     where
       go :
-          (t : Bool) → (t && tooManyBits (bits k)) ≡ true
-          → someOf wide (cond t (record { number = k; bits = bits k; address = m .«start_addr» } ∷ piecesFrom usage bits (suc k) ms) (piecesFrom usage bits (suc k) ms)) ≡ true
+          (b : Bool) → (b && t (bits k)) ≡ true
+          → ask t (cond b (record { number = k; bits = bits k; address = m .«start_addr» } ∷ piecesFrom usage bits (suc k) ms) (piecesFrom usage bits (suc k) ms)) ≡ true
       go true h = rw h
       go false h = absurd (false≢true h)
 
-pub none-wanted : (usage : ℕ) (bits : ℕ → ℕ) (k : ℕ) (l : List SyncManager) → l ≡ [] → someOf wide (piecesFrom usage bits k l) ≡ false
+pub ask-none : (t : ℕ → Bool) (usage : ℕ) (bits : ℕ → ℕ) (k : ℕ) (l : List SyncManager) → l ≡ [] → ask t (piecesFrom usage bits k l) ≡ false
 unfolding piecesFrom
-none-wanted usage bits k l e = rw e
+ask-none t usage bits k l e = rw e
 
 -- none of sixteen is filled yet
 pub none-yet : {A : Type 0} (f : ℕ → A) (d : A) → replicate 16 d ≡ listOf f 0 ++ replicate (16 - 0) d

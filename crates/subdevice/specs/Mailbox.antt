@@ -21,13 +21,9 @@ use Rattle.pdo.specs.Bits.{byCoe}
 use Rattle.area.specs.Area.{entriesOf, flat}
 use Rattle.channels.specs.Channels.{channelsAfter}
 
--- each usage 1 is written with the receive size and each usage 2 with the send size; without flag bit 0 nothing is written
+-- each usage 1 is written with the receive size and each usage 2 with the send size
 abbrev pub mailboxSize : Data → ℕ → SyncManager → Option ℕ
-mailboxSize d k m =
-    cond
-    (d .mailbox)
-    (cond (eqb (m .«usage_type») 1) (some (d .receive)) (cond (eqb (m .«usage_type») 2) (some (d .send)) none))
-    none
+mailboxSize d k m = cond (eqb (m .«usage_type») 1) (some (d .receive)) (cond (eqb (m .«usage_type») 2) (some (d .send)) none)
 
 -- the last of a usage (address, size, number); `before` is what was recorded so far
 abbrev pub laterOf : ℕ → ℕ → Slot → ℕ → SyncManager → Slot
@@ -65,10 +61,14 @@ mailboxRefusals sheet area = when 1 (notChannels area) ∷ sheetRefusals sheet
 unfoldable pub mailboxPass : List ℕ → List ℕ → Outcome MailboxConfig
 mailboxPass sheet area = decide (mailboxRefusals sheet area) (configOf (sheetData sheet))
 
--- what the area then holds: a refusal writes nothing
+-- what the pass writes
+unfoldable pub mailboxChannels : Data → List ℕ → List ℕ
+mailboxChannels d area = flat (channelsAfter (mailboxSize d) 0 (d .managers) (entriesOf 8 area))
+
+-- what the area then holds: a refusal writes nothing, and neither does a pass without flag bit 0
 abbrev pub mailboxArea : Outcome MailboxConfig → Data → List ℕ → List ℕ
 mailboxArea (refused n) d area = area
-mailboxArea (accepted c) d area = flat (channelsAfter (mailboxSize d) 0 (d .managers) (entriesOf 8 area))
+mailboxArea (accepted c) d area = cond (d .mailbox) (mailboxChannels d area) area
 
 -- what the cases of `MailboxRead` say
 abbrev pub mailboxOf : MailboxRead → Outcome MailboxConfig

@@ -46,6 +46,10 @@ planRefusals d ws r offset group entries =
 abbrev pub plannedOf : Data → List ℕ → PdoDirection → ℕ → ℕ → Planned
 plannedOf d ws r offset group = planned offset group (sizeOf d ws r)
 
+-- planning device data
+unfoldable pub planOutcome : Data → List ℕ → PdoDirection → ℕ → ℕ → List ℕ → Outcome Planned
+planOutcome d ws r offset group fmmus = decide (planRefusals d ws r offset group (entriesOf 16 fmmus)) (plannedOf d ws r offset group)
+
 -- the whole call
 abbrev pub passRefusals : List ℕ → List ℕ → PdoDirection → ℕ → ℕ → List ℕ → List ℕ → List Refusal
 passRefusals sheet ws r offset group fmmus channels =
@@ -68,8 +72,13 @@ abbrev pub channelAreaAfter : Outcome Planned → Data → List ℕ → PdoDirec
 channelAreaAfter (refused n) d ws r area = area
 channelAreaAfter (accepted p) d ws r area = flat (channelsAfter (dataSize d ws r) 0 (d .managers) (entriesOf 8 area))
 
--- the promise of the pass: its answer with the next offset, and both areas
-pub record Configures (sheet ws : List ℕ) (r : PdoDirection) (offset group : ℕ) (fmmus channels : List ℕ) (answer : Configured) (fmmusAfter channelsAfter : List ℕ) : Type 0 where
+-- the promise of planning device data, and that of the whole pass: its answer with the next offset, and both areas
+pub record Plans (d : Data) (ws : List ℕ) (r : PdoDirection) (offset group : ℕ) (fmmus channels : List ℕ) (answer : Configured) (fmmusThen channelsThen : List ℕ) : Type 0 where
+  pub says : configuredOf answer ≡ planOutcome d ws r offset group fmmus
+  pub entries : fmmusThen ≡ entriesAfter (planOutcome d ws r offset group fmmus) d ws r offset fmmus
+  pub images : channelsThen ≡ channelAreaAfter (planOutcome d ws r offset group fmmus) d ws r channels
+
+pub record Configures (sheet ws : List ℕ) (r : PdoDirection) (offset group : ℕ) (fmmus channels : List ℕ) (answer : Configured) (fmmusThen channelsThen : List ℕ) : Type 0 where
   pub says : configuredOf answer ≡ dataPass sheet ws r offset group fmmus channels
-  pub entries : fmmusAfter ≡ entriesAfter (dataPass sheet ws r offset group fmmus channels) (sheetData sheet) ws r offset fmmus
-  pub images : channelsAfter ≡ channelAreaAfter (dataPass sheet ws r offset group fmmus channels) (sheetData sheet) ws r channels
+  pub entries : fmmusThen ≡ entriesAfter (dataPass sheet ws r offset group fmmus channels) (sheetData sheet) ws r offset fmmus
+  pub images : channelsThen ≡ channelAreaAfter (dataPass sheet ws r offset group fmmus channels) (sheetData sheet) ws r channels

@@ -19,9 +19,9 @@ use Rattle.sheet.specs.declared.SyncManager.{SyncManager}
 use Rattle.sheet.proofs.Lists as lists
 use Rattle.channels.specs.declared.Wish.{Wish}
 use Rattle.channels.specs.Channels.{noWish}
-use Rattle.pdo.specs.Bits.{someOf, piecesFrom}
+use Rattle.pdo.specs.Bits.{piecesFrom}
 use Rattle.subdevice.specs.Wishes.{bitsIn, dataWish, sizedOf, someTooWide, wishesAfter}
-use Rattle.subdevice.proofs.Turns.{blank, wide, used, turn, taken-at, over, none-yet, not-refused, was-refused, few-bits, too-many-bits, none-wanted}
+use Rattle.subdevice.proofs.Turns.{blank, ask, used, turn, taken-at, over, none-yet, not-refused, was-refused, ask-on, ask-here, ask-none}
 use Rattle.subdevice.proofs.data_wishes.Statement.{statement}
 use Rattle.subdevice.proofs.data_wishes.Tie as tie
 
@@ -33,7 +33,7 @@ abbrev Inv-loop : tie.InvT-loop
 Inv-loop n usage managers sums list₀ count k₀ list k =
     (k ≤ count) × (count ≡ min n 16) × (length managers ≡ 16)
     × (list ≡ listOf (wishAt usage sums n managers) k ++ replicate (16 - k) noWish)
-    × (someOf wide (piecesFrom usage (bitsIn sums) k (drop k (take n managers))) ≡ someTooWide usage sums (take n managers))
+    × (ask tooManyBits (piecesFrom usage (bitsIn sums) k (drop k (take n managers))) ≡ someTooWide usage sums (take n managers))
 
 abbrev μ-loop : tie.MeasureT-loop
 μ-loop n usage managers sums list₀ count k₀ list k = count - k
@@ -90,7 +90,7 @@ returns c =
     let r = was-refused 6 (n .0 .0) t _ e in
     let some : someTooWide (a .usage) (a .t4) (take (a .n) (a .t1)) ≡ true =
     sym (l .inv .4)
-    ∙ too-many-bits (a .usage) (bitsIn (a .t4)) (l .k) m (drop (l .k + 1) (take (a .n) (a .t1))) (drop (l .k) (take (a .n) (a .t1)))
+    ∙ ask-here tooManyBits (a .usage) (bitsIn (a .t4)) (l .k) m (drop (l .k + 1) (take (a .n) (a .t1))) (drop (l .k) (take (a .n) (a .t1)))
     (turn (a .t1) (a .n) 16 (l .inv .2) (l .k) blank (omega arith)) (r .0) in
     rw some (ap refused (r .1), refl)
 
@@ -117,7 +117,7 @@ loop-again c =
       l .inv .1,
       l .inv .2,
       ap (set (l .list) (l .k)) (sym is) ∙ lists.filled f noWish 16 (l .k) (l .list) (below (c .before .before .before .before .before .before)) (l .inv .3),
-      few-bits (a .usage) (bitsIn (a .t4)) (l .k) m (drop (l .k + 1) (take (a .n) (a .t1))) (drop (l .k) (take (a .n) (a .t1)))
+      ask-on tooManyBits (a .usage) (bitsIn (a .t4)) (l .k) m (drop (l .k + 1) (take (a .n) (a .t1))) (drop (l .k) (take (a .n) (a .t1)))
       (turn (a .t1) (a .n) 16 (l .inv .2) (l .k) blank (omega arith)) (not-refused 6 t _ (w .0 .0) e) ∙ l .inv .4,
     )
 
@@ -128,7 +128,7 @@ returns-2 c =
     let a = c .before .before .before .args in
     let ms = take (a .n) (a .t1) in
     let none : someTooWide (a .usage) (a .t4) ms ≡ false =
-    sym (l .inv .4) ∙ none-wanted (a .usage) (bitsIn (a .t4)) (l .k) (drop (l .k) ms) (over (a .t1) (a .n) 16 (l .inv .2) (l .k) (omega arith)) in
+    sym (l .inv .4) ∙ ask-none tooManyBits (a .usage) (bitsIn (a .t4)) (l .k) (drop (l .k) ms) (over (a .t1) (a .n) 16 (l .inv .2) (l .k) (omega arith)) in
     let e : l .k ≡ length ms = omega (arith, used (a .t1) (a .n) 16 (l .inv .2)) in
     rw none (refl, l .inv .3 ∙ ap (λ (k : ℕ). listOf (wishAt (a .usage) (a .t4) (a .n) (a .t1)) k ++ replicate (16 - k) noWish) e)
 

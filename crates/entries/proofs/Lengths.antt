@@ -1,0 +1,106 @@
+-- The lengths of entries: none grows past 65,535 on the way if none does in the end.
+-- Assumes nothing.
+use mathlib.Core.Path.{_≡_, refl, sym, _∙_, ap, ap₂, subst}
+use mathlib.Core.Bool.{Bool, true, false, cond, false≢true}
+use mathlib.Core.List.{List, [], _∷_}
+use Prim.Native.Nat.{ℕ, _+_, _^_, _<_, _≤_}
+use native.Mathlib.Nat.{zero-add}
+use native.Mathlib.Decide.{ℕ-discrete}
+use native.Mathlib.Omega.{arith}
+use lib.ListN.{length, getD, set}
+use lib.Seq.{getD-set-same, getD-set-other}
+use lib.Dec.{eqb, ltb}
+use borrow.Author.Tests.{ltb-false, eq-eqb, ne-eqb}
+use Rattle.wire.specs.Field.{flagAt, bit}
+use Rattle.wire.proofs.Numbers.{joined-is}
+use Rattle.sheet.proofs.Lists.{some-hit}
+use Rattle.sheet.specs.Lists.{someBelow}
+use Rattle.fmmu.specs.declared.Fmmu.{Fmmu}
+use Rattle.fmmu.specs.Image.{fieldsOf, imageOf}
+use Rattle.pdo.specs.declared.PdoDirection.{PdoDirection}
+use Rattle.entries.specs.Use.{Use, totalOn}
+use Rattle.entries.specs.Entries.{mapped, grown, laid, withUse, lengthOf, lengthNow, tooLong}
+
+flag-back : (x : Bool) → flagAt (bit x) 0 ≡ x
+flag-back true = refl
+flag-back false = refl
+
+-- the length of an entry that was written
+pub written-length : (f : Fmmu) → f .«length_bytes» .0 ≤ 65535 → lengthNow (imageOf f) ≡ lengthOf f
+unfolding fieldsOf imageOf
+written-length f h = ap₂ (λ (b : Bool) (n : ℕ). cond b n 0) (flag-back (f .enable)) (joined-is 2 (f .«length_bytes» .0) (omega arith))
+
+-- laying adds the size, to nothing where the entry was disabled
+pub laid-length : (r : PdoDirection) (o : ℕ) (u : Use) (f : Fmmu) → lengthOf f + u .size ≤ 65535 → lengthNow (imageOf (laid r o u f)) ≡ lengthOf f + u .size
+laid-length r o u f h = go (f .enable) refl
+  where
+    chosen : {b : Bool} → f .enable ≡ b → lengthNow (imageOf (laid r o u f)) ≡ lengthNow (imageOf (cond b (grown f (u .size)) (mapped r o (u .size) (u .at))))
+    chosen e = ap (λ (b : Bool). lengthNow (imageOf (cond b (grown f (u .size)) (mapped r o (u .size) (u .at))))) e
+
+    go : (b : Bool) → f .enable ≡ b → lengthNow (imageOf (laid r o u f)) ≡ lengthOf f + u .size
+    go true e =
+        let s : f .«length_bytes» .0 + u .size ≤ 65535 = simp e at h in
+        let t : lengthOf (grown f (u .size)) ≡ lengthOf f + u .size = rw e in
+        chosen e ∙ written-length (grown f (u .size)) s ∙ t
+    go false e =
+        let s : u .size ≤ 65535 = omega arith in
+        let t : u .size ≡ lengthOf f + u .size = rw (e, zero-add) in
+        chosen e ∙ written-length (mapped r o (u .size) (u .at)) s ∙ t
+
+-- no entry's length exceeds 65,535 with these uses
+pub record Room (us : List Use) (entries : List (List ℕ)) : Type 0 where
+  pub fits : (k : ℕ) → k < 16 → lengthNow (getD entries k []) + totalOn k us ≤ 65535
+
+pub not-too-long : (us : List Use) (entries : List (List ℕ)) → tooLong us entries ≡ false → Room us entries
+unfolding tooLong
+not-too-long us entries e = record { fits = λ k h. ltb-false 65535 (long k) (none k h (ltb 65535 (long k)) refl) }
+  where
+    long : ℕ → ℕ
+    long k = lengthNow (getD entries k []) + totalOn k us
+
+    none : (k : ℕ) → k < 16 → (b : Bool) → ltb 65535 (long k) ≡ b → b ≡ false
+    none k h false s = refl
+    none k h true s = absurd (false≢true (sym e ∙ some-hit (λ j. ltb 65535 (long j)) k 16 h s))
+
+-- what a use adds to the bytes on an entry
+module _ (u : Use) (us : List Use) (k : ℕ) where
+  pub total-here : u .entry ≡ k → totalOn k (u ∷ us) ≡ u .size + totalOn k us
+  unfolding totalOn
+  total-here e = rw (eq-eqb (u .entry) k e)
+
+  pub total-other : (u .entry ≡ k → ⊥) → totalOn k (u ∷ us) ≡ totalOn k us
+  unfolding totalOn
+  total-other e = rw (ne-eqb (u .entry) k e, zero-add)
+
+module _ (u : Use) (us : List Use) (entries : List (List ℕ)) (room : Room (u ∷ us) entries) where
+  -- the first use's own entry has room for it
+  pub room-first : u .entry < 16 → lengthNow (getD entries (u .entry) []) + u .size ≤ 65535
+  room-first h =
+      let s = room .fits (u .entry) h in
+      let t = total-here u us (u .entry) refl in
+      omega arith
+
+  -- when it is laid, there is room for the rest
+  pub room-rest : (r : PdoDirection) (o : ℕ) → length entries ≡ 16 → Room us (withUse r o u entries)
+  room-rest r o n = record { fits = λ k h. go k h (ℕ-discrete (u .entry) k) }
+    where
+      after : List (List ℕ)
+      after = withUse r o u entries
+
+      here : u .entry < 16 → lengthNow (getD after (u .entry) []) + totalOn (u .entry) us ≤ 65535
+      here h =
+          let s = room .fits (u .entry) h in
+          let t = total-here u us (u .entry) refl in
+          let f = fieldsOf (getD entries (u .entry) []) in
+          let w : lengthNow (getD after (u .entry) []) ≡ lengthOf f + u .size =
+          ap lengthNow (getD-set-same entries (u .entry) (imageOf (laid r o u f)) [] (omega arith)) ∙ laid-length r o u f (room-first h) in
+          omega arith
+
+      go : (k : ℕ) → k < 16 → Dec (u .entry ≡ k) → lengthNow (getD after k []) + totalOn k us ≤ 65535
+      go k h (yes e) = subst (λ (j : ℕ). lengthNow (getD after j []) + totalOn j us ≤ 65535) e (here (omega arith))
+      go k h (no e) =
+          let s = room .fits k h in
+          let t = total-other u us k e in
+          let w : lengthNow (getD after k []) ≡ lengthNow (getD entries k []) =
+          ap lengthNow (getD-set-other entries (u .entry) k (imageOf (laid r o u (fieldsOf (getD entries (u .entry) [])))) [] (λ q. e (sym q))) in
+          omega arith
