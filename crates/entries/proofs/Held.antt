@@ -102,4 +102,4 @@ module _ {route : Route} {ws : List Wish} {ms : List SyncManager} {list : List M
 module _ {route : Route} {ws : List Wish} {ms : List SyncManager} {list : List Mapping} {count k : ℕ} (c : Collecting route ws ms list count k) where
   pub collecting-ends : length ms ≤ k → map useFrom (take count list) ≡ usesFrom route ws 0 ms
   unfolding usesFrom
-  collecting-ends l = sym (append-nil (map useFrom (take count list)) ) ∙ ap (λ (x : List SyncManager). map useFrom (take count list) ++ usesFrom route ws k x) (sym (drop-of-length-le ms {i = k} l)) ∙ c .uses
+  collecting-ends l = sym (append-nil (map useFrom (take count list))) ∙ ap (λ (x : List SyncManager). map useFrom (take count list) ++ usesFrom route ws k x) (sym (drop-of-length-le ms {i = k} l)) ∙ c .uses

@@ -78,17 +78,19 @@ pub fn write_entries(
     }
 }
 
-// Whether a sync manager uses an entry: on the CoE path only with bits.
+// Whether a sync manager uses an entry: by EEPROM even at 0 bits, on the CoE path only with bits.
 fn takes_entry(route: Route, wish: Wish) -> bool
     ensures { λ r. ⌜ r ≡ takes route wish ⌝ }
 {
-    if !wish.on {
+    let on = wish.on;
+    let bytes = wish.size.0;
+    if !route.coe {
+        return on;
+    }
+    if !on {
         return false;
     }
-    if !route.coe {
-        return true;
-    }
-    0 < wish.size.0
+    0 < bytes
 }
 
 // Which entry it uses: on the CoE path the given one, else its own.
@@ -213,7 +215,12 @@ fn laid_entry(before: Fmmu, mapping: Mapping, offset: PdiOffset, direction: PdoD
 }
 
 // Lays one sync manager into its entry; a number past the last one is no entry.
-fn lay_one(entries: &mut [[u8; 16]; 16], mapping: Mapping, offset: PdiOffset, direction: PdoDirection)
+fn lay_one(
+    entries: &mut [[u8; 16]; 16],
+    mapping: Mapping,
+    offset: PdiOffset,
+    direction: PdoDirection,
+)
     requires { ⌜ (length (now entries) ≡ 16) × (mapping .entry < 16 → lengthNow (getD (now entries) (mapping .entry) []) + mapping .size .0 ≤ 65535) ⌝ }
     ensures { λ _. ⌜ now (entries .exit) ≡ withUse direction (offset .«start_address») (useFrom mapping) (now (entries .entry)) ⌝ }
 {

@@ -1,16 +1,15 @@
 -- `area::load16`: after i turns the first i bytes of the area stand in the entries.
 -- Assumes nothing.
-use Prim.Native.Nat.{_-_, _≤_}
-use native.Mathlib.Nat.{min-le-left, min-le-right}
+use mathlib.Core.Path.{_≡_}
+use Prim.Native.Nat.{_-_, _≤_, min}
 use native.Mathlib.Omega.{arith}
-use denote.Ref.{now}
 use lib.ListN.{length}
 use Rattle.area.proofs.Filled.{Filled, filled-start, filled-more, filled-all}
 use Rattle.area.proofs.load16.Statement.{statement}
 use Rattle.area.proofs.load16.Tie as tie
 
 abbrev Inv-loop : tie.InvT-loop
-Inv-loop area out₀ n i₀ out i = (i ≤ n) × (n ≤ length area) × (n ≤ 256) × Filled 16 16 area out i
+Inv-loop area out₀ n i₀ out i = (i ≤ n) × (n ≡ min (length area) 256) × Filled 16 16 area out i
 
 abbrev μ-loop : tie.MeasureT-loop
 μ-loop area out₀ n i₀ out i = n - i
@@ -19,11 +18,7 @@ least-requires : tie.Need-least-requires Inv-loop μ-loop
 least-requires c κs = tt
 
 loop-holds : tie.Need-loop-holds Inv-loop μ-loop
-loop-holds c =
-    let l = now (c .before .before .args .area) in
-    let a = min-le-left (length l) 256 in
-    let b = min-le-right (length l) 256 in
-    (omega arith, omega arith, omega arith, filled-start 16 16 l)
+loop-holds c = (omega arith, omega arith, filled-start 16 16 _)
 
 shared-slice-read-out : tie.Need-shared-slice-read-out Inv-loop μ-loop
 shared-slice-read-out c = omega arith
@@ -46,12 +41,12 @@ loop-less c = omega arith
 loop-again : tie.Need-loop-again Inv-loop μ-loop
 loop-again c =
     let l = c .before .before .loop in
-    (omega arith, omega arith, omega arith, filled-more 16 16 _ (l .out) (l .i) (omega arith) (omega arith) (omega arith) (omega arith) (l .inv .3))
+    (omega arith, omega arith, filled-more 16 16 _ (l .out) (l .i) (omega arith) (omega arith) (omega arith) (omega arith) (l .inv .2))
 
 returns : tie.Need-returns Inv-loop μ-loop
 returns c =
     let l = c .before .loop in
-    filled-all 16 16 _ (l .out) (l .i) (omega arith) (l .inv .3)
+    filled-all 16 16 _ (l .out) (l .i) (omega arith) (l .inv .2)
 
 pub load16-spec : {M : Type 1} → statement M
 load16-spec =

@@ -2,8 +2,7 @@
 -- Assumes nothing.
 use mathlib.Core.Path.{_≡_, refl, _∙_}
 use mathlib.Core.List.{_++_}
-use Prim.Native.Nat.{_-_, _≤_}
-use native.Mathlib.Nat.{min-le-left, min-le-right}
+use Prim.Native.Nat.{_-_, _≤_, min}
 use native.Mathlib.Omega.{arith}
 use denote.Ref.{now}
 use lib.ListN.{length, take, drop, length-set}
@@ -14,7 +13,7 @@ use Rattle.area.proofs.store8.Statement.{statement}
 use Rattle.area.proofs.store8.Tie as tie
 
 abbrev Inv-loop : tie.InvT-loop
-Inv-loop area₀ entries n i₀ area i = (i ≤ n) × (n ≤ length area₀) × (n ≤ 128) × (length area ≡ length area₀) × (area ≡ take i (flat entries) ++ drop i area₀)
+Inv-loop area₀ entries n i₀ area i = (i ≤ n) × (n ≡ min (length area₀) 128) × (length area ≡ length area₀) × (area ≡ take i (flat entries) ++ drop i area₀)
 
 abbrev μ-loop : tie.MeasureT-loop
 μ-loop area₀ entries n i₀ area i = n - i
@@ -23,11 +22,7 @@ least-requires : tie.Need-least-requires Inv-loop μ-loop
 least-requires c κs = tt
 
 loop-holds : tie.Need-loop-holds Inv-loop μ-loop
-loop-holds c =
-    let l = now (c .before .before .args .area) in
-    let a = min-le-left (length l) 128 in
-    let b = min-le-right (length l) 128 in
-    (omega arith, omega arith, omega arith, refl, refl)
+loop-holds c = (omega arith, omega arith, refl, refl)
 
 mul-area : tie.Need-mul-area Inv-loop μ-loop
 mul-area c = omega arith
@@ -54,9 +49,8 @@ loop-again c =
     let xs = s .args .t1 in (
       omega arith,
       omega arith,
-      omega arith,
-      length-set (l .area) (l .i) _ ∙ l .inv .3,
-      stored-more 8 16 xs (now (s .args .area)) (l .area) (l .i) (rows 8 16 xs (s .good .0)) (omega arith) (omega arith) (omega arith) (l .inv .4),
+      length-set (l .area) (l .i) _ ∙ l .inv .2,
+      stored-more 8 16 xs (now (s .args .area)) (l .area) (l .i) (rows 8 16 xs (s .good .0)) (omega arith) (omega arith) (omega arith) (l .inv .3),
     )
 
 same-length : tie.Need-same-length Inv-loop μ-loop
@@ -67,7 +61,7 @@ returns c =
     let l = c .before .loop in
     let s = c .before .before .before .before in
     let xs = s .args .t1 in
-    stored-all 8 16 xs (now (s .args .area)) (l .area) (l .i) (rows 8 16 xs (s .good .0)) (omega arith) (l .inv .4)
+    stored-all 8 16 xs (now (s .args .area)) (l .area) (l .i) (rows 8 16 xs (s .good .0)) (omega arith) (l .inv .3)
 
 pub store8-spec : {M : Type 1} → statement M
 store8-spec =
