@@ -163,8 +163,7 @@ fn front(name: &[u8], bytes: &[u8], n: usize) {
 
 // ---- short sheets
 
-// Lengths, versions and flags.
-fn heads() {
+fn lengths_and_versions() {
     named(b"smallest", b"\x00\x09\x01\x00\x00\x00\x00\x00\x00\x00\x00");
     named(b"L is 8", b"\x00\x08\x01\x00\x00\x00\x00\x00\x00\x00");
     named(
@@ -179,6 +178,9 @@ fn heads() {
         b"length and version wrong",
         b"\x00\x0a\x02\x00\x00\x00\x00\x00\x00\x00\x00",
     );
+}
+
+fn flags() {
     named(b"flags 7", b"\x00\x09\x01\x07\xff\xff\x00\x01\x00\x00\x00");
     named(b"flags 8", b"\x00\x09\x01\x08\x00\x00\x00\x00\x00\x00\x00");
     named(
@@ -191,7 +193,6 @@ fn heads() {
     );
 }
 
-// Controls and enables of sync managers.
 fn controls() {
     named(
         b"control a6, enable fe",
@@ -205,6 +206,9 @@ fn controls() {
         b"control 23",
         b"\x00\x0e\x01\x00\x00\x00\x00\x00\x01\x00\x00\x10\x00\x23\x01\x01",
     );
+}
+
+fn unnamed_controls() {
     named(
         b"control 01, usage 0",
         b"\x00\x0e\x01\x00\x00\x00\x00\x00\x01\x00\x00\x10\x00\x01\x00\x00",
@@ -219,8 +223,7 @@ fn controls() {
     );
 }
 
-// The order of 3, 4 and 5; usages of sync managers.
-fn managers() {
+fn controls_and_other_rules() {
     named(
         b"control 23, usage 5",
         b"\x00\x0e\x01\x00\x00\x00\x00\x00\x01\x00\x00\x10\x00\x23\x01\x05",
@@ -237,6 +240,9 @@ fn managers() {
         b"control 23, flags 8, version 2",
         b"\x00\x0e\x02\x08\x00\x00\x00\x00\x01\x00\x00\x10\x00\x23\x01\x01",
     );
+}
+
+fn usages() {
     named(
         b"usage 5",
         b"\x00\x0e\x01\x00\x00\x00\x00\x00\x01\x00\x00\x10\x00\x20\x01\x05",
@@ -245,10 +251,6 @@ fn managers() {
         b"a sync manager cut short",
         b"\x00\x0d\x01\x00\x00\x00\x00\x00\x01\x00\x00\x10\x00\x20\x01",
     );
-}
-
-// FMMU usages, and CoE PDOs.
-fn usages_and_coe() {
     named(
         b"FMMU usages 0 to 3",
         b"\x00\x0d\x01\x00\x00\x00\x00\x00\x00\x04\x00\x00\x01\x02\x03",
@@ -261,6 +263,9 @@ fn usages_and_coe() {
         b"FMMU usages cut short",
         b"\x00\x0a\x01\x00\x00\x00\x00\x00\x00\x02\x00\x01",
     );
+}
+
+fn pdo_heads() {
     named(
         b"one PDO and no bytes",
         b"\x00\x09\x01\x00\x00\x00\x00\x00\x00\x00\x01",
@@ -273,6 +278,9 @@ fn usages_and_coe() {
         b"CoE with no mappings",
         b"\x00\x0e\x01\x00\x00\x00\x00\x00\x00\x00\x01\x00\xc8\x1a\x00\x00",
     );
+}
+
+fn coe_pdos() {
     named(
         b"CoE cut short",
         b"\x00\x10\x01\x00\x00\x00\x00\x00\x00\x00\x01\x00\x00\x1a\x00\x03\x01\x02",
@@ -287,8 +295,7 @@ fn usages_and_coe() {
     );
 }
 
-// The kinds of PDOs.
-fn kinds() {
+fn eeprom_pdos() {
     named(
         b"kind 1",
         b"\x00\x10\x01\x00\x00\x00\x00\x00\x00\x00\x01\x01\xc8\x1a\x00\x02\xff\xfa",
@@ -305,6 +312,9 @@ fn kinds() {
         b"kind 1 with m 3",
         b"\x00\x11\x01\x00\x00\x00\x00\x00\x00\x00\x01\x01\x00\x1a\x00\x03\x00\x08\x00",
     );
+}
+
+fn kinds() {
     named(
         b"kind 2 with m 0",
         b"\x00\x0e\x01\x00\x00\x00\x00\x00\x00\x00\x01\x02\x00\x16\x00\x00",
@@ -321,6 +331,19 @@ fn kinds() {
         b"all kinds",
         b"\x00\x1c\x01\x05\x00\x00\x00\x00\x00\x00\x03\x02\x01\x16\x00\x02\x01\x00\x00\x00\x1a\x00\x00\x01\xff\x1a\x01\x02\x00\x01",
     );
+}
+
+fn short_sheets() {
+    lengths_and_versions();
+    flags();
+    controls();
+    unnamed_controls();
+    controls_and_other_rules();
+    usages();
+    pdo_heads();
+    coe_pdos();
+    eeprom_pdos();
+    kinds();
 }
 
 // ---- the sample of document 01
@@ -471,11 +494,7 @@ fn sixteen_usages() {
 }
 
 fn main() {
-    heads();
-    controls();
-    managers();
-    usages_and_coe();
-    kinds();
+    short_sheets();
     sample_and_damage();
     sixteen();
     sixteen_usages();
