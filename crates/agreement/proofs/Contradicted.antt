@@ -1,0 +1,172 @@
+-- What contradicts demand 3: a pass that writes nothing, one that pretends in the second direction, one that invents its sizes.
+-- Assumes nothing.
+use mathlib.Core.Path.{_≡_, refl, sym, _∙_, ap, subst}
+use mathlib.Core.Bool.{true, false}
+use mathlib.Core.List.{List, [], _∷_}
+use mathlib.Core.Logic.{_⊎_, inl, inr}
+use mathlib.Core.Option.{none, some}
+use Prim.Native.Nat.{ℕ, _+_, _-_, _^_, _≤_, _<_}
+use native.Mathlib.Omega.{arith}
+use lib.Dec.{ltb}
+use lib.ListN.{length, getD}
+use borrow.Author.Tests.{ltb-true, ltb-false, le-leb, eq-eqb}
+use Rattle.wire.specs.Outcome.{accepted}
+use Rattle.sheet.specs.Sound.{Each}
+use Rattle.sheet.specs.Sheet.{sheetData}
+use Rattle.pdo.specs.declared.PdoDirection.{PdoDirection}
+use Rattle.pdo.specs.Direction.{other}
+use Rattle.entries.specs.Use.{Use, total, sizeOf}
+use Rattle.area.specs.Area.{entriesOf, flat}
+use Rattle.entries.specs.Entries.{plan}
+use Rattle.agreement.specs.Translate.{says, odd, orNone, translate}
+use Rattle.agreement.specs.Agreement.{AllBytes, EveryDisabled, Lent, weights, Accepted, TwoPasses, laidBy, Agree, InReach}
+use Rattle.agreement.proofs.Basics.{either, first-none, none-at, never-none, inside, behind}
+use Rattle.agreement.proofs.Straight.{lay, Lays, goOn, goOn-total, lay-behind}
+use Rattle.agreement.proofs.Step.{Silent, off-silent, says-silent, odd-silent}
+use Rattle.agreement.proofs.Run.{said, none-odd, other-silents}
+use Rattle.agreement.proofs.Uses.{uses-total}
+use Rattle.agreement.proofs.Areas.{length-chunks, planned-long, planned-entries}
+use Rattle.agreement.proofs.Demand3.{one-of-two, two, ownBy, sizeBy, Facts, facts, sane-uses, lays, counted-own, counted-lay, disabled-off, disabled-start}
+
+-- an address of the range at which laying names a device address
+record Found (q : ℕ) (us : List Use) : Type 0 where
+  at : ℕ
+  there : (q ≤ at) × (at < q + total us)
+  device : ℕ
+  is : orNone (lay q us at) ≡ some device
+
+module _ (q : ℕ) (u : Use) (us : List Use) where
+  found-here : (n : ℕ) → n < u .size → u .at + n ≤ 65535 → Found q (u ∷ us)
+  unfolding lay total
+  found-here n h g =
+      let e : q + n - q ≡ n = omega arith in
+      record {
+        at = q + n;
+        there = (omega arith, omega arith);
+        device = u .at + n;
+        is = rw (inside q (u .size) (q + n) (omega arith) (omega arith), e, le-leb (u .at + n) 65535 g) refl;
+      }
+
+  found-later : Found (q + u .size) us → Found q (u ∷ us)
+  unfolding lay total
+  found-later f =
+      let t = f .there in
+      record { at = f .at; there = (omega arith, omega arith); device = f .device; is = rw (behind q (u .size) (f .at) (f .there .0)) (f .is) }
+
+found-first : (q : ℕ) (us : List Use) → Each (λ (u : Use). u .at < 65536) us → 0 < total us → Found q us
+unfolding total
+found-first q [] b h = absurd (omega arith)
+found-first q (u ∷ us) b h = go (either (ltb 0 (u .size))) (found-first (q + u .size) us (b .1))
+  where
+    go : (ltb 0 (u .size) ≡ true) ⊎ (ltb 0 (u .size) ≡ false) → (0 < total us → Found (q + u .size) us) → Found q (u ∷ us)
+    go (inl e) i = let l = b .0 in found-here q u us 0 (ltb-true 0 (u .size) e) (omega arith)
+    go (inr e) i = let l = ltb-false 0 (u .size) e in found-later q u us (i (omega arith))
+
+abbrev InReachOf : List Use → Type 0
+InReachOf us = Each (λ (u : Use). 0 < u .size → u .at + u .size ≤ 65536) us
+
+found-last : (q : ℕ) (us : List Use) → InReachOf us → 0 < total us → (f : Found q us) × (f .at + 1 ≡ q + total us)
+unfolding total found-here found-later
+found-last q [] b h = absurd (omega arith)
+found-last q (u ∷ us) b h = go (either (ltb 0 (total us))) (found-last (q + u .size) us (b .1))
+  where
+    go : (ltb 0 (total us) ≡ true) ⊎ (ltb 0 (total us) ≡ false) → (0 < total us → (f : Found (q + u .size) us) × (f .at + 1 ≡ q + u .size + total us))
+        → (f : Found q (u ∷ us)) × (f .at + 1 ≡ q + (u .size + total us))
+    go (inl e) i = let f = i (ltb-true 0 (total us) e) in let w = f .1 in (found-later q u us (f .0), omega arith)
+    go (inr e) i =
+        let l = ltb-false 0 (total us) e in
+        let c : u .at + u .size ≤ 65536 = b .0 (omega arith) in
+        (found-here q u us (u .size - 1) (omega arith) (omega arith), omega arith)
+
+-- entries of no weight for a direction name nothing: on nonempty data that isn't what counting names
+module _ (sheet : List ℕ) (bytes : AllBytes sheet) (r : PdoDirection) (l : Lent) (area after : List ℕ) (f : Facts sheet r l area after) where
+  silent-disagrees : (final : List ℕ) → length final ≡ 256 → ((k : ℕ) → Silent r (getD (entriesOf 16 final) k [])) → 0 < sizeBy sheet r l → Agree sheet r l final → ⊥
+  unfolding translate
+  silent-disagrees final long silents h agree =
+      let z : total (laidBy sheet r l) ≡ sizeBy sheet r l = uses-total (sheetData sheet) (weights sheet l) r in
+      let y = lays sheet bytes r l area after f in
+      let s = found-first (l .offset) (laidBy sheet r l) (y .addresses) (omega arith) in
+      let ends = y .ends in
+      let there = s .there in
+      let nothing : translate r final (s .at) ≡ accepted none =
+      rw (
+        eq-eqb (length final) 256 long,
+        none-at (odd r) (entriesOf 16 final) [] (λ k. odd-silent r _ (silents k)),
+        first-none (says r (s .at)) (entriesOf 16 final) [] (λ k. says-silent r (s .at) _ (silents k)),
+      )
+      refl in
+      let e : accepted none ≡ accepted (orNone (lay (l .offset) (laidBy sheet r l) (s .at))) = sym nothing ∙ agree (s .at) (omega arith) ∙ counted-lay sheet bytes r l area after f (s .at) in
+      let n : orNone (lay (l .offset) (laidBy sheet r l) (s .at)) ≡ none = cc in
+      never-none (sym (s .is) ∙ n)
+
+-- a pass that is accepted and writes nothing
+pub writes-nothing : (sheet : List ℕ) → AllBytes sheet → (r : PdoDirection) (l : Lent) (area after : List ℕ) → Accepted sheet r l area after
+    → EveryDisabled area → 0 < sizeBy sheet r l → Agree sheet r l area → ⊥
+writes-nothing sheet bytes r l area after p d =
+    let f = facts sheet r l area after p in
+    silent-disagrees sheet bytes r l area after f area (f .long) (λ k. off-silent r _ (disabled-off area d k))
+
+-- one that maps the first direction and pretends in the second
+pretends-second : (sheet : List ℕ) → AllBytes sheet → (r : PdoDirection) (l m : Lent) (area between after : List ℕ) → EveryDisabled area
+    → Facts sheet (other r) m area between → Facts sheet r l between after → 0 < sizeBy sheet r l → Agree sheet r l between → ⊥
+pretends-second sheet bytes r l m area between after d g f =
+    silent-disagrees sheet bytes r l between after f between (f .long)
+    (subst (λ (es : List (List ℕ)). (k : ℕ) → Silent r (getD es k [])) (sym (g .leaves))
+    (other-silents r (m .offset) (laidBy sheet (other r) m) (entriesOf 16 area) (length-chunks 16 16 area)
+    (λ k. off-silent r _ (disabled-off area d k))
+    (sane-uses sheet bytes (other r) m area between g .places)))
+
+pub pretends : (sheet : List ℕ) (lent : PdoDirection → Lent) (first : PdoDirection) (area after : List ℕ) → AllBytes sheet
+    → (p : TwoPasses sheet lent first area after) → 0 < sizeBy sheet (other first) (lent (other first))
+    → Agree sheet (other first) (lent (other first)) (p .between) → ⊥
+pretends sheet lent first area after bytes p =
+    pretends-second sheet bytes (other first) (lent (other first)) (lent first) area (p .between) after (p .disabled)
+    (one-of-two sheet bytes lent area after first p)
+    (two sheet bytes lent area after first p)
+
+-- sizes that add up to less differ at the last byte of the longer
+last-byte-differs : (q : ℕ) (us vs : List Use) → InReachOf us → total vs < total us → q + total us < 2 ^ 32 → ((a : ℕ) → a < 2 ^ 32 → orNone (lay q us a) ≡ orNone (lay q vs a)) → ⊥
+last-byte-differs q us vs b h e same =
+    let f = found-last q us b (omega arith) in
+    let w = f .1 in
+    let y = same (f .0 .at) (omega arith) in
+    let z : lay q vs (f .0 .at) ≡ none = lay-behind q (f .0 .at) vs (omega arith) in
+    never-none (sym (f .0 .is) ∙ y ∙ ap orNone z)
+
+-- one that lays invented sizes: any uses that could be laid there, but of another total
+module _ (sheet : List ℕ) (bytes : AllBytes sheet) (r : PdoDirection) (l : Lent) (area after : List ℕ)
+    (p : Accepted sheet r l area after) (d : EveryDisabled area) (vs : List Use) (y : Lays (l .offset) vs) where
+  long : length area ≡ 256
+  long = facts sheet r l area after p .long
+
+  invented : Agree sheet r l (flat (plan r (l .offset) vs (entriesOf 16 area)))
+      → (a : ℕ) → a < 2 ^ 32 → orNone (lay (l .offset) (ownBy sheet r l) a) ≡ orNone (lay (l .offset) (goOn 16 0 vs) a)
+  unfolding translate
+  invented agree a h =
+      let es = plan r (l .offset) vs (entriesOf 16 area) in
+      let t = disabled-start r vs area d in
+      let x : translate r (flat es) a ≡ accepted (orNone (lay (l .offset) (goOn 16 0 vs) a)) =
+      rw (
+        eq-eqb (length (flat es)) 256 (planned-long r (l .offset) vs area long),
+        planned-entries r (l .offset) vs area long,
+        none-odd r (l .offset) vs (entriesOf 16 area) y t,
+        said r (l .offset) vs (entriesOf 16 area) y t a,
+      )
+      refl in
+      let c = counted-own sheet bytes r l area after (facts sheet r l area after p) a in
+      let g = agree a h in
+      cc
+
+  pub invented-too-small : InReach sheet r l → total vs < sizeBy sheet r l → Agree sheet r l (flat (plan r (l .offset) vs (entriesOf 16 area))) → ⊥
+  unfolding sizeOf
+  invented-too-small b h agree =
+      let z = goOn-total 16 0 vs in
+      let e = ltb-false 4294967295 (l .offset + sizeBy sheet r l) (facts sheet r l area after p .end) in
+      last-byte-differs (l .offset) (ownBy sheet r l) (goOn 16 0 vs) b (omega arith) (omega arith) (invented agree)
+
+  pub invented-too-large : InReachOf (goOn 16 0 vs) → sizeBy sheet r l < total vs → Agree sheet r l (flat (plan r (l .offset) vs (entriesOf 16 area))) → ⊥
+  unfolding sizeOf
+  invented-too-large b h agree =
+      let z = goOn-total 16 0 vs in
+      let e = y .ends in
+      last-byte-differs (l .offset) (goOn 16 0 vs) (ownBy sheet r l) b (omega arith) (omega arith) (λ a g. sym (invented agree a g))

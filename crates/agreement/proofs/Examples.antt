@@ -1,0 +1,211 @@
+-- Demand 3 isn't empty: document 01's sheet, on which the two agree; the same with one sync manager moved by a byte, on which they do not; the EEPROM path;
+-- an area past the last device address; and last spring's fault, from a stale entry.
+-- Assumes nothing.
+use mathlib.Core.Path.{_≡_, refl, sym, _∙_, subst}
+use mathlib.Core.Bool.{Bool, true, false, not}
+use mathlib.Core.List.{List, [], _∷_, _++_}
+use mathlib.Core.Logic.{_⊎_, inl, inr}
+use mathlib.Core.Option.{Option, none, some}
+use Prim.Native.Nat.{ℕ, _+_, _<_}
+use native.Mathlib.Omega.{arith}
+use lib.ListN.{length, getD, set, replicate, List·getD-eq-default}
+use lib.Dec.{T, ltb, lit<}
+use borrow.Author.Tests.{ltb-true, ltb-false}
+use Rattle.wire.specs.Outcome.{Outcome, accepted}
+use Rattle.wire.proofs.Below.{all, below}
+use Rattle.pdi.specs.Segment.{segment}
+use Rattle.sync_manager_channel.specs.Image.{controlAt, unnamed}
+use Rattle.fmmu.specs.Image.{fieldsOf, imageOf}
+use Rattle.sheet.specs.Lists.{listOf, someBelow}
+use Rattle.sheet.specs.Device.{pdosFrom}
+use Rattle.sheet.specs.Sheet.{wrongLength, kindFits, pdosFit, someManagerWrong, someUsageWrong, broken, someUnnamed, sheetData}
+use Rattle.pdo.specs.declared.PdoDirection.{PdoDirection}
+use Rattle.pdo.specs.declared.PdoDirection.the-variants.{MasterRead, MasterWrite}
+use Rattle.pdo.specs.Bits.{multiplierOf, byCoe, bitsOf, piecesFrom, piecesOf}
+use Rattle.entries.specs.Use.{own, given, firstWith, usesOf, total, totalOn, sizeOf}
+use Rattle.area.specs.Area.{chunks, entriesOf, flat}
+use Rattle.entries.specs.Entries.{mapped, plan, Planned, tooLong}
+use Rattle.subdevice.specs.Pass.{someTooMany, noEntry, dataPass}
+use Rattle.agreement.specs.Translate.{carries, odd, says, firstSaid, translate}
+use Rattle.agreement.specs.Count.{spotIn, count}
+use Rattle.agreement.specs.Agreement.{EveryDisabled, Lent, weights, Accepted, TwoPasses, sharing, EndToEnd, laidBy, counted, Agree}
+use Rattle.agreement.specs.Bench.{zeros, sampleSheet}
+use Rattle.agreement.proofs.Basics.{either}
+use Rattle.agreement.proofs.Straight.{follows-iff}
+use Rattle.agreement.proofs.Demand3.{demand-3}
+
+-- closed data: bytes by a computed test, and every entry of an area disabled by another
+is-true : (b : Bool) → T b → b ≡ true
+is-true true t = refl
+is-true false t = absurd t
+
+bytes-of : (l : List ℕ) → T (all (λ k. ltb (getD l k 0) 256) (length l)) → (k : ℕ) → getD l k 0 < 256
+bytes-of l t k = go (either (ltb k (length l)))
+  where
+    go : (ltb k (length l) ≡ true) ⊎ (ltb k (length l) ≡ false) → getD l k 0 < 256
+    go (inl h) = ltb-true (getD l k 0) 256 (is-true (ltb (getD l k 0) 256) (below (λ k. ltb (getD l k 0) 256) (length l) t k (ltb-true k (length l) h)))
+    go (inr h) = subst (λ (n : ℕ). n < 256) (sym (List·getD-eq-default l 0 (ltb-false k (length l) h))) (lit< tt)
+
+is-false : (b : Bool) → T (not b) → b ≡ false
+is-false true t = absurd t
+is-false false t = refl
+
+all-disabled : EveryDisabled zeros
+unfolding fieldsOf chunks
+all-disabled k h = is-false _ (below (λ k. not (fieldsOf (getD (entriesOf 16 zeros) k []) .enable)) 16 tt k h)
+
+-- what each pass is lent: no table, group start 0; the inputs from 0, the outputs from 5
+abbrev lent : PdoDirection → Lent
+lent MasterRead = record { table = []; offset = 0; group = 0; channels = replicate 128 0 }
+lent MasterWrite = record { table = []; offset = 5; group = 0; channels = replicate 128 0 }
+
+abbrev outputs : Planned
+outputs = record { segment = segment 5 7; next = 7 }
+
+abbrev inputs : Planned
+inputs = record { segment = segment 0 5; next = 5 }
+
+-- document 01's sheet: the entries that its program prints, as bytes
+
+abbrev outputEntry : List ℕ
+outputEntry = 5 ∷ 0 ∷ 0 ∷ 0 ∷ 2 ∷ 0 ∷ 0 ∷ 7 ∷ 0x00 ∷ 0x11 ∷ 0 ∷ 2 ∷ 1 ∷ 0 ∷ 0 ∷ 0 ∷ []
+
+abbrev inputEntry : List ℕ
+inputEntry = 0 ∷ 0 ∷ 0 ∷ 0 ∷ 5 ∷ 0 ∷ 0 ∷ 7 ∷ 0x80 ∷ 0x11 ∷ 0 ∷ 1 ∷ 1 ∷ 0 ∷ 0 ∷ 0 ∷ []
+
+abbrev sampleArea : List ℕ
+sampleArea = outputEntry ++ inputEntry ++ replicate 224 0
+
+-- FMMU0: logical start 5, size 2, physical start 0x1100, W; FMMU1: logical start 0, size 5, physical start 0x1180, RO
+pub as-printed : (fieldsOf outputEntry ≡ mapped MasterWrite 5 2 0x1100) × (fieldsOf inputEntry ≡ mapped MasterRead 0 5 0x1180)
+unfolding fieldsOf
+as-printed = (refl, refl)
+
+pub sample-passes : TwoPasses sampleSheet lent MasterRead zeros sampleArea
+unfolding fieldsOf imageOf controlAt unnamed listOf someBelow pdosFrom wrongLength kindFits pdosFit someManagerWrong someUsageWrong broken someUnnamed sheetData multiplierOf byCoe
+    bitsOf piecesFrom piecesOf own given firstWith usesOf total totalOn sizeOf chunks flat plan someTooMany noEntry tooLong dataPass
+sample-passes =
+    record {
+      disabled = all-disabled;
+      between = replicate 16 0 ++ inputEntry ++ replicate 224 0;
+      one = record { planned = inputs; says = refl; leaves = refl };
+      two = record { planned = outputs; says = refl; leaves = refl };
+    }
+
+pub sample-end-to-end : (r : PdoDirection) → EndToEnd (laidBy sampleSheet r (lent r))
+unfolding controlAt listOf pdosFrom sheetData multiplierOf byCoe bitsOf piecesFrom piecesOf own given firstWith usesOf sharing
+sample-end-to-end MasterRead = follows-iff (laidBy sampleSheet MasterRead (lent MasterRead)) .1 (λ h. refl, (λ h. tt, tt))
+sample-end-to-end MasterWrite = follows-iff (laidBy sampleSheet MasterWrite (lent MasterWrite)) .1 (λ h. tt, tt)
+
+-- the two agree, for both directions, at every address
+pub sample-agrees : (r : PdoDirection) → Agree sampleSheet r (lent r) sampleArea
+sample-agrees r = demand-3 sampleSheet lent MasterRead zeros sampleArea (bytes-of sampleSheet tt) sample-passes r .1 (sample-end-to-end r)
+
+-- and name something: the last byte of the inputs, and nothing after it
+pub sample-last : (translate MasterRead sampleArea 4 ≡ accepted (some 0x1184)) × (translate MasterRead sampleArea 5 ≡ accepted none)
+unfolding fieldsOf chunks carries says odd firstSaid translate
+sample-last = (refl, refl)
+
+-- the last sync manager a byte higher, at 0x1184: the same FMMU bytes, and the two disagree
+
+abbrev movedSheet : List ℕ
+movedSheet = set sampleSheet 32 0x84
+
+pub moved-passes : TwoPasses movedSheet lent MasterRead zeros sampleArea
+unfolding fieldsOf imageOf controlAt unnamed listOf someBelow pdosFrom wrongLength kindFits pdosFit someManagerWrong someUsageWrong broken someUnnamed sheetData multiplierOf byCoe
+    bitsOf piecesFrom piecesOf own given firstWith usesOf total totalOn sizeOf chunks flat plan someTooMany noEntry tooLong dataPass
+moved-passes =
+    record {
+      disabled = all-disabled;
+      between = replicate 16 0 ++ inputEntry ++ replicate 224 0;
+      one = record { planned = inputs; says = refl; leaves = refl };
+      two = record { planned = outputs; says = refl; leaves = refl };
+    }
+
+pub moved-apart : EndToEnd (laidBy movedSheet MasterRead (lent MasterRead)) → ⊥
+unfolding controlAt listOf pdosFrom sheetData multiplierOf byCoe bitsOf piecesFrom piecesOf own given firstWith usesOf sharing
+moved-apart e = let z : _≡_ {A = ℕ} 0x1184 0x1183 = follows-iff (laidBy movedSheet MasterRead (lent MasterRead)) .0 e .0 (lit< tt) in omega arith
+
+pub moved-disagrees : Agree movedSheet MasterRead (lent MasterRead) sampleArea → ⊥
+moved-disagrees h = moved-apart (demand-3 movedSheet lent MasterRead zeros sampleArea (bytes-of movedSheet tt) moved-passes MasterRead .0 h)
+
+-- where: the first byte of the second sync manager
+pub moved-where : (translate MasterRead sampleArea 3 ≡ accepted (some 0x1183))
+    × (count MasterRead 3 movedSheet (weights movedSheet (lent MasterRead)) 0 ≡ accepted (some (record { manager = 4; byte = 0; device = some 0x1184 })))
+unfolding fieldsOf chunks carries says odd firstSaid translate controlAt unnamed listOf someBelow pdosFrom wrongLength kindFits pdosFit someManagerWrong someUsageWrong broken
+    someUnnamed sheetData multiplierOf byCoe bitsOf piecesFrom piecesOf own given firstWith usesOf total sizeOf someTooMany noEntry spotIn
+    count
+moved-where = (refl, refl)
+
+-- EEPROM: flags 0, PDO kinds 1 and 2, outputs first, the last sync manager far away: each on its own entry, and the two agree
+
+abbrev ownSheet : List ℕ
+ownSheet =
+    (0x00 ∷ 0x37 ∷ 0x01 ∷ 0x00 ∷ 0x00 ∷ 0x80 ∷ 0x00 ∷ 0x80 ∷ 0x05 ∷ 0x00 ∷ 0x03 ∷ [])
+    ++ (0x10 ∷ 0x00 ∷ 0x26 ∷ 0x01 ∷ 0x01 ∷ 0x10 ∷ 0x80 ∷ 0x22 ∷ 0x01 ∷ 0x02 ∷ 0x11 ∷ 0x00 ∷ 0x64 ∷ 0x01 ∷ 0x03 ∷ [])
+    ++ (0x11 ∷ 0x80 ∷ 0x20 ∷ 0x01 ∷ 0x04 ∷ 0xff ∷ 0xff ∷ 0x20 ∷ 0x01 ∷ 0x04 ∷ [])
+    ++ (0x01 ∷ 0x03 ∷ 0x1a ∷ 0x00 ∷ 0x02 ∷ 0x00 ∷ 0x11 ∷ 0x01 ∷ 0x04 ∷ 0x1a ∷ 0x01 ∷ 0x02 ∷ 0x00 ∷ 0x09 ∷ [])
+    ++ (0x02 ∷ 0x02 ∷ 0x16 ∷ 0x00 ∷ 0x02 ∷ 0x00 ∷ 0x10 ∷ [])
+
+abbrev ownOutput : List ℕ
+ownOutput = replicate 32 0 ++ outputEntry
+
+abbrev ownArea : List ℕ
+ownArea =
+    ownOutput
+    ++ (0 ∷ 0 ∷ 0 ∷ 0 ∷ 3 ∷ 0 ∷ 0 ∷ 7 ∷ 0x80 ∷ 0x11 ∷ 0 ∷ 1 ∷ 1 ∷ 0 ∷ 0 ∷ 0 ∷ [])
+    ++ (3 ∷ 0 ∷ 0 ∷ 0 ∷ 2 ∷ 0 ∷ 0 ∷ 7 ∷ 0xff ∷ 0xff ∷ 0 ∷ 1 ∷ 1 ∷ 0 ∷ 0 ∷ 0 ∷ [])
+    ++ replicate 176 0
+
+pub own-passes : TwoPasses ownSheet lent MasterWrite zeros ownArea
+unfolding fieldsOf imageOf controlAt unnamed listOf someBelow pdosFrom wrongLength kindFits pdosFit someManagerWrong someUsageWrong broken someUnnamed sheetData multiplierOf byCoe
+    bitsOf piecesFrom piecesOf own given firstWith usesOf total totalOn sizeOf chunks flat plan someTooMany noEntry tooLong dataPass
+own-passes =
+    record {
+      disabled = all-disabled;
+      between = ownOutput ++ replicate 208 0;
+      one = record { planned = outputs; says = refl; leaves = refl };
+      two = record { planned = inputs; says = refl; leaves = refl };
+    }
+
+pub own-agrees : Agree ownSheet MasterRead (lent MasterRead) ownArea
+unfolding controlAt listOf pdosFrom sheetData multiplierOf byCoe bitsOf piecesFrom piecesOf own given firstWith usesOf sharing
+own-agrees =
+    demand-3 ownSheet lent MasterWrite zeros ownArea (bytes-of ownSheet tt) own-passes MasterRead
+    .1 (follows-iff (laidBy ownSheet MasterRead (lent MasterRead)) .1 (λ h. tt, (λ h. tt, tt)))
+
+-- its last sync manager ends at 65,537: at the first byte 65,535 on both sides, at the second none on both
+pub past-the-end : (translate MasterRead ownArea 3 ≡ accepted (some 0xffff)) × ((translate MasterRead ownArea 4 ≡ accepted none)
+    × (count MasterRead 4 ownSheet (weights ownSheet (lent MasterRead)) 0 ≡ accepted (some (record { manager = 4; byte = 1; device = none }))))
+unfolding fieldsOf chunks carries says odd firstSaid translate controlAt unnamed listOf someBelow pdosFrom wrongLength kindFits pdosFit someManagerWrong someUsageWrong broken
+    someUnnamed sheetData multiplierOf byCoe bitsOf piecesFrom piecesOf own given firstWith usesOf total sizeOf someTooMany noEntry spotIn
+    count
+past-the-end = (refl, (refl, refl))
+
+-- last spring's fault: the entry 1 of a cancelled job, still enabled, three bytes from 0 at 0x2000. The pass is accepted, the new length goes on top
+
+abbrev staleArea : List ℕ
+staleArea = replicate 16 0 ++ (0 ∷ 0 ∷ 0 ∷ 0 ∷ 3 ∷ 0 ∷ 0 ∷ 7 ∷ 0x00 ∷ 0x20 ∷ 0 ∷ 1 ∷ 1 ∷ 0 ∷ 0 ∷ 0 ∷ []) ++ replicate 224 0
+
+abbrev staleAfter : List ℕ
+staleAfter = replicate 16 0 ++ (0 ∷ 0 ∷ 0 ∷ 0 ∷ 8 ∷ 0 ∷ 0 ∷ 7 ∷ 0x00 ∷ 0x20 ∷ 0 ∷ 1 ∷ 1 ∷ 0 ∷ 0 ∷ 0 ∷ []) ++ replicate 224 0
+
+pub stale-pass : Accepted sampleSheet MasterRead (lent MasterRead) staleArea staleAfter
+unfolding fieldsOf imageOf controlAt unnamed listOf someBelow pdosFrom wrongLength kindFits pdosFit someManagerWrong someUsageWrong broken someUnnamed sheetData multiplierOf byCoe
+    bitsOf piecesFrom piecesOf own given firstWith usesOf total totalOn sizeOf chunks flat plan someTooMany noEntry tooLong dataPass
+stale-pass = record { planned = inputs; says = refl; leaves = refl }
+
+-- the bay's first byte is read from the other's, and the first byte of the next bay is answered too
+pub stale-names : (translate MasterRead staleAfter 0 ≡ accepted (some 0x2000)) × ((counted sampleSheet MasterRead (lent MasterRead) 0 ≡ accepted (some 0x1180))
+    × ((translate MasterRead staleAfter 5 ≡ accepted (some 0x2005)) × (counted sampleSheet MasterRead (lent MasterRead) 5 ≡ accepted none)))
+unfolding fieldsOf chunks carries says odd firstSaid translate controlAt unnamed listOf someBelow pdosFrom wrongLength kindFits pdosFit someManagerWrong someUsageWrong broken
+    someUnnamed sheetData multiplierOf byCoe bitsOf piecesFrom piecesOf own given firstWith usesOf total sizeOf someTooMany noEntry spotIn
+    count
+stale-names = (refl, (refl, (refl, refl)))
+
+-- so the disabled start is needed: the sync managers lie end to end, and the two disagree
+pub stale-disagrees : Agree sampleSheet MasterRead (lent MasterRead) staleAfter → ⊥
+stale-disagrees h =
+    let e : _≡_ {A = Outcome (Option ℕ)} (accepted (some 0x2000)) (accepted (some 0x1180)) = sym (stale-names .0) ∙ h 0 (lit< tt) ∙ stale-names .1 .0 in
+    let z : _≡_ {A = ℕ} 0x2000 0x1180 = cc in
+    omega arith

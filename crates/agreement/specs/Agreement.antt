@@ -1,0 +1,113 @@
+-- Demand 3, as a statement: read this first.
+-- Assumes nothing.
+use mathlib.Core.Path.{_≡_}
+use mathlib.Core.Bool.{Bool, false, cond, _&&_}
+use mathlib.Core.List.{List, [], _∷_}
+use mathlib.Core.Logic.{_↔_}
+use mathlib.Core.Option.{Option}
+use Prim.Native.Nat.{ℕ, _+_, _^_, _≤_, _<_}
+use lib.ListN.{getD}
+use lib.Dec.{eqb, ltb}
+use Rattle.wire.specs.Outcome.{Outcome, accepted}
+use Rattle.fmmu.specs.Image.{fieldsOf}
+use Rattle.sheet.specs.Sound.{Each}
+use Rattle.sheet.specs.Sheet.{sheetData}
+use Rattle.pdo.specs.declared.PdoDirection.{PdoDirection}
+use Rattle.pdo.specs.Direction.{other}
+use Rattle.pdo.specs.Bits.{Oversampling, multipliersOf, piecesOf}
+use Rattle.entries.specs.Use.{Use, own, usesOf}
+use Rattle.area.specs.Area.{entriesOf}
+use Rattle.subdevice.specs.Pass.{dataPass, entriesAfter}
+use Rattle.entries.specs.Entries.{Planned}
+use Rattle.agreement.specs.Translate.{translate}
+use Rattle.agreement.specs.Count.{countedAddress}
+
+-- every FMMU entry disabled: all sixteen
+abbrev pub EveryDisabled : List ℕ → Type 0
+EveryDisabled area = (k : ℕ) → k < 16 → fieldsOf (getD (entriesOf 16 area) k []) .enable ≡ false
+
+-- bytes, as every slice holds them
+abbrev pub AllBytes : List ℕ → Type 0
+AllBytes l = (k : ℕ) → getD l k 0 < 256
+
+-- what a pass is lent beside the sheet and the FMMU area
+pub record Lent : Type 0 where
+  pub table : List Oversampling
+  pub offset : ℕ
+  pub group : ℕ
+  pub channels : List ℕ
+
+-- one multiplier for each PDO of the sheet, by the table
+abbrev pub weights : List ℕ → Lent → List ℕ
+weights sheet l = multipliersOf (l .table) (sheetData sheet .pdos)
+
+-- a pass of the sheet over the FMMU bytes `area`
+abbrev pub passOf : List ℕ → PdoDirection → Lent → List ℕ → Outcome Planned
+passOf sheet r l area = dataPass sheet (weights sheet l) r (l .offset) (l .group) area (l .channels)
+
+-- it is accepted, and leaves `after`
+pub record Accepted (sheet : List ℕ) (r : PdoDirection) (l : Lent) (area after : List ℕ) : Type 0 where
+  pub planned : Planned
+  pub says : passOf sheet r l area ≡ accepted planned
+  pub leaves : after ≡ entriesAfter (passOf sheet r l area) (sheetData sheet) (weights sheet l) r (l .offset) area
+
+-- one input pass and one output pass of the same sheet, `first` before the other, over an area with every entry disabled
+pub record TwoPasses (sheet : List ℕ) (lent : PdoDirection → Lent) (first : PdoDirection) (area after : List ℕ) : Type 0 where
+  pub disabled : EveryDisabled area
+  pub between : List ℕ
+  pub one : Accepted sheet first (lent first) area between
+  pub two : Accepted sheet (other first) (lent (other first)) between after
+
+-- a sync manager with more than 0 bytes
+abbrev pub nonempty : Use → Bool
+nonempty u = ltb 0 (u .size)
+
+-- the nonempty ones that share the entry k, in number order
+unfoldable pub sharing : ℕ → List Use → List Use
+sharing k [] = []
+sharing k (u ∷ us) = cond (nonempty u && eqb (u .entry) k) (u ∷ sharing k us) (sharing k us)
+
+-- each begins where the one before it ends
+abbrev pub Chained : List Use → Type 0
+Chained [] = Unit {0}
+Chained (u ∷ []) = Unit {0}
+Chained (u ∷ v ∷ us) = (v .at ≡ u .at + u .size) × Chained (v ∷ us)
+
+-- the nonempty sync managers that share an entry lie end to end, in number order
+abbrev pub EndToEnd : List Use → Type 0
+EndToEnd us = (k : ℕ) → Chained (sharing k us)
+
+-- the sync managers of a direction's pass, each with its size, its device address and the entry that it uses
+abbrev pub laidBy : List ℕ → PdoDirection → Lent → List Use
+laidBy sheet r l = usesOf (sheetData sheet) (weights sheet l) r
+
+-- the device address by counting from the direction's own start offset
+abbrev pub counted : List ℕ → PdoDirection → Lent → ℕ → Outcome (Option ℕ)
+counted sheet r l a = countedAddress r a sheet (weights sheet l) (l .offset)
+
+-- translating and counting name the same device address, or both none, at all 2^32 logical addresses
+abbrev pub Agree : List ℕ → PdoDirection → Lent → List ℕ → Type 0
+Agree sheet r l area = (a : ℕ) → a < 2 ^ 32 → translate r area a ≡ counted sheet r l a
+
+-- either order (`first`), either direction (`r`); each pass has its own table, offset, group start and sync manager area
+abbrev pub Demand3 : Type 0
+Demand3 =
+    (sheet : List ℕ) (lent : PdoDirection → Lent) (first : PdoDirection) (area after : List ℕ)
+    → AllBytes sheet
+    → TwoPasses sheet lent first area after
+    → (r : PdoDirection)
+    → Agree sheet r (lent r) after ↔ EndToEnd (laidBy sheet r (lent r))
+
+-- the direction's nonempty sync manager areas all end at or below 65,536
+abbrev pub InReach : List ℕ → PdoDirection → Lent → Type 0
+InReach sheet r l = Each (λ (u : Use). 0 < u .size → u .at + u .size ≤ 65536) (own (piecesOf (sheetData sheet) (weights sheet l) r))
+
+-- as the request has it, with that premise, which `Demand3` does without
+abbrev pub Demand3InReach : Type 0
+Demand3InReach =
+    (sheet : List ℕ) (lent : PdoDirection → Lent) (first : PdoDirection) (area after : List ℕ)
+    → AllBytes sheet
+    → TwoPasses sheet lent first area after
+    → (r : PdoDirection)
+    → InReach sheet r (lent r)
+    → Agree sheet r (lent r) after ↔ EndToEnd (laidBy sheet r (lent r))

@@ -1,0 +1,109 @@
+-- Bench cases P1 to P12 (document 01), one list: each with the answer of the entry point's own definition and the answer that the document has.
+-- Assumes nothing.
+use mathlib.Core.List.{List, [], _∷_, _++_}
+use Prim.Native.Nat.{ℕ, _/_, _%_}
+use lib.ListN.{getD, set, replicate}
+use Rattle.wire.specs.Outcome.{Outcome, refused, accepted}
+use Rattle.pdi.specs.Unit.{roundedUp}
+use Rattle.pdi.specs.Offset.{incremented, incrementedByteAligned}
+use Rattle.sync_manager_channel.specs.declared.Control.{Control}
+use Rattle.sync_manager_channel.specs.Image.{modeNumber, controlByte, readControl}
+use Rattle.sheet.specs.Sheet.{sheetData}
+use Rattle.pdo.specs.declared.PdoDirection.the-variants.{MasterRead}
+use Rattle.pdo.specs.Bits.{multipliersOf}
+use Rattle.area.specs.Area.{entriesOf}
+use Rattle.subdevice.specs.Pass.{dataPass, entriesAfter}
+use Rattle.entries.specs.Entries.{Planned}
+
+-- a case: its number, what is computed, what the document says; answers as lists of numbers
+pub record Row : Type 0 where
+  pub case : ℕ
+  pub computed : Outcome (List ℕ)
+  pub expected : Outcome (List ℕ)
+
+abbrev pub row : ℕ → Outcome (List ℕ) → Outcome (List ℕ) → Row
+row n c e = record { case = n; computed = c; expected = e }
+
+-- an answer that is one number
+abbrev pub number : Outcome ℕ → Outcome (List ℕ)
+number (refused n) = refused n
+number (accepted x) = accepted (x ∷ [])
+
+-- a control byte that is read, and written again: its mode's number and the byte
+abbrev pub control : Outcome Control → Outcome (List ℕ)
+control (refused n) = refused n
+control (accepted c) = accepted (modeNumber (c .«operation_mode») ∷ controlByte c ∷ [])
+
+-- a pass: its segment's start and end
+abbrev pub segmentOf : Outcome Planned → Outcome (List ℕ)
+segmentOf (refused n) = refused n
+segmentOf (accepted p) = accepted (p .segment .start ∷ p .segment .end ∷ [])
+
+-- no oversampling: 1 for each PDO of the sheet
+abbrev pub ones : List ℕ → List ℕ
+ones sheet = multipliersOf [] (sheetData sheet .pdos)
+
+-- the input pass over FMMU bytes, from offset and group start 0
+abbrev pub inputPass : List ℕ → List ℕ → Outcome Planned
+inputPass sheet area = dataPass sheet (ones sheet) MasterRead 0 0 area (replicate 128 0)
+
+-- an accepted pass: the bytes of the entry k of the area that it leaves
+abbrev pub entryOf : ℕ → List ℕ → Outcome Planned → Outcome (List ℕ)
+entryOf k after (refused n) = refused n
+entryOf k after (accepted p) = accepted (getD (entriesOf 16 after) k [])
+
+abbrev pub inputEntry : ℕ → List ℕ → List ℕ → Outcome (List ℕ)
+inputEntry k sheet area =
+    entryOf k (entriesAfter (inputPass sheet area) (sheetData sheet) (ones sheet) MasterRead 0 area) (inputPass sheet area)
+
+abbrev pub zeros : List ℕ
+zeros = replicate 256 0
+
+-- the document's sheet: its inputs are 12 + 5 = 17 and 8 + 1 = 9 bits
+abbrev pub sampleSheet : List ℕ
+sampleSheet =
+    (0x00 ∷ 0x38 ∷ 0x01 ∷ 0x03 ∷ 0x00 ∷ 0x80 ∷ 0x00 ∷ 0x80 ∷ 0x05 ∷ 0x02 ∷ 0x03 ∷ [])
+    ++ (0x10 ∷ 0x00 ∷ 0x26 ∷ 0x01 ∷ 0x01 ∷ 0x10 ∷ 0x80 ∷ 0x22 ∷ 0x01 ∷ 0x02 ∷ 0x11 ∷ 0x00 ∷ 0x64 ∷ 0x01 ∷ 0x03 ∷ [])
+    ++ (0x11 ∷ 0x80 ∷ 0x20 ∷ 0x01 ∷ 0x04 ∷ 0x11 ∷ 0x83 ∷ 0x20 ∷ 0x01 ∷ 0x04 ∷ 0x01 ∷ 0x02 ∷ [])
+    ++ (0x00 ∷ 0x03 ∷ 0x1a ∷ 0x00 ∷ 0x02 ∷ 0x0c ∷ 0x05 ∷ 0x00 ∷ 0x04 ∷ 0x1a ∷ 0x01 ∷ 0x02 ∷ 0x08 ∷ 0x01 ∷ [])
+    ++ (0x00 ∷ 0x02 ∷ 0x16 ∷ 0x00 ∷ 0x01 ∷ 0x10 ∷ [])
+
+-- EEPROM, one input of so many bits, on the entry 0; and an entry 0 that is enabled with length 65,535
+abbrev pub bitsSheet : ℕ → List ℕ
+bitsSheet bits =
+    (0x00 ∷ 0x15 ∷ 0x01 ∷ 0x00 ∷ 0x00 ∷ 0x00 ∷ 0x00 ∷ 0x00 ∷ 0x01 ∷ 0x00 ∷ 0x01 ∷ [])
+    ++ (0x11 ∷ 0x80 ∷ 0x20 ∷ 0x01 ∷ 0x04 ∷ [])
+    ++ (0x01 ∷ 0x00 ∷ 0x1a ∷ 0x00 ∷ 0x02 ∷ bits / 256 ∷ bits % 256 ∷ [])
+
+abbrev pub fullEntry : List ℕ
+fullEntry = (0 ∷ 0 ∷ 0 ∷ 0 ∷ 0xff ∷ 0xff ∷ 0 ∷ 7 ∷ 0 ∷ 0 ∷ 0 ∷ 1 ∷ 1 ∷ 0 ∷ 0 ∷ 0 ∷ []) ++ replicate 240 0
+
+-- CoE, one input of 0 bits, no FMMU usage
+abbrev pub noBitsSheet : List ℕ
+noBitsSheet =
+    (0x00 ∷ 0x13 ∷ 0x01 ∷ 0x03 ∷ 0x00 ∷ 0x80 ∷ 0x00 ∷ 0x80 ∷ 0x02 ∷ 0x00 ∷ 0x00 ∷ [])
+    ++ (0x10 ∷ 0x80 ∷ 0x22 ∷ 0x01 ∷ 0x02 ∷ 0x11 ∷ 0x80 ∷ 0x20 ∷ 0x01 ∷ 0x04 ∷ [])
+
+-- each case, by the step and by the pass where both have it
+abbrev pub benchCases : List Row
+benchCases =
+    row 1 (number (roundedUp 65528)) (accepted (8191 ∷ []))
+    ∷ row 1 (number (incrementedByteAligned 0 65528)) (accepted (8191 ∷ []))
+    ∷ row 1 (segmentOf (inputPass (bitsSheet 65528) zeros)) (accepted (0 ∷ 8191 ∷ []))
+    ∷ row 2 (number (roundedUp 65529)) (refused 6)
+    ∷ row 2 (number (incrementedByteAligned 0 65529)) (refused 6)
+    ∷ row 2 (segmentOf (inputPass (bitsSheet 65529) zeros)) (refused 6)
+    ∷ row 3 (number (roundedUp 0)) (accepted (0 ∷ []))
+    ∷ row 3 (segmentOf (inputPass (bitsSheet 0) zeros)) (accepted (0 ∷ 0 ∷ []))
+    ∷ row 4 (number (roundedUp 1)) (accepted (1 ∷ []))
+    ∷ row 4 (segmentOf (inputPass (bitsSheet 1) zeros)) (accepted (0 ∷ 1 ∷ []))
+    ∷ row 5 (segmentOf (inputPass sampleSheet zeros)) (accepted (0 ∷ 5 ∷ []))
+    ∷ row 6 (number (incremented 4294967294 1)) (accepted (4294967295 ∷ []))
+    ∷ row 7 (number (incremented 4294967294 2)) (refused 9)
+    ∷ row 8 (segmentOf (inputPass (bitsSheet 8) fullEntry)) (refused 8)
+    ∷ row 9 (segmentOf (inputPass noBitsSheet zeros)) (accepted (0 ∷ 0 ∷ []))
+    ∷ row 10 (inputEntry 0 (bitsSheet 0) zeros) (accepted (0 ∷ 0 ∷ 0 ∷ 0 ∷ 0 ∷ 0 ∷ 0 ∷ 7 ∷ 0x80 ∷ 0x11 ∷ 0 ∷ 1 ∷ 1 ∷ 0 ∷ 0 ∷ 0 ∷ []))
+    ∷ row 11 (control (readControl 0x23)) (refused 5)
+    ∷ row 11 (segmentOf (inputPass (set (bitsSheet 8) 13 0x23) zeros)) (refused 5)
+    ∷ row 12 (control (readControl 0xa2)) (accepted (2 ∷ 0x22 ∷ []))
+    ∷ []

@@ -1,0 +1,80 @@
+-- Translation and counting at their limits, one list of rows as the bench's: who decides, where an entry and a range end, what 11 looks at.
+-- Assumes nothing.
+use mathlib.Core.List.{List, [], _∷_, _++_}
+use mathlib.Core.Option.{Option, none, some}
+use Prim.Native.Nat.{ℕ, _-_, _*_}
+use lib.ListN.{length, set, replicate}
+use Rattle.wire.specs.Outcome.{Outcome, refused, accepted}
+use Rattle.wire.specs.Number.{littleOf}
+use Rattle.pdo.specs.declared.PdoDirection.the-variants.{MasterRead, MasterWrite}
+use Rattle.area.specs.Area.{flat}
+use Rattle.agreement.specs.Translate.{translate}
+use Rattle.agreement.specs.Count.{Spot, count}
+use Rattle.agreement.specs.Bench.{Row, row, ones, sampleSheet, noBitsSheet}
+
+-- a device address as a list: nothing where it is none
+abbrev pub shown : Option ℕ → List ℕ
+shown none = []
+shown (some x) = x ∷ []
+
+abbrev pub address : Outcome (Option ℕ) → Outcome (List ℕ)
+address (refused n) = refused n
+address (accepted x) = accepted (shown x)
+
+-- a spot as sync manager, byte and device address
+abbrev pub spot : Outcome (Option Spot) → Outcome (List ℕ)
+spot (refused n) = refused n
+spot (accepted none) = accepted []
+spot (accepted (some p)) = accepted (p .manager ∷ p .byte ∷ shown (p .device))
+
+-- an entry's bytes: start, length, end bit, physical start, access byte, enable byte
+abbrev pub entry : ℕ → ℕ → ℕ → ℕ → ℕ → ℕ → List ℕ
+entry start size end physical access enable = littleOf 4 start ++ littleOf 2 size ++ (0 ∷ end ∷ []) ++ littleOf 2 physical ++ (0 ∷ access ∷ enable ∷ 0 ∷ 0 ∷ 0 ∷ [])
+
+-- these entries first, the others zero
+abbrev pub areaOf : List (List ℕ) → List ℕ
+areaOf es = flat es ++ replicate (16 * (16 - length es)) 0
+
+-- inputs 0 to 4 at 0x1000, then 2 to 6 at 0x2000
+abbrev pub overlapping : List ℕ
+overlapping = areaOf (entry 0 4 7 0x1000 1 1 ∷ entry 2 4 7 0x2000 1 1 ∷ [])
+
+-- a good entry of 4 bytes, and one more
+abbrev pub goodAnd : List ℕ → List ℕ
+goodAnd e = areaOf (entry 0 4 7 0x1000 1 1 ∷ e ∷ [])
+
+abbrev pub translationCases : List Row
+translationCases =
+    row 1 (address (translate MasterRead overlapping 2)) (accepted (0x1002 ∷ []))  -- the first entry that holds the address decides
+    ∷ row 2 (address (translate MasterRead overlapping 4)) (accepted (0x2002 ∷ []))  -- past the first one's end, the second
+    ∷ row 3 (address (translate MasterRead overlapping 6)) (accepted [])  -- none holds it
+    ∷ row 4 (address (translate MasterWrite overlapping 2)) (accepted [])  -- none has the other direction's bit
+    ∷ row 5 (address (translate MasterRead (areaOf (entry 0 4 7 0x1000 1 0 ∷ [])) 2)) (accepted [])  -- none is enabled
+    ∷ row 6 (address (translate MasterRead (areaOf (entry 0 4 7 0xfffe 1 1 ∷ [])) 1)) (accepted (0xffff ∷ []))  -- 65,535 is a device address
+    ∷ row 7 (address (translate MasterRead (areaOf (entry 0 4 7 0xfffe 1 1 ∷ entry 0 4 7 0x1000 1 1 ∷ [])) 2)) (accepted [])  -- 65,536 is none, whatever later entries say
+    ∷ row 8 (address (translate MasterRead (areaOf (entry 0xffffffff 2 7 0x1000 1 1 ∷ [])) 0xffffffff)) (accepted (0x1000 ∷ []))  -- the end is unbounded
+    ∷ row 9 (address (translate MasterRead (areaOf (entry 0xffffffff 2 7 0x1000 1 1 ∷ [])) 0)) (accepted [])  -- and doesn't wrap
+    ∷ row 10 (address (translate MasterRead (goodAnd (entry 8 4 6 0x2000 1 1)) 2)) (refused 11)  -- 11 after the match
+    ∷ row 11 (address (translate MasterRead (goodAnd (entry 8 0 6 0x2000 1 1)) 2)) (refused 11)  -- 11 at length 0
+    ∷ row 12 (address (translate MasterRead (goodAnd (entry 8 4 6 0x2000 2 1)) 2)) (accepted (0x1002 ∷ []))  -- not of the other direction
+    ∷ row 13 (address (translate MasterRead (goodAnd (entry 8 4 6 0x2000 1 0)) 2)) (accepted (0x1002 ∷ []))  -- nor of a disabled one
+    ∷ row 14 (address (translate MasterRead (0 ∷ goodAnd (entry 8 4 6 0x2000 1 1)) 2)) (refused 1)  -- 1 before 11
+    ∷ []
+
+abbrev pub countInputs : ℕ → ℕ → Outcome (List ℕ)
+countInputs offset a = spot (count MasterRead a sampleSheet (ones sampleSheet) offset)
+
+abbrev pub countingCases : List Row
+countingCases =
+    row 1 (countInputs 10 9) (accepted [])  -- below the range
+    ∷ row 2 (countInputs 10 10) (accepted (3 ∷ 0 ∷ 0x1180 ∷ []))  -- its first byte
+    ∷ row 3 (countInputs 10 12) (accepted (3 ∷ 2 ∷ 0x1182 ∷ []))  -- 17 bits are 3 bytes
+    ∷ row 4 (countInputs 10 13) (accepted (4 ∷ 0 ∷ 0x1183 ∷ []))  -- then the next sync manager
+    ∷ row 5 (countInputs 10 14) (accepted (4 ∷ 1 ∷ 0x1184 ∷ []))  -- the last byte
+    ∷ row 6 (countInputs 10 15) (accepted [])  -- past the range
+    ∷ row 7 (countInputs 4294967290 4294967294) (accepted (4 ∷ 1 ∷ 0x1184 ∷ []))  -- an end of 4,294,967,295
+    ∷ row 8 (countInputs 4294967291 0) (refused 9)  -- and one more
+    ∷ row 9 (spot (count MasterRead 0 noBitsSheet (ones noBitsSheet) 0)) (accepted [])  -- an empty range
+    ∷ row 10 (spot (count MasterRead 0 (set sampleSheet 37 0) (ones sampleSheet) 0)) (refused 7)  -- no entry has the inputs' usage
+    ∷ row 11 (spot (count MasterRead 0 [] [] 4294967296)) (refused 2)  -- the sheet's refusals first
+    ∷ []
