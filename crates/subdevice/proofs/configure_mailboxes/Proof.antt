@@ -1,45 +1,55 @@
+-- `subdevice::configure_mailboxes`: each way through the call is one of the ways through the pass.
+-- Assumes nothing.
 use borrow.Author.Needs.{needs}
+use borrow.Author.Tests.{not-true, not-false}
+use denote.Ref.{now}
+use Rattle.subdevice.proofs.Mailboxes.{wrong-area, wrong-sheet, without-mailboxes, with-mailboxes}
 use Rattle.subdevice.proofs.configure_mailboxes.Statement.{statement}
 use Rattle.subdevice.proofs.configure_mailboxes.Tie as tie
-use Rattle.subdevice.proofs.configure_mailboxes.Reads as reads
-use Rattle.subdevice.proofs.configure_mailboxes.Lts as lts
-use Rattle.sheet.proofs.read.Reads as read-reads
-use Rattle.subdevice.proofs.mailboxes_of.Reads as mailboxes-of-reads
 
--- src/lib.rt:365:9
 returns : tie.Need-returns
-returns c = ?
+returns c = let a = c .before .before .before .args in wrong-area (now (a .sheet)) (now (a .channels)) (c .if1 .taken)
 
--- src/lib.rt:367:9
 read-requires : tie.Need-read-requires
 read-requires c κs = search needs
 
--- src/lib.rt:369:28
 enum-known-answer : tie.Need-enum-known-answer
 enum-known-answer c = search needs
 
--- src/lib.rt:370:9
 returns-2 : tie.Need-returns-2
-returns-2 c = ?
+returns-2 c =
+    let r = c .before .before .before in
+    let a = r .before .before .before .before .args in
+    wrong-sheet (now (a .sheet)) (now (a .channels)) (r .before .if1 .left) (r .read .result) (c .before .answer .given .0 .0) (r .read .ensures) (c .before .answer .given .1)
 
 enum-told : tie.Need-enum-told
 enum-told c = search needs
 
--- src/lib.rt:374:9
 returns-3 : tie.Need-returns-3
-returns-3 c = ?
+returns-3 c =
+    let told = c .before .before .before in
+    let r = told .before .before in
+    let a = r .before .before .before .before .args in
+    without-mailboxes (now (a .sheet)) (now (a .channels)) (r .before .if1 .left) (r .read .result) (r .read .ensures) (told .enum-told .given .1)
+    (not-true (r .read .result .device .«has_mailbox») (c .if2 .taken))
 
--- src/lib.rt:381:25
 mailboxes-of-requires : tie.Need-mailboxes-of-requires
-mailboxes-of-requires c κs = ?
+mailboxes-of-requires c κs =
+    let r = c .before .before .before .before .before .before in
+    (r .before .if1 .left, not-false (r .read .result .device .«has_mailbox») (c .before .if2 .left))
 
--- src/lib.rt:361:1
 same-length : tie.Need-same-length
 same-length c = search needs
 
--- src/lib.rt:361:1
 returns-4 : tie.Need-returns-4
-returns-4 c = ?
+returns-4 c =
+    let m = c .before .before in
+    let told = m .before .before .before .before .before in
+    let r = told .before .before in
+    let a = r .before .before .before .before .args in
+    with-mailboxes (now (a .sheet)) (now (a .channels)) (r .before .if1 .left) (r .read .result) (r .read .ensures) (told .enum-told .given .1)
+    (m .mailboxes-of .result) (m .mailboxes-of .last .1 .0) (not-false (r .read .result .device .«has_mailbox») (m .before .before .if2 .left))
+    (m .mailboxes-of .ensures .0) (m .mailboxes-of .ensures .1)
 
 pub configure-mailboxes-spec : {M : Type 1} → statement M
 configure-mailboxes-spec =

@@ -1,40 +1,46 @@
+-- `subdevice::mailboxes_of`: each call's promise is a part of what is recorded, and the wishes written are what the pass writes.
+-- Assumes nothing.
+use mathlib.Core.List.{[]}
 use borrow.Author.Needs.{needs}
+use denote.Ref.{now}
+use Rattle.sheet.specs.Device.{dataOf}
+use Rattle.pdo.specs.Bits.{byCoe}
+use Rattle.subdevice.proofs.Mailboxes.{mailboxes-written, config-with}
 use Rattle.subdevice.proofs.mailboxes_of.Statement.{statement}
 use Rattle.subdevice.proofs.mailboxes_of.Tie as tie
-use Rattle.subdevice.proofs.mailboxes_of.Reads as reads
-use Rattle.subdevice.proofs.mailboxes_of.Lts as lts
-use Rattle.channels.proofs.write_channels.Reads as write-channels-reads
-use Rattle.subdevice.proofs.coe_on.Reads as coe-on-reads
-use Rattle.subdevice.proofs.last_of.Reads as last-of-reads
-use Rattle.subdevice.proofs.mailbox_wishes.Reads as mailbox-wishes-reads
 
--- src/lib.rt:351:53
 mailbox-wishes-requires : tie.Need-mailbox-wishes-requires
 mailbox-wishes-requires c κs = search needs
 
--- src/lib.rt:351:5
 write-channels-requires : tie.Need-write-channels-requires
 write-channels-requires c κs = search needs
 
--- src/lib.rt:353:15
 last-of-requires : tie.Need-last-of-requires
 last-of-requires c κs = search needs
 
--- src/lib.rt:354:16
 last-of-requires-2 : tie.Need-last-of-requires-2
 last-of-requires-2 c κs = search needs
 
--- src/lib.rt:355:18
 coe-on-requires : tie.Need-coe-on-requires
 coe-on-requires c κs = search needs
 
--- src/lib.rt:343:1
 same-length : tie.Need-same-length
 same-length c = search needs
 
--- src/lib.rt:343:1
 returns : tie.Need-returns
-returns c = ?
+unfolding dataOf byCoe
+returns c =
+    let w = c .before .before .before .before .before in
+    let s = w .before .before .before .before .before .before .before in
+    let d = dataOf (s .args .device) [] in (
+      config-with d _ (s .pre .1) (λ i. record {
+        read = c .before .before .last-of .ensures i;
+        write = c .before .last-of2 .ensures i;
+        «has_coe» = c .coe-on .ensures i;
+        «complete_access» = s .args .device .«complete_access»;
+      }),
+      mailboxes-written d (w .before .mailbox-wishes .result) (now (s .args .channels)) (w .write-channels .last .0) (s .pre .0) (w .before .mailbox-wishes .ensures) (w .write-channels .ensures),
+    )
 
 pub mailboxes-of-spec : {M : Type 1} → statement M
 mailboxes-of-spec =
