@@ -15,11 +15,11 @@ ghost use Rattle.entries.specs.Use.{firstWith};
 ghost use Rattle.subdevice.specs.Wishes.{someUsage, bitsIn, sizedOf, dataWish, wishesAfter, someTooWide, mailboxWish, mailboxWishes};
 ghost use Rattle.subdevice.specs.Mailbox.{laterOf, lastOf, configOf, mailboxChannels, ConfiguresMailboxes};
 use channels::Wish;
-use pdi::BitLen;
-use pdi::ByteLen;
 use entries::Configured;
 use entries::Place;
 use entries::Route;
+use pdi::BitLen;
+use pdi::ByteLen;
 use pdi::Rounded;
 use pdo::PdoDirection;
 use sheet::Answer;
@@ -166,7 +166,12 @@ fn data_wishes(managers: [SyncManager; 16], n: usize, usage: u8, sums: [BitLen; 
 }
 
 // Which sync managers the mailbox pass writes: usage 1 with the receive size, usage 2 with the send size.
-fn mailbox_wishes(managers: [SyncManager; 16], n: usize, receive: ByteLen, send: ByteLen) -> [Wish; 16]
+fn mailbox_wishes(
+    managers: [SyncManager; 16],
+    n: usize,
+    receive: ByteLen,
+    send: ByteLen,
+) -> [Wish; 16]
     ensures { λ r. ⌜ r ≡ mailboxWishes (receive .0) (send .0) (take n managers) ⌝ }
 {
     let mut list = [NO_WISH; 16];
@@ -304,7 +309,15 @@ fn plan_data(
         return Configured::Refused(7);
     }
     let list = wishes.list;
-    match entries::write_entries(fmmus, managers, n, list, Route { coe, entry }, place, direction) {
+    match entries::write_entries(
+        fmmus,
+        managers,
+        n,
+        list,
+        Route { coe, entry },
+        place,
+        direction,
+    ) {
         Configured::Mapped(segment, next) => {
             channels::write_channels(channels, managers, n, list);
             Configured::Mapped(segment, next)
@@ -336,7 +349,15 @@ pub fn configure_fmmus(
         return Configured::Refused(number);
     }
     let device = read.device;
-    plan_data(device, sheet, multipliers, fmmus, channels, place, direction)
+    plan_data(
+        device,
+        sheet,
+        multipliers,
+        fmmus,
+        channels,
+        place,
+        direction,
+    )
 }
 
 // The mailboxes of a device that has some: recorded, and their sync managers written.
@@ -348,7 +369,12 @@ fn mailboxes_of(device: Device, channels: &mut [u8]) -> MailboxConfig
     let n = device.n;
     let receive = device.receive_size;
     let send = device.send_size;
-    channels::write_channels(channels, managers, n, mailbox_wishes(managers, n, receive, send));
+    channels::write_channels(
+        channels,
+        managers,
+        n,
+        mailbox_wishes(managers, n, receive, send),
+    );
     MailboxConfig {
         read: last_of(managers, n, 2, send),
         write: last_of(managers, n, 1, receive),

@@ -118,7 +118,7 @@ loop-again c =
       l .inv .2,
       ap (set (l .list) (l .k)) (sym is) ∙ lists.filled f noWish 16 (l .k) (l .list) (below (c .before .before .before .before .before .before)) (l .inv .3),
       ask-on tooManyBits (a .usage) (bitsIn (a .t4)) (l .k) m (drop (l .k + 1) (take (a .n) (a .t1))) (drop (l .k) (take (a .n) (a .t1)))
-      (turn (a .t1) (a .n) 16 (l .inv .2) (l .k) blank (omega arith)) (not-refused 6 t _ (w .0 .0) e) ∙ l .inv .4,
+          (turn (a .t1) (a .n) 16 (l .inv .2) (l .k) blank (omega arith)) (not-refused 6 t _ (w .0 .0) e) ∙ l .inv .4,
     )
 
 returns-2 : tie.Need-returns-2 Inv-loop μ-loop

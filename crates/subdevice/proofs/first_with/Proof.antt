@@ -51,7 +51,7 @@ loop-again c =
       l .inv .1,
       l .inv .2,
       first-not-here (a .usage) (getD (a .t1) (l .k) 0) (drop (l .k + 1) (take (a .f) (a .t1))) (drop (l .k) (take (a .f) (a .t1))) (l .k)
-      (turn (a .t1) (a .f) 16 (l .inv .2) (l .k) 0 (omega arith)) (c .if1 .left) ∙ l .inv .3,
+          (turn (a .t1) (a .f) 16 (l .inv .2) (l .k) 0 (omega arith)) (c .if1 .left) ∙ l .inv .3,
     )
 
 returns-2 : tie.Need-returns-2 Inv-loop μ-loop

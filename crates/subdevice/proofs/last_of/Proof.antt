@@ -54,7 +54,7 @@ loop-again c =
       l .inv .1,
       l .inv .2,
       last-turn (a .usage) (a .size .0) (l .k) (l .found) (c .later .result) (getD (a .t1) (l .k) blank) (drop (l .k + 1) (take (a .n) (a .t1))) (drop (l .k) (take (a .n) (a .t1)))
-      (turn (a .t1) (a .n) 16 (l .inv .2) (l .k) blank (omega arith)) (c .later .ensures) ∙ l .inv .3,
+          (turn (a .t1) (a .n) 16 (l .inv .2) (l .k) blank (omega arith)) (c .later .ensures) ∙ l .inv .3,
     )
 
 returns : tie.Need-returns Inv-loop μ-loop

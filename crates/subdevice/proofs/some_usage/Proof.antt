@@ -57,7 +57,7 @@ loop-again c =
       l .inv .1,
       l .inv .2,
       some-not-here (λ (m : SyncManager). eqb (m .«usage_type») (a .usage)) (getD (a .t1) (l .k) blank) (drop (l .k + 1) (take (a .n) (a .t1))) (drop (l .k) (take (a .n) (a .t1)))
-      (turn (a .t1) (a .n) 16 (l .inv .2) (l .k) blank (omega arith)) (ne-eqb _ _ (c .if1 .left)) ∙ l .inv .3,
+          (turn (a .t1) (a .n) 16 (l .inv .2) (l .k) blank (omega arith)) (ne-eqb _ _ (c .if1 .left)) ∙ l .inv .3,
     )
 
 returns-2 : tie.Need-returns-2 Inv-loop μ-loop
