@@ -1,7 +1,6 @@
 // The images of the sync managers: `write_sm_config` of configuration.rs, over a whole area.
 ghost use mathlib.Core.Path.{_≡_};
 ghost use lib.ListN.{take};
-ghost use Prim.Native.Nat.{min};
 ghost use Rattle.sync_manager_channel.specs.Image.{imageOf};
 ghost use Rattle.channels.specs.Channels.{channelFor, channelArea, imageFor};
 use pdi::ByteLen;
@@ -56,18 +55,12 @@ fn image_for(before: [u8; 8], manager: SyncManager, wish: Wish) -> [u8; 8]
     before
 }
 
-fn least(a: usize, b: usize) -> usize
-    ensures { λ r. ⌜ r ≡ min a b ⌝ }
-{
-    if a < b { a } else { b }
-}
-
 // Writes the wished sync managers' images into a lent area, in rising number; all other bytes stay.
 pub fn write_channels(area: &mut [u8], managers: [SyncManager; 16], n: usize, wishes: [Wish; 16])
     ensures { λ r. ⌜ now (area .exit) ≡ channelArea (take n managers) wishes (now (area .entry)) ⌝ }
 {
     let mut images = area::load8(area);
-    let count = least(n, 16);
+    let count = wire::least(n, 16);
     let mut k = 0;
     while k < count {
         images[k] = image_for(images[k], managers[k], wishes[k]);

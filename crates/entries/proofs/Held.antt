@@ -18,12 +18,6 @@ use Rattle.entries.specs.declared.Route.{Route}
 use Rattle.entries.specs.Use.{Use, takes, usesFrom}
 use Rattle.entries.specs.Entries.{useFrom, mappedUses}
 
--- what stands at a place of the list, whatever would stand past its end
-pub getD-any : {A : Type 0} (l : List A) (k : ℕ) (a b : A) → k < length l → getD l k a ≡ getD l k b
-getD-any [] k a b h = absurd (not-suc-le-zero h)
-getD-any (x ∷ l) zero a b h = refl
-getD-any (x ∷ l) (suc k) a b h = getD-any l k a b (le-of-suc-le-suc h)
-
 -- the sync managers that use an entry, in the form that code holds them
 abbrev pub noMapping : Mapping
 noMapping = record { entry = 0; size = record { 0 = 0 }; at = 0 }

@@ -3,7 +3,7 @@ ghost use mathlib.Core.Path.{_≡_};
 ghost use lib.ListN.{length, getD, take};
 ghost use mathlib.Core.Bool.{false, cond};
 ghost use mathlib.Core.List.{[]};
-ghost use Prim.Native.Nat.{_+_, _<_, _≤_, min};
+ghost use Prim.Native.Nat.{_+_, _<_, _≤_};
 ghost use Rattle.pdo.specs.Direction.{isRead};
 ghost use Rattle.entries.specs.Use.{takes, usesFrom};
 ghost use Rattle.entries.specs.Entries.{laid, withUse, tooLong, lengthNow, lengthOf, useFrom, mappedUses, Totals, Lays, WritesEntries};
@@ -113,7 +113,7 @@ fn mappings_of(managers: [SyncManager; 16], n: usize, wishes: [Wish; 16], route:
         at: 0,
     }; 16];
     let mut count = 0;
-    let most = least(n, 16);
+    let most = wire::least(n, 16);
     let mut k = 0;
     while k < most {
         let wish = wishes[k];
@@ -255,10 +255,4 @@ fn lay(
         j += 1;
     }
     Moved::To(next)
-}
-
-fn least(a: usize, b: usize) -> usize
-    ensures { λ r. ⌜ r ≡ min a b ⌝ }
-{
-    if a < b { a } else { b }
 }

@@ -25,12 +25,6 @@ sum-append : (l m : List ℕ) → sum (l ++ m) ≡ sum l + sum m
 sum-append [] m = omega arith
 sum-append (x ∷ l) m = let e = sum-append l m in omega arith
 
--- a place that a list has, whatever would stand past its end
-pub getD-within : (l : List ℕ) (k d e : ℕ) → k < length l → getD l k d ≡ getD l k e
-getD-within [] k d e h = absurd (not-suc-le-zero h)
-getD-within (x ∷ l) zero d e h = refl
-getD-within (x ∷ l) (suc k) d e h = getD-within l k d e (le-of-suc-le-suc h)
-
 -- one more from the front; past the end it counts as 0
 sum-more : (l : List ℕ) (m : ℕ) → sum (take m l) + getD l m 0 ≡ sum (take (suc m) l)
 sum-more l m = go (ltb m (length l)) refl

@@ -12,6 +12,7 @@ use lib.Seq.{drop-cons, getD-take}
 use lib.Dec.{eqb}
 use borrow.Author.Tests.{eq-eqb, ne-eqb}
 use Rattle.wire.specs.Outcome.{refused, accepted, when, decide}
+use Rattle.wire.proofs.Lists.{getD-any}
 use Rattle.wire.proofs.Order.{never}
 use Rattle.pdi.specs.Unit.{tooManyBits}
 use Rattle.sheet.specs.Lists.{listOf}
@@ -32,12 +33,6 @@ blank =
       enable = false;
       «usage_type» = 0;
     }
-
--- within the list it doesn't matter what would stand past its end
-pub getD-any : {A : Type 0} (l : List A) (k : ℕ) (d e : A) → k < length l → getD l k d ≡ getD l k e
-getD-any [] k d e h = absurd (not-suc-le-zero h)
-getD-any (x ∷ l) zero d e h = refl
-getD-any (x ∷ l) (suc k) d e h = getD-any l k d e (le-of-suc-le-suc h)
 
 -- of an array of m places the first n are used: the loop runs to the smaller of the two
 module _ {A : Type 0} (l : List A) (n m : ℕ) (long : length l ≡ m) where

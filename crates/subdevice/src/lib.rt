@@ -58,17 +58,11 @@ const NO_WISH: Wish = Wish {
     size: ByteLen(0),
 };
 
-fn least(a: usize, b: usize) -> usize
-    ensures { λ r. ⌜ r ≡ min a b ⌝ }
-{
-    if a < b { a } else { b }
-}
-
 // Whether a sync manager has the usage.
 fn some_usage(managers: [SyncManager; 16], n: usize, usage: u8) -> bool
     ensures { λ r. ⌜ r ≡ someUsage usage (take n managers) ⌝ }
 {
-    let count = least(n, 16);
+    let count = wire::least(n, 16);
     let mut k = 0;
     while k < count {
         let m = managers[k];
@@ -102,7 +96,7 @@ fn coe_on(device: Device) -> bool
 fn first_with(usages: [u8; 16], f: usize, usage: u8) -> usize
     ensures { λ r. ⌜ r ≡ firstWith usage (take f usages) ⌝ }
 {
-    let count = least(f, 16);
+    let count = wire::least(f, 16);
     let mut k = 0;
     while k < count {
         if usages[k] == usage {
@@ -141,7 +135,7 @@ fn data_wishes(managers: [SyncManager; 16], n: usize, usage: u8, sums: [BitLen; 
     ensures { λ r. ⌜ (answerOf {A = Unit {0}} (r .answer) tt ≡ decide (when 6 (someTooWide usage sums (take n managers)) ∷ []) tt) × (r .list ≡ wishesAfter usage sums (take n managers)) ⌝ }
 {
     let mut list = [NO_WISH; 16];
-    let count = least(n, 16);
+    let count = wire::least(n, 16);
     let mut k = 0;
     while k < count {
         let m = managers[k];
@@ -175,7 +169,7 @@ fn mailbox_wishes(
     ensures { λ r. ⌜ r ≡ mailboxWishes (receive .0) (send .0) (take n managers) ⌝ }
 {
     let mut list = [NO_WISH; 16];
-    let count = least(n, 16);
+    let count = wire::least(n, 16);
     let mut k = 0;
     while k < count {
         let m = managers[k];
@@ -222,7 +216,7 @@ fn last_of(managers: [SyncManager; 16], n: usize, usage: u8, size: ByteLen) -> S
     ensures { λ r. ⌜ r ≡ lastOf usage (size .0) Slot.None 0 (take n managers) ⌝ }
 {
     let mut found = Slot::None;
-    let count = least(n, 16);
+    let count = wire::least(n, 16);
     let mut k = 0;
     while k < count {
         found = later(found, managers[k], usage, size, k as u8);
@@ -245,7 +239,7 @@ fn has_bits(usage: u8, wanted: u8, bits: BitLen) -> bool
 fn some_bits(managers: [SyncManager; 16], n: usize, usage: u8, sums: [BitLen; 16]) -> bool
     ensures { λ r. ⌜ r ≡ someOf (λ p. ltb 0 (p .bits)) (piecesFrom usage (bitsIn sums) 0 (take n managers)) ⌝ }
 {
-    let count = least(n, 16);
+    let count = wire::least(n, 16);
     let mut k = 0;
     while k < count {
         let m = managers[k];
@@ -272,7 +266,7 @@ fn no_entry(device: Device, coe: bool, entry: usize, usage: u8, sums: [BitLen; 1
     if !coe {
         return false;
     }
-    if entry != least(device.f, 16) {
+    if entry != wire::least(device.f, 16) {
         return false;
     }
     let managers = device.managers;

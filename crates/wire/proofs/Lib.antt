@@ -1,5 +1,6 @@
 -- Laws that belong to no one function, each said once.
 pub mod Below
+pub mod Lists
 pub mod Fields
 pub mod Numbers
 pub mod Bytes

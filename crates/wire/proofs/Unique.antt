@@ -18,6 +18,7 @@ use Rattle.wire.proofs.be16.Reads as be16
 use Rattle.wire.proofs.le16_bytes.Reads as le16-bytes
 use Rattle.wire.proofs.le32_bytes.Reads as le32-bytes
 use Rattle.wire.proofs.copy.Reads as copy
+use Rattle.wire.proofs.least.Reads as least
 use Rattle.wire.proofs.write_text.Reads as write-text
 use Rattle.wire.proofs.put_byte.Reads as put-byte
 use Rattle.wire.proofs.put_bytes.Reads as put-bytes
@@ -61,6 +62,9 @@ le16-bytes-pins κs a x y s t p q = same p q
 
 pub le32-bytes-pins : Pins le32-bytes.Post (λ κs r s. r)
 le32-bytes-pins κs a x y s t p q = same p q
+
+pub least-pins : Pins least.Post (λ κs r s. r)
+least-pins κs a x y s t p q = same p q
 
 pub copy-pins : Pins copy.Post (λ κs r s. now (s .1 .0))
 copy-pins κs a x y s t p q = same p q

@@ -78,7 +78,8 @@ pub fn copy(from: &[u8], to: &mut [u8])
     }
 }
 
-fn least(a: usize, b: usize) -> usize
+// The smaller of two counts.
+pub fn least(a: usize, b: usize) -> usize
     ensures { λ r. ⌜ r ≡ min a b ⌝ }
 {
     if a < b { a } else { b }

@@ -5,7 +5,7 @@ use native.Mathlib.Omega.{arith}
 use lib.ListN.{List·getD-eq-default}
 use denote.Ref.{now}
 use borrow.Author.Needs.{needs}
-use Rattle.pdo.proofs.Part.{getD-within}
+use Rattle.wire.proofs.Lists.{getD-any}
 use Rattle.pdo.proofs.multiplier_at.Statement.{statement}
 use Rattle.pdo.proofs.multiplier_at.Tie as tie
 
@@ -18,7 +18,7 @@ wide-requires c κs = search needs
 returns : tie.Need-returns
 returns c =
     let a = c .before .before .before .before .args in
-    (c .wide .ensures .0 ∙ getD-within (now (a .multipliers)) (a .i) 0 1 (c .before .before .if1 .taken), c .wide .ensures .1)
+    (c .wide .ensures .0 ∙ getD-any (now (a .multipliers)) (a .i) 0 1 (c .before .before .if1 .taken), c .wide .ensures .1)
 
 returns-2 : tie.Need-returns-2
 returns-2 c =
