@@ -12,7 +12,7 @@ use Rattle.entries.specs.declared.Configured.the-variants.{Mapped, Refus
 use Rattle.entries.proofs.write_entries.Reads as write-entries
 
 -- number and values determine the answer
-abbrev configured-back : Outcome Planned → Configured
+abbrev pub configured-back : Outcome Planned → Configured
 configured-back (refused n) = Refused n
 configured-back (accepted p) = Mapped (p .segment) (record { «start_address» = p .next })
 

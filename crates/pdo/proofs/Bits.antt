@@ -14,22 +14,12 @@ use Rattle.pdi.specs.declared.BitLen.{BitLen}
 use Rattle.sheet.specs.Lists.{listOf}
 use Rattle.sheet.specs.Sound.{Each, sum}
 use Rattle.sheet.specs.Device.{Pdo}
-use Rattle.sheet.proofs.Lists.{length-listOf}
+use Rattle.sheet.proofs.Lists.{length-listOf, getD-listOf}
 use Rattle.pdo.specs.Bits.{Oversampling, multiplierOf, multipliersOf, firstOf, othersOf, bitsOf, sumsOf}
 use Rattle.pdo.proofs.Records.{product-bounded}
 
 abbrev pub noBits : BitLen
 noBits = record { 0 = 0 }
-
--- by number
-getD-listOf : {A : Type 0} (f : ℕ → A) (n k : ℕ) (d : A) → k < n → getD (listOf f n) k d ≡ f k
-unfolding listOf
-getD-listOf f zero k d h = absurd (not-suc-le-zero h)
-getD-listOf f (suc n) k d h = go (eq-or-lt-of-le (le-of-suc-le-suc h)) (λ l. getD-listOf f n k d l)
-  where
-    go : (k ≡ n) ⊎ (k < n) → (k < n → getD (listOf f n) k d ≡ f k) → getD (listOf f n ++ (f n ∷ [])) k d ≡ f k
-    go (inl e) below = getD-at (listOf f n) (f n) [] d k (length-listOf f n ∙ sym e) ∙ ap f (sym e)
-    go (inr l) below = List·getD-append (listOf f n) (f n ∷ []) d k (omega (arith, length-listOf f n)) ∙ below l
 
 -- sixteen of them
 pub sixteen : (kind : ℕ) (ps : List Pdo) (ws : List ℕ) → length (sumsOf kind ps ws) ≡ 16

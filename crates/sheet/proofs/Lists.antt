@@ -8,8 +8,8 @@ use Prim.Native.Nat.{ℕ, zero, suc, _+_, _-_, _<_}
 use native.Mathlib.Nat.{not-suc-le-zero, le-of-suc-le-suc, eq-or-lt-of-le}
 use native.Mathlib.Numerals.{add-one}
 use native.Mathlib.Omega.{arith}
-use lib.ListN.{length, set, replicate, length-append}
-use lib.Seq.{set-at, append-snoc}
+use lib.ListN.{length, getD, set, replicate, length-append, List·getD-append}
+use lib.Seq.{set-at, append-snoc, getD-at}
 use Rattle.sheet.specs.Lists.{listOf, someBelow}
 
 or-left : (a b : Bool) → a ≡ true → a || b ≡ true
@@ -44,6 +44,19 @@ pub length-listOf : {A : Type 0} (f : ℕ → A) (n : ℕ) → length (listOf f 
 unfolding listOf
 length-listOf f zero = refl
 length-listOf f (suc n) = length-append (listOf f n) (f n ∷ []) ∙ rw (length-listOf f n) (omega arith)
+
+-- what stands at a number, and so whatever follows the list
+pub getD-listOf : {A : Type 0} (f : ℕ → A) (n k : ℕ) (d : A) → k < n → getD (listOf f n) k d ≡ f k
+unfolding listOf
+getD-listOf f zero k d h = absurd (not-suc-le-zero h)
+getD-listOf f (suc n) k d h = go (eq-or-lt-of-le (le-of-suc-le-suc h)) (λ l. getD-listOf f n k d l)
+  where
+    go : (k ≡ n) ⊎ (k < n) → (k < n → getD (listOf f n) k d ≡ f k) → getD (listOf f n ++ (f n ∷ [])) k d ≡ f k
+    go (inl e) below = getD-at (listOf f n) (f n) [] d k (length-listOf f n ∙ sym e) ∙ ap f (sym e)
+    go (inr l) below = List·getD-append (listOf f n) (f n ∷ []) d k (omega (arith, length-listOf f n)) ∙ below l
+
+pub at-number : {A : Type 0} (f : ℕ → A) (n k : ℕ) (rest : List A) (d : A) → k < n → getD (listOf f n ++ rest) k d ≡ f k
+at-number f n k rest d h = List·getD-append (listOf f n) rest d k (omega (arith, length-listOf f n)) ∙ getD-listOf f n k d h
 
 -- a turn of a loop that fills m places, of which i are filled
 pub filled : {A : Type 0} (f : ℕ → A) (d : A) (m i : ℕ) (l : List A) → i < m → l ≡ listOf f i ++ replicate (m - i) d → set l i (f i) ≡ listOf f (i + 1) ++ replicate (m - (i + 1)) d

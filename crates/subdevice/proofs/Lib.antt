@@ -1,4 +1,6 @@
 -- Laws that belong to no one function.
-pub mod Mailboxes
 pub mod Turns
+pub mod Planning
+pub mod Passing
+pub mod Mailboxes
 pub mod Unique

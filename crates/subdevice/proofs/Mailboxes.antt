@@ -20,7 +20,7 @@ use Rattle.sheet.specs.declared.Answer.{Answer}
 use Rattle.sheet.specs.declared.Answer.the-variants as answer
 use Rattle.sheet.specs.declared.SheetRead.{SheetRead}
 use Rattle.sheet.specs.declared.SyncManager.{SyncManager}
-use Rattle.sheet.proofs.Lists.{length-listOf}
+use Rattle.sheet.proofs.Lists.{at-number}
 use Rattle.area.specs.Area.{entriesOf, flat}
 use Rattle.channels.specs.declared.Wish.{Wish}
 use Rattle.channels.specs.Channels.{noWish, wishOf, wished, channelsAfter, channelArea}
@@ -31,17 +31,6 @@ use Rattle.subdevice.specs.declared.MailboxRead.the-variants.{Config, Re
 use Rattle.subdevice.specs.declared.Slot.the-variants.{None}
 use Rattle.subdevice.specs.Mailbox.{mailboxSize, lastOf, configOf, noMailboxes, mailboxPass, mailboxChannels, mailboxArea, ConfiguresMailboxes}
 use Rattle.subdevice.specs.Wishes.{wish, mailboxWish, mailboxWishes}
-
--- a list by number, at a number, whatever follows it
-at-number : {A : Type 0} (f : ℕ → A) (n k : ℕ) (rest : List A) (d : A) → k < n → getD (listOf f n ++ rest) k d ≡ f k
-unfolding listOf
-at-number f zero k rest d h = absurd (not-suc-le-zero h)
-at-number {A} f (suc n) k rest d h =
-    ap (λ (l : List A). getD l k d) (append-snoc (listOf f n) (f n) rest) ∙ go (eq-or-lt-of-le (le-of-suc-le-suc h)) (λ l. at-number f n k (f n ∷ rest) d l)
-  where
-    go : (k ≡ n) ⊎ (k < n) → (k < n → getD (listOf f n ++ (f n ∷ rest)) k d ≡ f k) → getD (listOf f n ++ (f n ∷ rest)) k d ≡ f k
-    go (inl e) below = getD-at (listOf f n) (f n) rest d k (length-listOf f n ∙ sym e) ∙ ap f (sym e)
-    go (inr l) below = below l
 
 -- a wish says the size
 wish-size : (d : Data) (k : ℕ) (m : SyncManager) → wishOf (mailboxWish (m .«usage_type») (d .receive) (d .send)) ≡ mailboxSize d k m

@@ -1,0 +1,70 @@
+-- A data pass as code goes: the areas' lengths, then the sheet, then planning what was read.
+-- Assumes nothing.
+use mathlib.Core.Path.{_≡_, sym, _∙_, ap, subst}
+use mathlib.Core.Bool.{true, false}
+use mathlib.Core.List.{List}
+use Prim.Native.Nat.{ℕ}
+use lib.ListN.{length}
+use borrow.Author.Tests.{eq-eqb, ne-eqb}
+use Rattle.wire.specs.Outcome.{Outcome, refused, accepted, first}
+use Rattle.wire.proofs.Order.{passed, passed-answer, stopped}
+use Rattle.sheet.specs.Device.{Data}
+use Rattle.sheet.specs.Sheet.{sheetRefusals, sheetData, readSheet, pdoCount, deviceOf, deviceAfter, ReadsAs}
+use Rattle.sheet.specs.declared.SheetRead.{SheetRead}
+use Rattle.pdo.specs.declared.PdoDirection.{PdoDirection}
+use Rattle.entries.specs.declared.Configured.{Configured}
+use Rattle.entries.specs.declared.Configured.the-variants.{Refused}
+use Rattle.entries.specs.Entries.{Planned}
+use Rattle.subdevice.specs.Pass.{notAreas, planOutcome, dataPass, entriesAfter, channelAreaAfter, Plans, Configures}
+
+-- 1 holds if an area has another length, and not if both have theirs
+pub entries-wrong : (fmmus channels : List ℕ) → (length fmmus ≡ 256 → ⊥) → notAreas fmmus channels ≡ true
+entries-wrong fmmus channels h = rw (ne-eqb (length fmmus) 256 h)
+
+pub channels-wrong : (fmmus channels : List ℕ) → length fmmus ≡ 256 → (length channels ≡ 128 → ⊥) → notAreas fmmus channels ≡ true
+channels-wrong fmmus channels e h = rw (eq-eqb (length fmmus) 256 e, ne-eqb (length channels) 128 h)
+
+pub areas-right : (fmmus channels : List ℕ) → length fmmus ≡ 256 → length channels ≡ 128 → notAreas fmmus channels ≡ false
+areas-right fmmus channels e h = rw (eq-eqb (length fmmus) 256 e, eq-eqb (length channels) 128 h)
+
+-- the PDOs of a sheet that is read are as many as its byte 10 says
+pub pdos-counted : (s : List ℕ) (x : SheetRead) (b : Data) → ReadsAs s x → accepted b ≡ readSheet s → x .device .p ≡ pdoCount s
+unfolding deviceOf
+pdos-counted s x b h e = ap (λ d. d .p) (h .holds ∙ ap (λ (o : Outcome Data). deviceAfter o s) (sym e))
+
+module _ (sheet ws : List ℕ) (r : PdoDirection) (offset group : ℕ) (fmmus channels : List ℕ) where
+  -- a refusal writes nothing
+  refuses : (n : ℕ) → refused n ≡ dataPass sheet ws r offset group fmmus channels → Configures sheet ws r offset group fmmus channels (Refused n) fmmus channels
+  refuses n e =
+      record {
+        says = e;
+        entries = ap (λ (o : Outcome Planned). entriesAfter o (sheetData sheet) ws r offset fmmus) e;
+        images = ap (λ (o : Outcome Planned). channelAreaAfter o (sheetData sheet) ws r channels) e;
+      }
+
+  pub one-configures : notAreas fmmus channels ≡ true → Configures sheet ws r offset group fmmus channels (Refused 1) fmmus channels
+  unfolding dataPass
+  one-configures h = refuses 1 (rw h)
+
+  module _ (right : notAreas fmmus channels ≡ false) where
+    rest : dataPass sheet ws r offset group fmmus channels ≡ first (sheetRefusals sheet) (planOutcome (sheetData sheet) ws r offset group fmmus)
+    unfolding dataPass planOutcome
+    rest = rw right
+
+    pub sheet-configures : (n : ℕ) → refused n ≡ readSheet sheet → Configures sheet ws r offset group fmmus channels (Refused n) fmmus channels
+    unfolding readSheet
+    sheet-configures n e = refuses n (stopped (sheetRefusals sheet) (sheetData sheet) n (planOutcome (sheetData sheet) ws r offset group fmmus) e ∙ sym rest)
+
+    pub plan-configures :
+        (b : Data) (answer : Configured) (fmmusThen channelsThen : List ℕ) → accepted b ≡ readSheet sheet
+        → Plans b ws r offset group fmmus channels answer fmmusThen channelsThen → Configures sheet ws r offset group fmmus channels answer fmmusThen channelsThen
+    unfolding readSheet
+    plan-configures b answer fmmusThen channelsThen e p =
+        let is : b ≡ sheetData sheet = passed-answer (sheetRefusals sheet) (sheetData sheet) b e in
+        let o = sym (rest ∙ passed (sheetRefusals sheet) (sheetData sheet) b (planOutcome (sheetData sheet) ws r offset group fmmus) e) in
+        let q = subst (λ (d : Data). Plans d ws r offset group fmmus channels answer fmmusThen channelsThen) is p in
+        record {
+          says = q .says ∙ o;
+          entries = q .entries ∙ ap (λ (x : Outcome Planned). entriesAfter x (sheetData sheet) ws r offset fmmus) o;
+          images = q .images ∙ ap (λ (x : Outcome Planned). channelAreaAfter x (sheetData sheet) ws r channels) o;
+        }
