@@ -1,7 +1,1 @@
-// Translation and counting: their meaning and demand 3 stand in specs/ and proofs/.
-
-// How one address is found: through the FMMU entries, or through the sync managers.
-pub enum Way {
-    Translated,
-    Counted,
-}
+// Translation and counting: what they mean, and demand 3, which says when they agree, stand in specs/ and proofs/.

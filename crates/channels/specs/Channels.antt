@@ -1,6 +1,6 @@
 -- The images of the sync managers: sheet address and control, size in bytes, status 0, enabled only if ENABLE is set and the size is above 0.
 -- Assumes nothing.
-use mathlib.Core.Bool.{Bool, true, false, cond, _&&_}
+use mathlib.Core.Bool.{Bool, false, cond, _&&_}
 use mathlib.Core.List.{List, [], _∷_}
 use mathlib.Core.Option.{Option, none, some}
 use Prim.Native.Nat.{ℕ, suc}

@@ -1,25 +1,24 @@
 -- The refusals that look at the entries and the offset, decided one after the other; and what is written where none holds.
 -- Assumes nothing.
-use mathlib.Core.Path.{_≡_, refl, sym, _∙_, ap, ap₂, subst}
+use mathlib.Core.Path.{_≡_, refl, sym, _∙_, ap, ap₂}
 use mathlib.Core.Bool.{Bool, true, false, cond, _||_}
 use mathlib.Core.List.{List, [], _∷_}
-use Prim.Native.Nat.{ℕ, _+_, _-_, _<_, _≤_}
+use Prim.Native.Nat.{ℕ, _+_, _-_, _≤_}
 use native.Mathlib.Omega.{arith}
 use lib.Dec.{ltb}
 use borrow.Author.Tests.{ltb-false, le-ltb}
 use Rattle.wire.specs.Outcome.{Outcome, refused, accepted, Refusal, when, first, decide}
 use Rattle.wire.specs.Room.{over}
 use Rattle.wire.proofs.Order.{passed, passed-answer, stopped}
-use Rattle.pdi.specs.Offset.{pastEnd, incremented, movedOf}
+use Rattle.pdi.specs.Offset.{pastEnd, incremented}
 use Rattle.pdi.specs.Segment.{segment, belowGroup, lessGroup}
-use Rattle.pdi.specs.declared.PdiOffset.{PdiOffset}
 use Rattle.pdi.specs.declared.PdiSegment.{PdiSegment}
 use Rattle.pdi.specs.declared.Moved.{Moved}
 use Rattle.area.specs.Area.{padded, entriesOf, flat}
 use Rattle.pdo.specs.declared.PdoDirection.{PdoDirection}
 use Rattle.entries.specs.declared.Configured.the-variants.{Mapped, Refused}
 use Rattle.entries.specs.Use.{Use, total}
-use Rattle.entries.specs.Entries.{plan, tooLong, Lays, Planned, planned, configuredOf, entriesOutcome, entryArea, WritesEntries}
+use Rattle.entries.specs.Entries.{plan, tooLong, Lays, Planned, planned, entriesOutcome, entryArea, WritesEntries}
 use Rattle.entries.proofs.Laying.{stepped}
 
 -- the offset alone decides whether a segment that starts there is below the group start

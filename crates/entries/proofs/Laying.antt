@@ -6,9 +6,8 @@ use mathlib.Core.List.{List, [], _∷_}
 use Prim.Native.Nat.{ℕ, _+_, _<_, _≤_}
 use native.Mathlib.Omega.{arith}
 use lib.ListN.{length, getD, length-set}
-use lib.Dec.{ltb}
 use borrow.Author.Tests.{ltb-true, ltb-false, lt-ltb, le-ltb}
-use Rattle.wire.specs.Outcome.{Outcome, refused, accepted, when}
+use Rattle.wire.specs.Outcome.{refused, accepted}
 use Rattle.wire.proofs.Order.{never, passed-answer}
 use Rattle.pdi.specs.Offset.{pastEnd, incremented}
 use Rattle.pdi.specs.declared.Moved.the-variants.{To, Refused}

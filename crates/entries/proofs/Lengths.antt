@@ -3,18 +3,17 @@
 use mathlib.Core.Path.{_≡_, refl, sym, _∙_, ap, ap₂, subst}
 use mathlib.Core.Bool.{Bool, true, false, cond, false≢true}
 use mathlib.Core.List.{List, [], _∷_}
-use Prim.Native.Nat.{ℕ, _+_, _^_, _<_, _≤_}
+use Prim.Native.Nat.{ℕ, _+_, _<_, _≤_}
 use native.Mathlib.Nat.{zero-add}
 use native.Mathlib.Decide.{ℕ-discrete}
 use native.Mathlib.Omega.{arith}
-use lib.ListN.{length, getD, set}
+use lib.ListN.{length, getD}
 use lib.Seq.{getD-set-same, getD-set-other}
-use lib.Dec.{eqb, ltb}
+use lib.Dec.{ltb}
 use borrow.Author.Tests.{ltb-false, eq-eqb, ne-eqb}
 use Rattle.wire.specs.Field.{flagAt, bit}
 use Rattle.wire.proofs.Numbers.{joined-is}
 use Rattle.sheet.proofs.Lists.{some-hit}
-use Rattle.sheet.specs.Lists.{someBelow}
 use Rattle.fmmu.specs.declared.Fmmu.{Fmmu}
 use Rattle.fmmu.specs.Image.{fieldsOf, imageOf}
 use Rattle.pdo.specs.declared.PdoDirection.{PdoDirection}

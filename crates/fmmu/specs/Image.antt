@@ -1,6 +1,6 @@
 -- ETG1000.4 Table 56, the FMMU entity: sixteen bytes, little-endian, and the fields that they hold.
 -- Assumes nothing.
-use mathlib.Core.Bool.{Bool, true, false, _||_}
+use mathlib.Core.Bool.{Bool, _||_}
 use mathlib.Core.List.{List, [], _∷_, _++_}
 use Prim.Native.Nat.{ℕ, _+_, _*_, _%_, _^_, _<_}
 use lib.ListN.{getD}

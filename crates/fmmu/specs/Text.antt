@@ -1,6 +1,6 @@
 -- The text of an FMMU entry: the crate's Display (document 01, 'Register images').
 -- Assumes nothing.
-use mathlib.Core.Bool.{Bool, true, false, cond}
+use mathlib.Core.Bool.{cond}
 use mathlib.Core.List.{List, [], _∷_, _++_}
 use Prim.Native.Nat.{ℕ}
 use Rattle.wire.specs.Text.{hexOf, decimalOf, enabledText}

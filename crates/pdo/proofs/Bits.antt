@@ -1,17 +1,13 @@
 -- The exact bits: sixteen of them by number, and their bound.
 -- Assumes nothing.
-use mathlib.Core.Path.{_≡_, refl, sym, _∙_, ap}
+use mathlib.Core.Path.{_≡_, refl, ap}
 use mathlib.Core.Bool.{Bool, true, false, cond, _&&_}
-use mathlib.Core.List.{List, [], _∷_, _++_}
-use mathlib.Core.Logic.{_⊎_, inl, inr}
-use Prim.Native.Nat.{ℕ, zero, suc, _+_, _*_, _≤_, _<_}
-use native.Mathlib.Nat.{not-suc-le-zero, le-of-suc-le-suc, eq-or-lt-of-le}
+use mathlib.Core.List.{List, [], _∷_}
+use Prim.Native.Nat.{ℕ, _+_, _*_, _≤_, _<_}
 use native.Mathlib.Omega.{arith}
-use lib.ListN.{length, getD, length-map, List·getD-append}
-use lib.Seq.{getD-at}
+use lib.ListN.{length, getD, length-map}
 use lib.Dec.{eqb}
 use Rattle.pdi.specs.declared.BitLen.{BitLen}
-use Rattle.sheet.specs.Lists.{listOf}
 use Rattle.sheet.specs.Sound.{Each, sum}
 use Rattle.sheet.specs.Device.{Pdo}
 use Rattle.sheet.proofs.Lists.{length-listOf, getD-listOf}

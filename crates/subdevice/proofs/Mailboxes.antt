@@ -2,19 +2,15 @@
 -- Assumes nothing.
 use mathlib.Core.Path.{_≡_, refl, sym, _∙_, ap}
 use mathlib.Core.Bool.{Bool, true, false, cond}
-use mathlib.Core.List.{List, [], _∷_, _++_}
-use mathlib.Core.Logic.{_⊎_, inl, inr}
+use mathlib.Core.List.{List, []}
 use mathlib.Core.Option.{none, some}
-use Prim.Native.Nat.{ℕ, zero, suc, _-_, _<_}
-use native.Mathlib.Nat.{not-suc-le-zero, le-of-suc-le-suc, eq-or-lt-of-le}
+use Prim.Native.Nat.{ℕ, _-_, _<_}
 use lib.ListN.{length, getD, replicate}
-use lib.Seq.{getD-at, append-snoc}
 use lib.Dec.{eqb}
 use borrow.Author.Tests.{eq-eqb, ne-eqb}
 use Rattle.wire.specs.Outcome.{Outcome, refused, accepted, first}
 use Rattle.wire.proofs.Order.{passed, passed-answer, stopped}
 use Rattle.sheet.specs.Device.{Data, dataOf}
-use Rattle.sheet.specs.Lists.{listOf}
 use Rattle.sheet.specs.Sheet.{noManager, sheetRefusals, sheetData, readSheet, answerOf, ReadsAs}
 use Rattle.sheet.specs.declared.Answer.{Answer}
 use Rattle.sheet.specs.declared.Answer.the-variants as answer

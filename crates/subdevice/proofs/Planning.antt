@@ -2,14 +2,11 @@
 -- Assumes nothing.
 use mathlib.Core.Path.{_≡_, refl, sym, _∙_, ap}
 use mathlib.Core.Bool.{Bool, true, false, cond, _&&_}
-use mathlib.Core.List.{List, [], _∷_, _++_}
-use mathlib.Core.Logic.{_⊎_, inl, inr}
+use mathlib.Core.List.{List, [], _∷_}
 use mathlib.Core.Option.{none, some}
-use Prim.Native.Nat.{ℕ, zero, suc, _+_, _-_, _<_, _≤_}
-use native.Mathlib.Nat.{not-suc-le-zero, le-of-suc-le-suc, eq-or-lt-of-le}
+use Prim.Native.Nat.{ℕ, suc, _+_, _-_, _<_, _≤_}
 use native.Mathlib.Omega.{arith}
-use lib.ListN.{length, getD, replicate, List·getD-append}
-use lib.Seq.{getD-at}
+use lib.ListN.{length, getD, replicate}
 use lib.Dec.{eqb, ltb}
 use Rattle.wire.specs.Outcome.{Outcome, refused, accepted, when, decide}
 use Rattle.wire.proofs.Copied.{over-same}
@@ -17,11 +14,10 @@ use Rattle.pdi.specs.Unit.{bytesOf, tooManyBits}
 use Rattle.pdi.specs.declared.BitLen.{BitLen}
 use Rattle.pdi.specs.declared.PdiOffset.{PdiOffset}
 use Rattle.pdi.specs.declared.PdiSegment.{PdiSegment}
-use Rattle.sheet.specs.Lists.{listOf}
 use Rattle.sheet.specs.Device.{Data}
 use Rattle.sheet.specs.Sheet.{noManager}
 use Rattle.sheet.specs.declared.SyncManager.{SyncManager}
-use Rattle.sheet.proofs.Lists.{length-listOf, at-number}
+use Rattle.sheet.proofs.Lists.{at-number}
 use Rattle.area.specs.Area.{padded, entriesOf, flat}
 use Rattle.area.proofs.Flat.{length-chunks, rows-chunks, flat-bytes, padded-same}
 use Rattle.channels.specs.declared.Wish.{Wish}

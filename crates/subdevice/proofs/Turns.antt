@@ -1,10 +1,10 @@
 -- A turn of a loop over the sync managers that are used, and its end.
 -- Assumes nothing.
 use mathlib.Core.Path.{_≡_, refl, sym, _∙_, ap}
-use mathlib.Core.Bool.{Bool, true, false, cond, _||_, _&&_, false≢true}
+use mathlib.Core.Bool.{Bool, true, false, cond, _&&_, false≢true}
 use mathlib.Core.List.{List, [], _∷_, _++_}
-use Prim.Native.Nat.{ℕ, zero, suc, _+_, _-_, _<_, _≤_, min}
-use native.Mathlib.Nat.{min-le-left, min-le-right, le-min, not-suc-le-zero, le-of-suc-le-suc}
+use Prim.Native.Nat.{ℕ, suc, _+_, _-_, _<_, _≤_, min}
+use native.Mathlib.Nat.{min-le-left, min-le-right}
 use native.Mathlib.Numerals.{add-one}
 use native.Mathlib.Omega.{arith}
 use lib.ListN.{length, getD, take, drop, replicate, length-take, drop-of-length-le}
@@ -14,7 +14,6 @@ use borrow.Author.Tests.{eq-eqb, ne-eqb}
 use Rattle.wire.specs.Outcome.{refused, accepted, when, decide}
 use Rattle.wire.proofs.Lists.{getD-any}
 use Rattle.wire.proofs.Order.{never}
-use Rattle.pdi.specs.Unit.{tooManyBits}
 use Rattle.sheet.specs.Lists.{listOf}
 use Rattle.sheet.specs.declared.SyncManager.{SyncManager}
 use Rattle.pdo.specs.Bits.{someOf, Piece, piecesFrom}

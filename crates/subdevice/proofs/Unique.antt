@@ -5,7 +5,6 @@ use denote.Ref.{now}
 use Rattle.wire.specs.Outcome.{Outcome, refused, accepted}
 use Rattle.wire.proofs.Pins.{Pins, with-room, same, same-by}
 use Rattle.entries.specs.Entries.{configuredOf}
-use Rattle.entries.specs.declared.Configured.{Configured}
 use Rattle.entries.proofs.Unique.{configured-back, configured-determined}
 use Rattle.subdevice.specs.Mailbox.{mailboxOf}
 use Rattle.subdevice.specs.declared.MailboxConfig.{MailboxConfig}

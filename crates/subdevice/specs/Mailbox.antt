@@ -1,7 +1,7 @@
 -- The mailbox pass.
 -- Assumes nothing.
 use mathlib.Core.Path.{_≡_}
-use mathlib.Core.Bool.{Bool, true, false, cond, not, _&&_}
+use mathlib.Core.Bool.{Bool, false, cond, not}
 use mathlib.Core.List.{List, [], _∷_}
 use mathlib.Core.Option.{Option, none, some}
 use Prim.Native.Nat.{ℕ, suc}
@@ -11,7 +11,6 @@ use Rattle.wire.specs.Outcome.{Outcome, refused, accepted, Refusal, when, decid
 use Rattle.sheet.specs.Device.{Data}
 use Rattle.sheet.specs.Sheet.{sheetRefusals, sheetData}
 use Rattle.sheet.specs.declared.SyncManager.{SyncManager}
-use Rattle.subdevice.specs.declared.Mailbox.{Mailbox}
 use Rattle.subdevice.specs.declared.Slot.{Slot}
 use Rattle.subdevice.specs.declared.Slot.the-variants.{None, At}
 use Rattle.subdevice.specs.declared.MailboxConfig.{MailboxConfig}

@@ -1,15 +1,15 @@
 -- Digits in any base, typed from the high end.
 -- Assumes nothing.
-use mathlib.Core.Path.{_≡_, refl, sym, _∙_, ap}
+use mathlib.Core.Path.{_≡_, refl, _∙_, ap}
 use mathlib.Core.Bool.{Bool, true, false, cond}
-use mathlib.Core.List.{List, [], _∷_}
-use Prim.Native.Nat.{ℕ, zero, suc, _+_, _-_, _*_, _/_, _%_, _^_, _<_, _≤_}
+use mathlib.Core.List.{[], _∷_}
+use Prim.Native.Nat.{ℕ, zero, suc, _-_, _/_, _%_, _^_, _<_, _≤_}
 use native.Mathlib.Nat.{pow-zero, pow-suc, mul-div-cancel, mul-pos}
 use native.Mathlib.Numerals.{sub-one}
 use native.Mathlib.Omega.{arith}
 use lib.ListN.{length}
 use lib.Dec.{ltb}
-use Rattle.wire.specs.Text.{Page, typed, typedAll, Types, glyphOf, digitsOf, placesOf, decimalOf}
+use Rattle.wire.specs.Text.{Page, typedAll, Types, glyphOf, digitsOf, placesOf, decimalOf}
 
 pub power-pos : (base n : ℕ) → 0 < base → 0 < base ^ n
 power-pos base zero h = rw (pow-zero base) (omega arith)

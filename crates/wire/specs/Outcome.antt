@@ -1,7 +1,7 @@
 -- What a call answers: a refusal with its number and nothing beside it, or what was asked for. The refusals of a call are a list in
 -- document 01's order; the first that holds is given.
 -- Assumes nothing.
-use mathlib.Core.Bool.{Bool, true, false, cond}
+use mathlib.Core.Bool.{Bool, cond}
 use mathlib.Core.List.{List, [], _∷_}
 use Prim.Native.Nat.{ℕ}
 

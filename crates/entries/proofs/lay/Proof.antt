@@ -1,14 +1,13 @@
 -- `entries::lay`: each turn lays one use and moves the offset on.
 -- Assumes nothing.
-use mathlib.Core.Path.{_≡_, refl, sym, _∙_, ap}
-use mathlib.Core.List.{List, []}
-use Prim.Native.Nat.{ℕ, _+_, _-_, _≤_}
+use mathlib.Core.Path.{sym, _∙_, ap}
+use Prim.Native.Nat.{_-_, _≤_}
 use native.Mathlib.Omega.{arith}
 use denote.Ref.{now}
-use lib.ListN.{length, getD, drop}
+use lib.ListN.{drop}
 use borrow.Author.Needs.{needs}
 use Rattle.pdi.specs.Offset.{movedOf}
-use Rattle.entries.specs.Entries.{useFrom, mappedUses}
+use Rattle.entries.specs.Entries.{mappedUses}
 use Rattle.entries.proofs.Held.{uses-next, uses-end}
 use Rattle.entries.proofs.Laying.{Laying, laying-starts, laying-fits, laying-turns, laying-halts, laying-ends}
 use Rattle.entries.proofs.lay.Statement.{statement}

@@ -1,15 +1,15 @@
 -- `entries::lay_one`: the entry that is read, laid and written back; past the last entry nothing.
 -- Assumes nothing.
-use mathlib.Core.Path.{_≡_, sym, _∙_, ap}
-use mathlib.Core.List.{List, []}
-use Prim.Native.Nat.{ℕ, _+_, _≤_}
+use mathlib.Core.Path.{sym, _∙_, ap}
+use mathlib.Core.List.{List}
+use Prim.Native.Nat.{ℕ}
 use native.Mathlib.Omega.{arith}
 use borrow.Author.Needs.{needs}
 use denote.Ref.{now}
-use lib.ListN.{getD, set}
+use lib.ListN.{set}
 use lib.Seq.{set-out}
 use Rattle.fmmu.specs.declared.Fmmu.{Fmmu}
-use Rattle.fmmu.specs.Image.{imageOf, fieldsOf}
+use Rattle.fmmu.specs.Image.{imageOf}
 use Rattle.entries.specs.Entries.{laid, lengthOf, useFrom}
 use Rattle.entries.proofs.lay_one.Statement.{statement}
 use Rattle.entries.proofs.lay_one.Tie as tie

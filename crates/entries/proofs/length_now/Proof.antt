@@ -1,11 +1,9 @@
 -- `entries::length_now`: the length that the entry says, if it is enabled.
 -- Assumes nothing.
-use mathlib.Core.Path.{_≡_, sym, _∙_, ap}
-use mathlib.Core.Bool.{Bool, true, false, cond}
-use Prim.Native.Nat.{ℕ}
+use mathlib.Core.Path.{sym, _∙_, ap}
+use mathlib.Core.Bool.{Bool, cond}
 use native.Mathlib.Omega.{arith}
 use borrow.Author.Needs.{needs}
-use Rattle.fmmu.specs.declared.Fmmu.{Fmmu}
 use Rattle.entries.specs.Entries.{lengthOf}
 use Rattle.entries.proofs.length_now.Statement.{statement}
 use Rattle.entries.proofs.length_now.Tie as tie

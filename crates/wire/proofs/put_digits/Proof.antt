@@ -2,10 +2,9 @@
 -- Assumes nothing.
 use mathlib.Core.Path.{_≡_, refl, sym, _∙_, ap}
 use mathlib.Core.List.{[], _∷_}
-use Prim.Native.Nat.{ℕ, _-_, _≤_, _<_, _/_, _%_, _^_}
+use Prim.Native.Nat.{ℕ, _≤_, _<_, _/_, _%_, _^_}
 use native.Mathlib.Nat.{mod-lt}
 use native.Mathlib.Omega.{arith}
-use denote.Ref.{now}
 use lib.ListN.{length}
 use Rattle.wire.specs.Text.{page, typedAll, digitsOf}
 use Rattle.wire.proofs.Typing.{types}
