@@ -18,7 +18,7 @@ use Rattle.wire.proofs.Order.{never}
 use Rattle.sheet.specs.Sound.{Each}
 use Rattle.sheet.specs.Lists.{someBelow}
 use Rattle.pdo.specs.Bits.{someOf}
-use Rattle.agreement.specs.Translate.{within, firstSaid}
+use Rattle.translation.specs.Translate.{within, firstSaid}
 
 pub either : (b : Bool) → (b ≡ true) ⊎ (b ≡ false)
 either true = inl refl

@@ -16,9 +16,10 @@ use Rattle.pdo.specs.Bits.{multiplierOf, byCoe, bitsOf, piecesFrom, piecesOf}
 use Rattle.entries.specs.Use.{own, given, firstWith, usesOf, total, totalOn, sizeOf}
 use Rattle.area.specs.Area.{chunks, flat}
 use Rattle.entries.specs.Entries.{plan, tooLong}
-use Rattle.subdevice.specs.Pass.{someTooMany, noEntry, dataPass}
-use Rattle.agreement.specs.Translate.{carries, odd, says, firstSaid, translate}
-use Rattle.agreement.specs.Count.{spotIn, count}
+use Rattle.wanted.specs.Wanted.{someTooMany, noEntry}
+use Rattle.subdevice.specs.Pass.{dataPass}
+use Rattle.translation.specs.Translate.{carries, odd, says, firstSaid, translate}
+use Rattle.counting.specs.Count.{spotIn, count}
 use Rattle.agreement.specs.Bench.{Row, benchCases}
 use Rattle.agreement.specs.Cases.{translationCases, countingCases}
 

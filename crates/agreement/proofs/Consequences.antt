@@ -18,7 +18,7 @@ use Rattle.pdo.specs.declared.PdoDirection.{PdoDirection}
 use Rattle.pdo.specs.Direction.{other}
 use Rattle.entries.specs.Use.{Use, total}
 use Rattle.area.specs.Area.{entriesOf}
-use Rattle.agreement.specs.Translate.{named, says, firstSaid, orNone, translate}
+use Rattle.translation.specs.Translate.{named, says, firstSaid, orNone, translate}
 use Rattle.agreement.specs.Agreement.{AllBytes, EveryDisabled, Lent, weights, TwoPasses, EndToEnd, laidBy, counted}
 use Rattle.agreement.proofs.Basics.{either, each-map, said-by, inside, before, behind}
 use Rattle.agreement.proofs.Straight.{lay, Fresh, straight-same, straight-iff}

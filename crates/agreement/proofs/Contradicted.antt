@@ -18,7 +18,7 @@ use Rattle.pdo.specs.Direction.{other}
 use Rattle.entries.specs.Use.{Use, total, sizeOf}
 use Rattle.area.specs.Area.{entriesOf, flat}
 use Rattle.entries.specs.Entries.{plan}
-use Rattle.agreement.specs.Translate.{says, odd, orNone, translate}
+use Rattle.translation.specs.Translate.{says, odd, orNone, translate}
 use Rattle.agreement.specs.Agreement.{AllBytes, EveryDisabled, Lent, weights, Accepted, TwoPasses, laidBy, Agree, InReach}
 use Rattle.agreement.proofs.Basics.{either, first-none, none-at, never-none, inside, behind}
 use Rattle.agreement.proofs.Straight.{lay, Lays, goOn, goOn-total, lay-behind}

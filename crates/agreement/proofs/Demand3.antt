@@ -22,12 +22,12 @@ use Rattle.pdi.specs.declared.PdiOffset.{PdiOffset}
 use Rattle.pdo.specs.Direction.{other}
 use Rattle.pdo.specs.Bits.{someOf, piecesOf}
 use Rattle.entries.specs.Use.{Use, own, totalOn, sizeOf}
-use Rattle.area.specs.Area.{entriesOf}
+use Rattle.area.specs.Area.{entriesOf, notEntries, notChannels}
 use Rattle.entries.specs.Entries.{plan, lengthNow, Planned, tooLong}
-use Rattle.subdevice.specs.Mailbox.{notChannels}
-use Rattle.subdevice.specs.Pass.{entriesAfter, Configures, notEntries, someTooMany, noEntry, passRefusals, plannedOf, dataPass}
-use Rattle.agreement.specs.Translate.{says, odd, firstSaid, orNone, translate}
-use Rattle.agreement.specs.Count.{spotIn, deviceAlone, countRefusals, count}
+use Rattle.wanted.specs.Wanted.{someTooMany, noEntry}
+use Rattle.subdevice.specs.Pass.{entriesAfter, Configures, passRefusals, plannedOf, dataPass}
+use Rattle.translation.specs.Translate.{says, odd, firstSaid, orNone, translate}
+use Rattle.counting.specs.Count.{spotIn, deviceAlone, countRefusals, count}
 use Rattle.agreement.specs.Agreement.{AllBytes, EveryDisabled, Lent, weights, Accepted, TwoPasses, laidBy, counted, Demand3, Demand3InReach}
 use Rattle.agreement.proofs.Basics.{accepted-clear, clear-accepted, or-false, none-below, each-map, each-of, either}
 use Rattle.agreement.proofs.Straight.{lay, Lays, apart-flip}

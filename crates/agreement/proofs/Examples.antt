@@ -25,9 +25,10 @@ use Rattle.pdo.specs.Bits.{multiplierOf, byCoe, bitsOf, piecesFrom, piecesOf}
 use Rattle.entries.specs.Use.{own, given, firstWith, usesOf, total, totalOn, sizeOf}
 use Rattle.area.specs.Area.{chunks, entriesOf, flat}
 use Rattle.entries.specs.Entries.{mapped, plan, Planned, tooLong}
-use Rattle.subdevice.specs.Pass.{someTooMany, noEntry, dataPass}
-use Rattle.agreement.specs.Translate.{carries, odd, says, firstSaid, translate}
-use Rattle.agreement.specs.Count.{spotIn, count}
+use Rattle.wanted.specs.Wanted.{someTooMany, noEntry}
+use Rattle.subdevice.specs.Pass.{dataPass}
+use Rattle.translation.specs.Translate.{carries, odd, says, firstSaid, translate}
+use Rattle.counting.specs.Count.{spotIn, count}
 use Rattle.agreement.specs.Agreement.{EveryDisabled, Lent, weights, Accepted, TwoPasses, sharing, EndToEnd, laidBy, counted, Agree}
 use Rattle.agreement.specs.Bench.{zeros, sampleSheet}
 use Rattle.agreement.proofs.Basics.{either}

@@ -18,7 +18,7 @@ use Rattle.pdo.specs.Direction.{other}
 use Rattle.pdo.specs.Bits.{someOf}
 use Rattle.entries.specs.Use.{Use, total, totalOn}
 use Rattle.entries.specs.Entries.{laid, plan, lengthNow}
-use Rattle.agreement.specs.Translate.{named, carries, says, odd, firstSaid, orNone}
+use Rattle.translation.specs.Translate.{named, carries, says, odd, firstSaid, orNone}
 use Rattle.agreement.specs.Agreement.{EndToEnd}
 use Rattle.agreement.proofs.Basics.{either, same-or-not, each-map, each-both, each-of, first-none, first-new, none-at, some-map, inside, behind}
 use Rattle.agreement.proofs.Straight.{lay, Fresh, Next, Grouped, linked, Apart, Lays, fresh-16, reach, goOn, lay-before, straight-same, same-straight, straight-iff}

@@ -18,7 +18,7 @@ use Rattle.pdo.specs.declared.PdoDirection.the-variants.{MasterRead, MasterWrit
 use Rattle.pdo.specs.Direction.{other}
 use Rattle.entries.specs.Use.{Use}
 use Rattle.entries.specs.Entries.{mapped, laid, lengthNow}
-use Rattle.agreement.specs.Translate.{within, named, carries, says, odd}
+use Rattle.translation.specs.Translate.{within, named, carries, says, odd}
 use Rattle.agreement.proofs.Basics.{either, inside, before, behind}
 
 abbrev pub Off : List ℕ → Type 0

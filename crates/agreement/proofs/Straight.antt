@@ -12,7 +12,7 @@ use lib.Dec.{eqb, ltb, leb}
 use borrow.Author.Tests.{ltb-true, ltb-false, lt-ltb, le-leb, eq-eqb, ne-eqb}
 use Rattle.sheet.specs.Sound.{Each}
 use Rattle.entries.specs.Use.{Use, total, totalOn}
-use Rattle.agreement.specs.Translate.{within, named, orNone}
+use Rattle.translation.specs.Translate.{within, named, orNone}
 use Rattle.agreement.specs.Agreement.{sharing, Chained, EndToEnd}
 use Rattle.agreement.proofs.Basics.{inside, before, behind, where-is, cond-same, either, same-or-not, each-map}
 

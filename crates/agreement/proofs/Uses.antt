@@ -20,9 +20,9 @@ use Rattle.pdo.specs.declared.PdoDirection.the-variants.{MasterRead, MasterWrit
 use Rattle.pdo.specs.Direction.{usageOf, fmmuUsageOf, other}
 use Rattle.pdo.specs.Bits.{someOf, Piece, byCoe, pathKind, bitsOf, piecesFrom, piecesOf}
 use Rattle.entries.specs.Use.{Use, useOf, own, given, firstWith, coeEntry, usesOf, total, sizeOf}
-use Rattle.subdevice.specs.Pass.{noEntry}
-use Rattle.agreement.specs.Translate.{within, named, orNone}
-use Rattle.agreement.specs.Count.{spotOf, spotIn, deviceIn}
+use Rattle.wanted.specs.Wanted.{noEntry}
+use Rattle.translation.specs.Translate.{within, named, orNone}
+use Rattle.counting.specs.Count.{spotOf, spotIn, deviceIn}
 use Rattle.agreement.proofs.Basics.{either, same-or-not, each-map, each-of, none-of, where-is, before, behind}
 use Rattle.agreement.proofs.Straight.{lay, Fresh, Grouped, Apart, apart-flip}
 

@@ -19,8 +19,8 @@ use Rattle.entries.specs.Use.{Use, own, usesOf}
 use Rattle.area.specs.Area.{entriesOf}
 use Rattle.subdevice.specs.Pass.{dataPass, entriesAfter}
 use Rattle.entries.specs.Entries.{Planned}
-use Rattle.agreement.specs.Translate.{translate}
-use Rattle.agreement.specs.Count.{countedAddress}
+use Rattle.translation.specs.Translate.{translate}
+use Rattle.counting.specs.Count.{countedAddress}
 
 -- every FMMU entry disabled: all sixteen
 abbrev pub EveryDisabled : List ℕ → Type 0

@@ -8,8 +8,8 @@ use Rattle.wire.specs.Outcome.{Outcome, refused, accepted}
 use Rattle.wire.specs.Number.{littleOf}
 use Rattle.pdo.specs.declared.PdoDirection.the-variants.{MasterRead, MasterWrite}
 use Rattle.area.specs.Area.{flat}
-use Rattle.agreement.specs.Translate.{translate}
-use Rattle.agreement.specs.Count.{Spot, count}
+use Rattle.translation.specs.Translate.{translate}
+use Rattle.counting.specs.Count.{Spot, count}
 use Rattle.agreement.specs.Bench.{Row, row, ones, sampleSheet, noBitsSheet}
 
 -- a device address as a list: nothing where it is none

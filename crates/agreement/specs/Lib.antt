@@ -1,6 +1,4 @@
--- Translation through the FMMU bytes, counting through the sync managers, and when they agree (demand 3). Read `Agreement` first.
-pub mod Translate
-pub mod Count
+-- When translating through the FMMU bytes and counting through the sync managers agree (demand 3). Read `Agreement` first.
 pub mod Agreement
 pub mod Bench
 pub mod Cases

@@ -1,8 +1,10 @@
 -- A register area: sixteen entries of n bytes, one after the other.
 -- Assumes nothing.
+use mathlib.Core.Bool.{Bool, not}
 use mathlib.Core.List.{List, [], _∷_, _++_}
 use Prim.Native.Nat.{ℕ, zero, suc}
-use lib.ListN.{take, drop, replicate}
+use lib.ListN.{length, take, drop, replicate}
+use lib.Dec.{eqb}
 
 -- m entries of n bytes from the front
 unfoldable pub chunks : ℕ → ℕ → List ℕ → List (List ℕ)
@@ -20,3 +22,10 @@ entriesOf n area = chunks n 16 area
 unfoldable pub flat : List (List ℕ) → List ℕ
 flat [] = []
 flat (e ∷ es) = e ++ flat es
+
+-- 1: an FMMU area isn't 256 bytes, a sync manager area isn't 128
+abbrev pub notEntries : List ℕ → Bool
+notEntries area = not (eqb (length area) 256)
+
+abbrev pub notChannels : List ℕ → Bool
+notChannels area = not (eqb (length area) 128)

@@ -35,7 +35,7 @@ pub struct Device {
     pub usages: [u8; 16],
     pub f: usize,
     pub pdos: usize,
-    pub p: usize,
+    pub p: u8,
 }
 
 // Whether a call is accepted.
@@ -293,7 +293,7 @@ fn device_of(sheet: &[u8]) -> SheetRead
             usages: usages_of(sheet, usages, f),
             f,
             pdos: usages + f,
-            p: wide(sheet[10]),
+            p: sheet[10],
         },
     }
 }

@@ -1,5 +1,5 @@
 -- Laws that belong to no one function.
-pub mod Turns
+pub mod Recorded
 pub mod Planning
 pub mod Passing
 pub mod Mailboxes

@@ -26,7 +26,8 @@ use Rattle.subdevice.specs.declared.MailboxConfig.{MailboxConfig}
 use Rattle.subdevice.specs.declared.MailboxRead.the-variants.{Config, Refused}
 use Rattle.subdevice.specs.declared.Slot.the-variants.{None}
 use Rattle.subdevice.specs.Mailbox.{mailboxSize, lastOf, configOf, noMailboxes, mailboxPass, mailboxChannels, mailboxArea, ConfiguresMailboxes}
-use Rattle.subdevice.specs.Wishes.{wish, mailboxWish, mailboxWishes}
+use Rattle.wanted.specs.Wishes.{wish}
+use Rattle.subdevice.specs.MailboxWishes.{mailboxWish, mailboxWishes}
 
 -- a wish says the size
 wish-size : (d : Data) (k : ℕ) (m : SyncManager) → wishOf (mailboxWish (m .«usage_type») (d .receive) (d .send)) ≡ mailboxSize d k m

@@ -9,8 +9,7 @@ use borrow.Author.Tests.{eq-eqb, ne-eqb}
 use Rattle.wire.specs.Outcome.{Outcome, refused, accepted, first}
 use Rattle.wire.proofs.Order.{passed, passed-answer, stopped}
 use Rattle.sheet.specs.Device.{Data}
-use Rattle.sheet.specs.Sheet.{sheetRefusals, sheetData, readSheet, pdoCount, deviceOf, deviceAfter, ReadsAs}
-use Rattle.sheet.specs.declared.SheetRead.{SheetRead}
+use Rattle.sheet.specs.Sheet.{sheetRefusals, sheetData, readSheet}
 use Rattle.pdo.specs.declared.PdoDirection.{PdoDirection}
 use Rattle.entries.specs.declared.Configured.{Configured}
 use Rattle.entries.specs.declared.Configured.the-variants.{Refused}
@@ -26,11 +25,6 @@ channels-wrong fmmus channels e h = rw (eq-eqb (length fmmus) 256 e, ne-eqb (len
 
 pub areas-right : (fmmus channels : List ℕ) → length fmmus ≡ 256 → length channels ≡ 128 → notAreas fmmus channels ≡ false
 areas-right fmmus channels e h = rw (eq-eqb (length fmmus) 256 e, eq-eqb (length channels) 128 h)
-
--- the PDOs of a sheet that is read are as many as its byte 10 says
-pub pdos-counted : (s : List ℕ) (x : SheetRead) (b : Data) → ReadsAs s x → accepted b ≡ readSheet s → x .device .p ≡ pdoCount s
-unfolding deviceOf
-pdos-counted s x b h e = ap (λ d. d .p) (h .holds ∙ ap (λ (o : Outcome Data). deviceAfter o s) (sym e))
 
 module _ (sheet ws : List ℕ) (r : PdoDirection) (offset group : ℕ) (fmmus channels : List ℕ) where
   -- a refusal writes nothing

@@ -1,65 +1,40 @@
--- Planning as code goes: what it has worked out by the time it decides, and what follows for the pass.
+-- Planning as code goes: from what the pass wants to its promise.
 -- Assumes nothing.
 use mathlib.Core.Path.{_≡_, refl, sym, _∙_, ap}
-use mathlib.Core.Bool.{Bool, true, false, cond, _&&_}
-use mathlib.Core.List.{List, [], _∷_}
+use mathlib.Core.Bool.{Bool, true, false, cond}
+use mathlib.Core.List.{List, _∷_}
 use mathlib.Core.Option.{none, some}
-use Prim.Native.Nat.{ℕ, suc, _+_, _-_, _<_, _≤_}
-use native.Mathlib.Omega.{arith}
-use lib.ListN.{length, getD, replicate}
-use lib.Dec.{eqb, ltb}
+use Prim.Native.Nat.{ℕ, _<_}
+use lib.ListN.{length, getD}
+use lib.Dec.{eqb}
 use Rattle.wire.specs.Outcome.{Outcome, refused, accepted, when, decide}
 use Rattle.wire.proofs.Copied.{over-same}
-use Rattle.pdi.specs.Unit.{bytesOf, tooManyBits}
-use Rattle.pdi.specs.declared.BitLen.{BitLen}
+use Rattle.wire.proofs.Order.{stopped}
+use Rattle.pdi.specs.Unit.{bytesOf}
 use Rattle.pdi.specs.declared.PdiOffset.{PdiOffset}
 use Rattle.pdi.specs.declared.PdiSegment.{PdiSegment}
 use Rattle.sheet.specs.Device.{Data}
 use Rattle.sheet.specs.Sheet.{noManager}
-use Rattle.sheet.specs.declared.SyncManager.{SyncManager}
-use Rattle.sheet.proofs.Lists.{at-number}
+use Rattle.sheet.specs.declared.Answer.the-variants as answer
 use Rattle.area.specs.Area.{padded, entriesOf, flat}
 use Rattle.area.proofs.Flat.{length-chunks, rows-chunks, flat-bytes, padded-same}
 use Rattle.channels.specs.declared.Wish.{Wish}
 use Rattle.channels.specs.Channels.{noWish, wishOf, wished, channelsAfter, channelArea}
 use Rattle.channels.proofs.After.{channel-area-whole, channels-same}
 use Rattle.pdo.specs.declared.PdoDirection.{PdoDirection}
-use Rattle.pdo.specs.declared.Terms.{Terms}
-use Rattle.pdo.specs.Direction.{usageOf, termsOf}
-use Rattle.pdo.specs.Bits.{byCoe, pathKind, bitsOf, sumsOf, piecesFrom, piecesOf}
-use Rattle.pdo.proofs.Bits.{tally-at}
-use Rattle.entries.specs.declared.Route.{Route}
+use Rattle.pdo.specs.Direction.{usageOf}
+use Rattle.pdo.specs.Bits.{byCoe, pathKind, bitsOf, piecesOf}
 use Rattle.entries.specs.declared.Configured.{Configured}
 use Rattle.entries.specs.declared.Configured.the-variants.{Mapped, Refused}
-use Rattle.entries.specs.Use.{own, given, firstWith, coeEntry, total, usesOf, usesFrom, sizeOf}
+use Rattle.entries.specs.declared.Route.{Route}
+use Rattle.entries.specs.Use.{coeEntry, total, usesOf, usesFrom, sizeOf}
 use Rattle.entries.specs.Entries.{plan, Planned, planned, configuredOf, entryRefusals, entriesOutcome, entryArea, WritesEntries}
-use Rattle.entries.proofs.Pieces.{wishFor, byRoute, uses-are, route-total}
+use Rattle.entries.proofs.Pieces.{byRoute, uses-are, route-total}
 use Rattle.entries.proofs.Kept.{plan-length, rows-plan}
-use Rattle.subdevice.specs.Wishes.{bitsIn, dataWish, someTooWide, filled, wishesAfter}
-use Rattle.subdevice.specs.Pass.{someTooMany, noEntry, planOutcome, dataSize, entriesAfter, channelAreaAfter, Plans}
-use Rattle.subdevice.proofs.Turns.{ask, was-refused}
-
--- what code has worked out: the path, the direction's terms, the exact bits of sixteen
-pub record Known (d : Data) (ws : List ℕ) (r : PdoDirection) (path : Bool) (terms : Terms) (sums : List BitLen) : Type 0 where
-  pub pathIs : path ≡ byCoe d
-  pub termsAre : terms ≡ termsOf r
-  pub sumsAre : sums ≡ sumsOf (cond path 0 (terms .kind)) (d .pdos) ws
-  pub few : length (d .managers) ≤ 16
-
--- bits that agree give the same pieces
-pieces-same :
-    (usage : ℕ) (f g : ℕ → ℕ) (k : ℕ) (ms : List SyncManager) → ((j : ℕ) → j < k + length ms → f j ≡ g j) → piecesFrom usage f k ms ≡ piecesFrom usage g k ms
-unfolding piecesFrom
-pieces-same usage f g k [] h = refl
-pieces-same usage f g k (m ∷ ms) h =
-    let here = h k (omega arith) in
-    let rest = pieces-same usage f g (suc k) ms (λ j l. h j (omega arith)) in
-    λ i. cond (eqb (m .«usage_type») usage) (record { number = k; bits = here i; address = m .«start_addr» } ∷ rest i) (rest i)
-
-pub filled-at : (f : SyncManager → ℕ → Wish) (ms : List SyncManager) (j : ℕ) → j < length ms → getD (filled f ms) j noWish ≡ f (getD ms j noManager) j
-filled-at f ms j h =
-    let at : ℕ → Wish = λ k. f (getD ms k noManager) k in
-    at-number at (length ms) j (replicate (16 - length ms) noWish) noWish h
+use Rattle.wanted.specs.declared.Wanted.{Wanted}
+use Rattle.wanted.specs.Wanted.{someTooMany, noEntry, wantedRefusals, wishesOf, wantedFrom, Wants}
+use Rattle.wanted.proofs.Wanting.{wish-at, wanted-refused, wanted-accepted}
+use Rattle.subdevice.specs.Pass.{planOutcome, plannedOf, dataSize, entriesAfter, channelAreaAfter, Plans}
 
 -- a wish as a size
 wish-size : (b : Bool) (size : ℕ) → wishOf (cond b (record { on = true; size = record { 0 = size } }) noWish) ≡ cond b (some size) none
@@ -78,133 +53,87 @@ entries-whole (accepted p) d ws r offset area h =
     over-same (flat (plan r offset us es)) area (flat-bytes 16 16 (plan r offset us es) (many, rows) ∙ sym h)
     ∙ ap (λ (l : List ℕ). flat (plan r offset us (entriesOf 16 l))) whole
 
--- a refusal writes nothing
-refuses :
-    (d : Data) (ws : List ℕ) (r : PdoDirection) (offset group : ℕ) (fmmus channels : List ℕ) (n : ℕ) → refused n ≡ planOutcome d ws r offset group fmmus
-    → Plans d ws r offset group fmmus channels (Refused n) fmmus channels
-refuses d ws r offset group fmmus channels n e =
-    record {
-      says = e;
-      entries = ap (λ (o : Outcome Planned). entriesAfter o d ws r offset fmmus) e;
-      images = ap (λ (o : Outcome Planned). channelAreaAfter o d ws r channels) e;
-    }
+module _ (d : Data) (ws : List ℕ) (r : PdoDirection) where
+  -- what the wishes say is what the pass writes, and uses
+  size-at : (j : ℕ) → j < length (d .managers) → wished (wishesOf d ws r) j (getD (d .managers) j noManager) ≡ dataSize d ws r j (getD (d .managers) j noManager)
+  size-at j h =
+      ap wishOf (wish-at d ws r j h)
+      ∙ wish-size (eqb (getD (d .managers) j noManager .«usage_type») (usageOf r)) (bytesOf (bitsOf (pathKind d r) j (d .pdos) ws))
 
-module _ {d : Data} {ws : List ℕ} {r : PdoDirection} {path : Bool} {terms : Terms} {sums : List BitLen} (k : Known d ws r path terms sums) where
-  bits-are : (j : ℕ) → j < 16 → bitsIn sums j ≡ bitsOf (pathKind d r) j (d .pdos) ws
-  bits-are j h =
-      let e : sums ≡ sumsOf (pathKind d r) (d .pdos) ws = k .sumsAre ∙ (λ i. sumsOf (cond (k .pathIs i) 0 (k .termsAre i .kind)) (d .pdos) ws) in
-      ap (λ (s : List BitLen). bitsIn s j) e ∙ tally-at (pathKind d r) j (d .pdos) ws h
+  images-are : (area : List ℕ) → length area ≡ 128 → channelArea (d .managers) (wishesOf d ws r) area ≡ flat (channelsAfter (dataSize d ws r) 0 (d .managers) (entriesOf 8 area))
+  images-are area h =
+      channel-area-whole (d .managers) (wishesOf d ws r) area h
+      ∙ ap flat (channels-same noManager (wished (wishesOf d ws r)) (dataSize d ws r) (d .managers) (entriesOf 8 area) size-at)
 
-  pub pieces-are : piecesFrom (terms .usage) (bitsIn sums) 0 (d .managers) ≡ piecesOf d ws r
-  unfolding piecesOf
-  pieces-are =
-      let few = k .few in
-      (λ i. piecesFrom (k .termsAre i .usage) (bitsIn sums) 0 (d .managers))
-      ∙ pieces-same (usageOf r) (bitsIn sums) (λ j. bitsOf (pathKind d r) j (d .pdos) ws) 0 (d .managers) (λ j l. bits-are j (omega arith))
+  abbrev route : Route
+  route = record { «coe» = byCoe d; entry = coeEntry d r }
 
-  pub too-wide-is : someTooWide (terms .usage) sums (d .managers) ≡ someTooMany d ws r
-  unfolding someTooMany
-  too-wide-is = ap (ask tooManyBits) pieces-are
+  uses : usesFrom route (wishesOf d ws r) 0 (d .managers) ≡ usesOf d ws r
+  unfolding usesOf piecesOf
+  uses = uses-are route (usageOf r) (λ k. bitsOf (pathKind d r) k (d .pdos) ws) (wishesOf d ws r) noManager (d .managers) (wish-at d ws r)
 
-  pub no-entry-is :
-      (entry m : ℕ) (b : Bool) → entry ≡ firstWith (terms .«fmmu_usage») (d .usages) → length (d .usages) ≡ m
-      → b ≡ path && (ask (ltb 0) (piecesFrom (terms .usage) (bitsIn sums) 0 (d .managers)) && eqb entry m) → b ≡ noEntry d ws r
-  unfolding noEntry
-  no-entry-is entry m b e l h =
-      let at : entry ≡ coeEntry d r = e ∙ (λ i. firstWith (k .termsAre i .«fmmu_usage») (d .usages)) in
-      h ∙ (λ i. k .pathIs i && (ask (ltb 0) (pieces-are i) && eqb (at i) (sym l i)))
+  size : total (usesFrom route (wishesOf d ws r) 0 (d .managers)) ≡ sizeOf d ws r
+  unfolding sizeOf usesOf
+  size = ap total uses ∙ route-total route (piecesOf d ws r)
 
-  pub six-plans :
-      (offset group : ℕ) (fmmus channels : List ℕ) (n : ℕ) → refused n ≡ decide {A = Unit {0}} (when 6 (someTooWide (terms .usage) sums (d .managers)) ∷ []) tt
-      → Plans d ws r offset group fmmus channels (Refused n) fmmus channels
-  unfolding planOutcome
-  six-plans offset group fmmus channels n e =
-      let w = was-refused {A = Unit {0}} 6 n (someTooWide (terms .usage) sums (d .managers)) tt e in
-      let t : someTooMany d ws r ≡ true = sym too-wide-is ∙ w .0 in
-      refuses d ws r offset group fmmus channels n (rw t (ap refused (w .1)))
+  module _ (offset group : ℕ) (fmmus channels : List ℕ) where
+    abbrev outcome : Outcome Planned
+    outcome = planOutcome d ws r offset group fmmus
 
-  pub seven-plans :
-      (offset group : ℕ) (fmmus channels : List ℕ) → someTooWide (terms .usage) sums (d .managers) ≡ false → noEntry d ws r ≡ true
-      → Plans d ws r offset group fmmus channels (Refused 7) fmmus channels
-  unfolding planOutcome
-  seven-plans offset group fmmus channels e t =
-      let f : someTooMany d ws r ≡ false = sym too-wide-is ∙ e in
-      refuses d ws r offset group fmmus channels 7 (rw (f, t))
+    refuses : (n : ℕ) → refused n ≡ outcome → Plans d ws r offset group fmmus channels (Refused n) fmmus channels
+    refuses n e =
+        record {
+          says = e;
+          entries = ap (λ (o : Outcome Planned). entriesAfter o d ws r offset fmmus) e;
+          images = ap (λ (o : Outcome Planned). channelAreaAfter o d ws r channels) e;
+        }
 
-  -- 6 and 7 don't hold: then the wishes are those of the sync managers
-  module _ (six : someTooWide (terms .usage) sums (d .managers) ≡ false) (list : List Wish) (is : list ≡ wishesAfter (terms .usage) sums (d .managers)) where
-    wish-at : (j : ℕ) → j < length (d .managers) → getD list j noWish ≡ wishFor (terms .usage) (getD (d .managers) j noManager) (bitsIn sums j)
-    unfolding wishesAfter
-    wish-at j h =
-        let f : SyncManager → ℕ → Wish = λ m n. dataWish (m .«usage_type») (terms .usage) (bitsIn sums n) in
-        let e : list ≡ filled f (d .managers) = is ∙ (λ i. cond (six i) (replicate 16 noWish) (filled f (d .managers))) in
-        ap (λ (l : List Wish). getD l j noWish) e ∙ filled-at f (d .managers) j h
-
-    size-at : (j : ℕ) → j < length (d .managers) → wished list j (getD (d .managers) j noManager) ≡ dataSize d ws r j (getD (d .managers) j noManager)
-    size-at j h =
-        let m = getD (d .managers) j noManager in
-        let few = k .few in
-        ap wishOf (wish-at j h) ∙ wish-size (eqb (m .«usage_type») (terms .usage)) (bytesOf (bitsIn sums j))
-        ∙ (λ i. cond (eqb (m .«usage_type») (k .termsAre i .usage)) (some (bytesOf (bits-are j (omega arith) i))) none)
-
-    -- what the channels then hold
-    pub images-are : (area : List ℕ) → length area ≡ 128 → channelArea (d .managers) list area ≡ flat (channelsAfter (dataSize d ws r) 0 (d .managers) (entriesOf 8 area))
-    images-are area h =
-        channel-area-whole (d .managers) list area h
-        ∙ ap flat (channels-same noManager (wished list) (dataSize d ws r) (d .managers) (entriesOf 8 area) size-at)
-
-    module _ (entry : ℕ) (at : entry ≡ firstWith (terms .«fmmu_usage») (d .usages)) where
-      abbrev route : Route
-      route = record { «coe» = path; entry = entry }
-
-      from-pieces : usesFrom route list 0 (d .managers) ≡ byRoute route (piecesFrom (terms .usage) (bitsIn sums) 0 (d .managers))
-      from-pieces = uses-are route (terms .usage) (bitsIn sums) list noManager (d .managers) wish-at
-
-      uses : usesFrom route list 0 (d .managers) ≡ usesOf d ws r
-      unfolding usesOf
-      uses =
-          let e : entry ≡ coeEntry d r = at ∙ (λ i. firstWith (k .termsAre i .«fmmu_usage») (d .usages)) in
-          from-pieces ∙ (λ i. cond (k .pathIs i) (given (λ number. e i) (pieces-are i)) (own (pieces-are i)))
-
-      size : total (usesFrom route list 0 (d .managers)) ≡ sizeOf d ws r
-      unfolding sizeOf
-      size = ap total from-pieces ∙ route-total route (piecesFrom (terms .usage) (bitsIn sums) 0 (d .managers)) ∙ (λ i. total (own (pieces-are i)))
-
-      outcome :
-          (offset group : ℕ) (area : List ℕ) → length area ≡ 256 → noEntry d ws r ≡ false
-          → entriesOutcome (usesFrom route list 0 (d .managers)) offset group (entriesOf 16 (padded 256 area)) ≡ planOutcome d ws r offset group area
+    module _ (x : Wanted) (h : Wants d ws r x) where
+      -- 6 or 7
+      pub unwanted-plans : (n : ℕ) → x .answer ≡ answer.Refused n → Plans d ws r offset group fmmus channels (Refused n) fmmus channels
       unfolding planOutcome
-      outcome offset group area h seven =
-          let none : false ≡ someTooMany d ws r = sym six ∙ too-wide-is in
-          (λ i. decide (entryRefusals (uses i) (size i) offset group (entriesOf 16 (padded-same 256 area h i))) (planned offset group (size i)))
-          ∙ (λ i. decide (when 6 (none i) ∷ when 7 (sym seven i) ∷ entryRefusals (usesOf d ws r) (sizeOf d ws r) offset group (entriesOf 16 area)) (planned offset group (sizeOf d ws r)))
+      unwanted-plans n e =
+          refuses n
+          (stopped {A = Unit {0}} (wantedRefusals d ws r) tt n (decide (entryRefusals (usesOf d ws r) (sizeOf d ws r) offset group (entriesOf 16 fmmus)) (plannedOf d ws r offset group))
+          (wanted-refused d ws r x h n e))
 
-      entries-say :
-          (offset group : ℕ) (area : List ℕ) (answer : Configured) (after : List ℕ) → length area ≡ 256 → noEntry d ws r ≡ false
-          → WritesEntries (usesFrom route list 0 (d .managers)) r offset group area answer after
-          → (configuredOf answer ≡ planOutcome d ws r offset group area) × (after ≡ entriesAfter (planOutcome d ws r offset group area) d ws r offset area)
-      entries-say offset group area answer after h seven w =
-          let o = outcome offset group area h seven in (
-            w .says ∙ o,
-            w .holds ∙ (λ i. entryArea (o i) r offset (uses i) area) ∙ entries-whole (planOutcome d ws r offset group area) d ws r offset area h,
-          )
+      -- neither: then the entries decide
+      module _ (e : x .answer ≡ answer.Accepted) (long : length fmmus ≡ 256) (fmmusThen : List ℕ) (said : Configured)
+          (w : WritesEntries (usesFrom (x .route) (x .wishes) 0 (d .managers)) r offset group fmmus said fmmusThen) where
+        all : x ≡ wantedFrom d ws r
+        all = wanted-accepted d ws r x h e .2
 
-      pub mapped-plans :
-          (offset group : ℕ) (fmmus channels : List ℕ) (answer : Configured) (s : PdiSegment) (o : PdiOffset) (fmmusThen channelsThen : List ℕ)
-          → length fmmus ≡ 256 → length channels ≡ 128 → noEntry d ws r ≡ false → answer ≡ Mapped s o
-          → WritesEntries (usesFrom route list 0 (d .managers)) r offset group fmmus answer fmmusThen → channelsThen ≡ channelArea (d .managers) list channels
-          → Plans d ws r offset group fmmus channels (Mapped s o) fmmusThen channelsThen
-      mapped-plans offset group fmmus channels answer s o fmmusThen channelsThen h l seven e w c =
-          let p = entries-say offset group fmmus answer fmmusThen h seven w in
-          let says = sym (ap configuredOf e) ∙ p .0 in
-          record { says = says; entries = p .1; images = c ∙ images-are channels l ∙ ap (λ (x : Outcome Planned). channelAreaAfter x d ws r channels) says }
+        uses-then : usesFrom (x .route) (x .wishes) 0 (d .managers) ≡ usesOf d ws r
+        uses-then = ap (λ (y : Wanted). usesFrom (y .route) (y .wishes) 0 (d .managers)) all ∙ uses
 
-      pub refused-plans :
-          (offset group : ℕ) (fmmus channels : List ℕ) (answer : Configured) (n : ℕ) (fmmusThen : List ℕ)
-          → length fmmus ≡ 256 → noEntry d ws r ≡ false → answer ≡ Refused n
-          → WritesEntries (usesFrom route list 0 (d .managers)) r offset group fmmus answer fmmusThen
-          → Plans d ws r offset group fmmus channels (Refused n) fmmusThen channels
-      refused-plans offset group fmmus channels answer n fmmusThen h seven e w =
-          let p = entries-say offset group fmmus answer fmmusThen h seven w in
-          let says = sym (ap configuredOf e) ∙ p .0 in
-          record { says = says; entries = p .1; images = ap (λ (x : Outcome Planned). channelAreaAfter x d ws r channels) says }
+        size-then : total (usesFrom (x .route) (x .wishes) 0 (d .managers)) ≡ sizeOf d ws r
+        size-then = ap (λ (y : Wanted). total (usesFrom (y .route) (y .wishes) 0 (d .managers))) all ∙ size
+
+        decided : entriesOutcome (usesFrom (x .route) (x .wishes) 0 (d .managers)) offset group (entriesOf 16 (padded 256 fmmus)) ≡ outcome
+        unfolding planOutcome
+        decided =
+            let six = wanted-accepted d ws r x h e .0 in
+            let seven = wanted-accepted d ws r x h e .1 in
+            (λ i. decide (entryRefusals (uses-then i) (size-then i) offset group (entriesOf 16 (padded-same 256 fmmus long i))) (planned offset group (size-then i)))
+            ∙ (λ i. decide (when 6 (sym six i) ∷ when 7 (sym seven i) ∷ entryRefusals (usesOf d ws r) (sizeOf d ws r) offset group (entriesOf 16 fmmus)) (planned offset group (sizeOf d ws r)))
+
+        entries-then : fmmusThen ≡ entriesAfter outcome d ws r offset fmmus
+        entries-then = w .holds ∙ (λ i. entryArea (decided i) r offset (uses-then i) fmmus) ∙ entries-whole outcome d ws r offset fmmus long
+
+        pub mapped-plans :
+            (s : PdiSegment) (o : PdiOffset) (channelsThen : List ℕ) → length channels ≡ 128 → said ≡ Mapped s o → channelsThen ≡ channelArea (d .managers) (x .wishes) channels
+            → Plans d ws r offset group fmmus channels (Mapped s o) fmmusThen channelsThen
+        mapped-plans s o channelsThen l is c =
+            let says = sym (ap configuredOf is) ∙ w .says ∙ decided in
+            record {
+              says = says;
+              entries = entries-then;
+              images =
+                  c ∙ ap (λ (y : Wanted). channelArea (d .managers) (y .wishes) channels) all ∙ images-are channels l
+                  ∙ ap (λ (y : Outcome Planned). channelAreaAfter y d ws r channels) says;
+            }
+
+        pub refused-plans : (n : ℕ) → said ≡ Refused n → Plans d ws r offset group fmmus channels (Refused n) fmmusThen channels
+        refused-plans n is =
+            let says = sym (ap configuredOf is) ∙ w .says ∙ decided in
+            record { says = says; entries = entries-then; images = ap (λ (y : Outcome Planned). channelAreaAfter y d ws r channels) says }

@@ -17,7 +17,7 @@ use Rattle.subdevice.specs.declared.MailboxConfig.{MailboxConfig}
 use Rattle.subdevice.specs.declared.MailboxRead.{MailboxRead}
 use Rattle.subdevice.specs.declared.MailboxRead.the-variants.{Config, Refused}
 use Rattle.pdo.specs.Bits.{byCoe}
-use Rattle.area.specs.Area.{entriesOf, flat}
+use Rattle.area.specs.Area.{entriesOf, flat, notChannels}
 use Rattle.channels.specs.Channels.{channelsAfter}
 
 -- each usage 1 is written with the receive size and each usage 2 with the send size
@@ -48,10 +48,6 @@ configOf d =
       «complete_access» = d .complete;
     })
     noMailboxes
-
--- 1: the sync manager area isn't 128 bytes
-abbrev pub notChannels : List ℕ → Bool
-notChannels area = not (eqb (length area) 128)
 
 -- the refusals in their order, and the answer
 abbrev pub mailboxRefusals : List ℕ → List ℕ → List Refusal

@@ -16,26 +16,15 @@ use Rattle.pdo.specs.declared.PdoDirection.{PdoDirection}
 use Rattle.pdo.specs.Direction.{usageOf}
 use Rattle.pdo.specs.Bits.{someOf, Piece, byCoe, pathKind, bitsOf, piecesOf}
 use Rattle.entries.specs.Use.{coeEntry, usesOf, sizeOf}
-use Rattle.area.specs.Area.{entriesOf, flat}
+use Rattle.area.specs.Area.{entriesOf, flat, notEntries, notChannels}
 use Rattle.channels.specs.Channels.{channelsAfter}
 use Rattle.entries.specs.Entries.{plan, Planned, planned, configuredOf, entryRefusals}
 use Rattle.entries.specs.declared.Configured.{Configured}
-use Rattle.subdevice.specs.Mailbox.{notChannels}
+use Rattle.wanted.specs.Wanted.{someTooMany, noEntry}
 
 -- 1: an area isn't 256 (FMMU) or 128 (sync manager) bytes
-abbrev pub notEntries : List ℕ → Bool
-notEntries area = not (eqb (length area) 256)
-
 abbrev pub notAreas : List ℕ → List ℕ → Bool
 notAreas fmmus channels = notEntries fmmus || notChannels channels
-
--- 6: a wanted sync manager's exact bits exceed 65,528
-unfoldable pub someTooMany : Data → List ℕ → PdoDirection → Bool
-someTooMany d ws r = someOf (λ (p : Piece). tooManyBits (p .bits)) (piecesOf d ws r)
-
--- 7: CoE, a wanted sync manager has bits, no entry has the usage
-unfoldable pub noEntry : Data → List ℕ → PdoDirection → Bool
-noEntry d ws r = byCoe d && (someOf (λ (p : Piece). ltb 0 (p .bits)) (piecesOf d ws r) && eqb (coeEntry d r) (length (d .usages)))
 
 -- the refusals that come after the sheet's, in their order: 6, 7, and the entries' 8, 9 and 10
 abbrev pub planRefusals : Data → List ℕ → PdoDirection → ℕ → ℕ → List (List ℕ) → List Refusal

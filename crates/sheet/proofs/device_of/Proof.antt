@@ -4,6 +4,7 @@ use mathlib.Core.Path.{sym, _∙_, ap, ap₂}
 use Prim.Native.Nat.{ℕ, _+_, _*_}
 use native.Mathlib.Omega.{arith}
 use denote.Ref.{now}
+use lib.ListN.{getD}
 use Rattle.sheet.specs.declared.Answer.{Answer}
 use Rattle.sheet.specs.Sheet.{usagesOf, deviceOf, answerOf}
 use Rattle.sheet.proofs.Broken.{kept}
@@ -86,16 +87,13 @@ usages-of-requires c κs = let k = kept _ (c .before .before .before .before .be
 add-t13 : tie.Need-add-t13
 add-t13 c = omega arith
 
-shared-slice-read-wide-3 : tie.Need-shared-slice-read-wide-3
-shared-slice-read-wide-3 c = omega arith
-
-wide-requires-3 : tie.Need-wide-requires-3
-wide-requires-3 c κs = tt
+shared-slice-read-t32 : tie.Need-shared-slice-read-t32
+shared-slice-read-t32 c = omega arith
 
 returns-2 : tie.Need-returns-2
 unfolding deviceOf
 returns-2 c =
-    let usages = c .before .before in
+    let usages = c .before in
     let send = usages .before in
     let receive = send .before .before .before in
     let flags = receive .before .before .before in
@@ -121,7 +119,7 @@ returns-2 c =
       usages = (usages .usages-of .ensures ∙ ap₂ (λ (x y : ℕ). usagesOf s (11 + 5 * x) y) en ef) i;
       f = ef i;
       pdos = 11 + 5 * en i + ef i;
-      p = c .wide3 .ensures .0 i;
+      p = getD s 10 0;
     })
 
 pub device-of-spec : {M : Type 1} → statement M
@@ -151,6 +149,5 @@ device-of-spec =
     be16-requires-2
     usages-of-requires
     add-t13
-    shared-slice-read-wide-3
-    wide-requires-3
+    shared-slice-read-t32
     returns-2)

@@ -7,7 +7,8 @@ use native.Mathlib.Omega.{arith}
 use lib.ListN.{length, getD, take, drop}
 use Rattle.subdevice.specs.declared.Slot.the-variants.{None}
 use Rattle.subdevice.specs.Mailbox.{lastOf}
-use Rattle.subdevice.proofs.Turns.{blank, turn, over, last-turn, last-end}
+use Rattle.wanted.proofs.Turns.{blank, turn, over}
+use Rattle.subdevice.proofs.Recorded.{last-turn, last-end}
 use Rattle.subdevice.proofs.last_of.Statement.{statement}
 use Rattle.subdevice.proofs.last_of.Tie as tie
 

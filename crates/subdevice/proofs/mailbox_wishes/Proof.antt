@@ -13,8 +13,8 @@ use Rattle.sheet.specs.declared.SyncManager.{SyncManager}
 use Rattle.sheet.proofs.Lists as lists
 use Rattle.channels.specs.declared.Wish.{Wish}
 use Rattle.channels.specs.Channels.{noWish}
-use Rattle.subdevice.specs.Wishes.{mailboxWish, mailboxWishes}
-use Rattle.subdevice.proofs.Turns.{blank, used, taken-at, none-yet}
+use Rattle.subdevice.specs.MailboxWishes.{mailboxWish, mailboxWishes}
+use Rattle.wanted.proofs.Turns.{blank, used, taken-at, none-yet}
 use Rattle.subdevice.proofs.mailbox_wishes.Statement.{statement}
 use Rattle.subdevice.proofs.mailbox_wishes.Tie as tie
 

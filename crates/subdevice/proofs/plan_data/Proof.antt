@@ -1,119 +1,36 @@
--- `subdevice::plan_data`: what is worked out before each return decides 6, then 7, then what the entries say; the images are written last.
+-- `subdevice::plan_data`: what the pass wants decides 6 and 7, then the entries decide; the images are written last.
 -- Assumes nothing.
-use mathlib.Core.Path.{_≡_, sym, _∙_, ap}
-use mathlib.Core.Bool.{Bool, false}
-use Prim.Native.Nat.{min}
-use native.Mathlib.Nat.{min-le-right}
-use native.Mathlib.Omega.{arith}
+use mathlib.Core.Path.{_≡_}
 use denote.Ref.{now}
-use lib.ListN.{length, length-map}
 use Rattle.sheet.specs.Device.{Data, dataOf}
-use Rattle.sheet.specs.Sheet.{answerOf}
-use Rattle.sheet.specs.declared.Answer.{Answer}
-use Rattle.pdo.specs.Bits.{byCoe, sumsOf}
-use Rattle.subdevice.specs.Wishes.{someTooWide}
-use Rattle.subdevice.specs.Pass.{noEntry}
-use Rattle.subdevice.proofs.Turns.{used, not-refused}
-use Rattle.subdevice.proofs.Planning.{Known, no-entry-is, six-plans, seven-plans, mapped-plans, refused-plans}
+use Rattle.subdevice.proofs.Planning.{unwanted-plans, mapped-plans, refused-plans}
 use borrow.Author.Needs.{needs}
 use Rattle.subdevice.proofs.plan_data.Statement.{statement}
 use Rattle.subdevice.proofs.plan_data.Tie as tie
 
 -- where the call began, and its data
-abbrev start : tie.After-tally → tie.Start
-start c = c .before .before .before .before .before .before .before .before .before
+abbrev start : tie.After-wanted-of → tie.Start
+start c = c .before .before .before .before .before
 
-abbrev data-at : tie.After-tally → Data
+abbrev data-at : tie.After-wanted-of → Data
 data-at c = dataOf (start c .args .device) (now (start c .args .bytes))
 
--- sixteen places for sync managers, and for usages
-sixteen : (c : tie.After-tally) → length (start c .args .device .managers) ≡ 16
-sixteen c = sym (length-map (start c .args .device .managers) _) ∙ start c .good .0 .1 .1 .1 .1 .1 .1 .1 .0 .1 .0 .1
-
-sixteen-usages : (c : tie.After-tally) → length (start c .args .device .usages) ≡ 16
-sixteen-usages c = sym (length-map (start c .args .device .usages) _) ∙ start c .good .0 .1 .1 .1 .1 .1 .1 .1 .1 .1 .0 .1 .0 .1
-
-known : (c : tie.After-tally) → Known (data-at c) (now (start c .args .multipliers)) (start c .args .direction)
-    (c .before .before .before .coe-on .result) (c .before .before .before .before .filter-terms .result) (c .tally .result)
-unfolding dataOf byCoe
-known c =
-    let a = start c .args in
-    let m = used (a .device .managers) (a .device .n) 16 (sixteen c) in
-    let l = min-le-right (a .device .n) 16 in
-    record {
-      pathIs = c .before .before .before .coe-on .ensures;
-      termsAre = c .before .before .before .before .filter-terms .ensures;
-      sumsAre = c .tally .ensures ∙ ap (λ x. sumsOf x (data-at c .pdos) (now (a .multipliers))) (c .before .before .path-kind .ensures);
-      few = omega arith;
-    }
-
--- 6 and 7 at this point
-abbrev too-wide : tie.After-tally → Bool
-too-wide t = someTooWide (t .before .before .before .before .filter-terms .result .usage) (t .tally .result) (data-at t .managers)
-
-abbrev without-entry : tie.After-tally → Bool
-without-entry t = noEntry (data-at t) (now (start t .args .multipliers)) (start t .args .direction)
-
--- where the wishes are accepted 6 doesn't hold; 7 is what the call answers
-six : (c : tie.After-enum-told) → too-wide (c .before .before .before .before) ≡ false
-unfolding dataOf
-six c =
-    not-refused 6 (too-wide (c .before .before .before .before)) tt tt
-    (sym (ap (λ (x : Answer). answerOf {A = Unit {0}} x tt) (c .enum-told .given .1)) ∙ c .before .before .data-wishes .ensures .0)
-
-seven : (c : tie.After-no-entry) → c .no-entry .result ≡ without-entry (c .before .before .before .before .before .before .before)
-unfolding dataOf
-seven c =
-    let t = c .before .before .before .before .before .before .before in
-    let d = start t .args .device in
-    let f = c .before .first-with in
-    no-entry-is (known t) (f .result) (min (d .f) 16) (c .no-entry .result) (f .ensures) (used (d .usages) (d .f) 16 (sixteen-usages t)) (c .no-entry .ensures)
-
-filter-terms-requires : tie.Need-filter-terms-requires
-filter-terms-requires c κs = search needs
-
-coe-on-requires : tie.Need-coe-on-requires
-coe-on-requires c κs = search needs
-
-path-kind-requires : tie.Need-path-kind-requires
-path-kind-requires c κs = search needs
-
-cast-tally : tie.Need-cast-tally
-cast-tally c = search needs
-
-tally-requires : tie.Need-tally-requires
-tally-requires c κs = search needs
-
-data-wishes-requires : tie.Need-data-wishes-requires
-data-wishes-requires c κs = search needs
+wanted-of-requires : tie.Need-wanted-of-requires
+wanted-of-requires c κs = search needs
 
 enum-known-answer : tie.Need-enum-known-answer
 enum-known-answer c = search needs
 
 returns : tie.Need-returns
-unfolding dataOf
 returns c =
-    let t = c .before .before .before .before .before in
-    let a = start t .args in
+    let v = c .before .before .before in
+    let a = start v .args in
     let n = c .before .answer .given in
-    six-plans (known t) (a .place .offset .«start_address») (a .place .group) (now (a .fmmus)) (now (a .channels)) (n .0 .0)
-    (sym (ap (λ (x : Answer). answerOf {A = Unit {0}} x tt) (n .1)) ∙ c .before .before .before .data-wishes .ensures .0)
+    unwanted-plans (data-at v) (now (a .multipliers)) (a .direction) (a .place .offset .«start_address») (a .place .group) (now (a .fmmus)) (now (a .channels))
+    (v .wanted-of .result) (v .wanted-of .ensures) (n .0 .0) (n .1)
 
 enum-told : tie.Need-enum-told
 enum-told c = search needs
-
-first-with-requires : tie.Need-first-with-requires
-first-with-requires c κs = search needs
-
-no-entry-requires : tie.Need-no-entry-requires
-no-entry-requires c κs = search needs
-
-returns-2 : tie.Need-returns-2
-returns-2 c =
-    let e = c .before .before .before .before in
-    let t = e .before .before .before .before in
-    let a = start t .args in
-    seven-plans (known t) (a .place .offset .«start_address») (a .place .group) (now (a .fmmus)) (now (a .channels)) (six e) (sym (seven (c .before)) ∙ c .if1 .taken)
 
 write-entries-requires : tie.Need-write-entries-requires
 write-entries-requires c κs = search needs
@@ -133,57 +50,47 @@ same-length c = search needs
 same-length-2 : tie.Need-same-length-2
 same-length-2 c = search needs
 
-returns-3 : tie.Need-returns-3
+returns-2 : tie.Need-returns-2
 unfolding dataOf
-returns-3 c =
+returns-2 c =
     let w = c .before .before .before .before .before .before .before .before .before in
-    let n = w .before .before .before .before in
-    let e = n .before .before .before in
-    let t = e .before .before .before .before in
-    let a = start t .args in
+    let e = w .before .before .before .before .before in
+    let v = e .before .before in
+    let a = start v .args in
     let s = c .before .before .before .before .before .segment .given in
-    mapped-plans (known t) (six e) (e .before .before .data-wishes .result .list) (e .before .before .data-wishes .ensures .1) (n .before .first-with .result) (n .before .first-with .ensures)
-    (a .place .offset .«start_address») (a .place .group) (now (a .fmmus)) (now (a .channels)) (w .write-entries .result) (s .0 .0) (s .0 .1 .0) (w .write-entries .last .0) (c .before .before .write-channels .last .0)
-    (start t .pre .1) (start t .pre .2) (sym (seven n) ∙ w .before .before .before .if1 .left) (s .1) (w .write-entries .ensures) (c .before .before .write-channels .ensures)
+    mapped-plans (data-at v) (now (a .multipliers)) (a .direction) (a .place .offset .«start_address») (a .place .group) (now (a .fmmus)) (now (a .channels))
+    (v .wanted-of .result) (v .wanted-of .ensures) (e .enum-told .given .1) (start v .pre .0) (w .write-entries .last .0) (w .write-entries .result) (w .write-entries .ensures)
+    (s .0 .0) (s .0 .1 .0) (c .before .before .write-channels .last .0) (start v .pre .1) (s .1) (c .before .before .write-channels .ensures)
 
 same-length-3 : tie.Need-same-length-3
 same-length-3 c = search needs
 
-returns-4 : tie.Need-returns-4
+returns-3 : tie.Need-returns-3
 unfolding dataOf
-returns-4 c =
+returns-3 c =
     let w = c .before .before .before .before .before in
-    let n = w .before .before .before .before in
-    let e = n .before .before .before in
-    let t = e .before .before .before .before in
-    let a = start t .args in
+    let e = w .before .before .before .before .before in
+    let v = e .before .before in
+    let a = start v .args in
     let s = c .before .number .given in
-    refused-plans (known t) (six e) (e .before .before .data-wishes .result .list) (e .before .before .data-wishes .ensures .1) (n .before .first-with .result) (n .before .first-with .ensures)
-    (a .place .offset .«start_address») (a .place .group) (now (a .fmmus)) (now (a .channels)) (w .write-entries .result) (s .0 .0) (w .write-entries .last .0)
-    (start t .pre .1) (sym (seven n) ∙ w .before .before .before .if1 .left) (s .1) (w .write-entries .ensures)
+    refused-plans (data-at v) (now (a .multipliers)) (a .direction) (a .place .offset .«start_address») (a .place .group) (now (a .fmmus)) (now (a .channels))
+    (v .wanted-of .result) (v .wanted-of .ensures) (e .enum-told .given .1) (start v .pre .0) (w .write-entries .last .0) (w .write-entries .result) (w .write-entries .ensures)
+    (s .0 .0) (s .1)
 
 pub plan-data-spec : {M : Type 1} → statement M
 plan-data-spec =
     tie.close
     (tie.spec
-    filter-terms-requires
-    coe-on-requires
-    path-kind-requires
-    cast-tally
-    tally-requires
-    data-wishes-requires
+    wanted-of-requires
     enum-known-answer
     returns
     enum-told
-    first-with-requires
-    no-entry-requires
-    returns-2
     write-entries-requires
     enum-known-segment
     write-channels-requires
     enum-known-number
     same-length
     same-length-2
-    returns-3
+    returns-2
     same-length-3
-    returns-4)
+    returns-3)

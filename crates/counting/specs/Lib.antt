@@ -1,0 +1,2 @@
+-- What counting through the sync managers means.
+pub mod Count

@@ -1,0 +1,2 @@
+-- What translation through the FMMU bytes means.
+pub mod Translate
