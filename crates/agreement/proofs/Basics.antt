@@ -123,19 +123,6 @@ said-by {A} {B} f (x ∷ xs) z b e = go (f x) refl (said-by f xs z b)
         record { place = suc (s .place); there = omega arith; said = s .said }
     go (some c) h i = record { place = 0; there = omega arith; said = h ∙ (let w : some c ≡ some b = rw h at e in w) }
 
-pub inside : (s n a : ℕ) → s ≤ a → a < s + n → within s n a ≡ true
-inside s n a h g = rw (le-leb s a h, lt-ltb a (s + n) g) refl
-
-pub before : (s n a : ℕ) → a < s → within s n a ≡ false
-before s n a h = rw (lt-leb s a h) refl
-
-pub behind : (s n a : ℕ) → s + n ≤ a → within s n a ≡ false
-behind s n a h = rw (le-ltb a (s + n) h) (go (leb s a))
-  where
-    go : (b : Bool) → _≡_ {A = Bool} (b && false) false
-    go true = refl
-    go false = refl
-
 -- inside, or not: by the two ends
 pub where-is : (s n a : ℕ) → (a < s) ⊎ (((s ≤ a) × (a < s + n)) ⊎ (s + n ≤ a))
 where-is s n a = go (either (ltb a s)) (either (ltb a (s + n)))

@@ -20,7 +20,8 @@ use Rattle.entries.specs.Use.{Use, total}
 use Rattle.area.specs.Area.{entriesOf}
 use Rattle.translation.specs.Translate.{named, says, firstSaid, orNone, translate}
 use Rattle.agreement.specs.Agreement.{AllBytes, EveryDisabled, Lent, weights, TwoPasses, EndToEnd, laidBy, counted}
-use Rattle.agreement.proofs.Basics.{either, each-map, said-by, inside, before, behind}
+use Rattle.translation.proofs.Lies.{inside, before, behind}
+use Rattle.agreement.proofs.Basics.{either, each-map, said-by}
 use Rattle.agreement.proofs.Straight.{lay, Fresh, straight-same, straight-iff}
 use Rattle.agreement.proofs.Run.{said, plan-leaves}
 use Rattle.agreement.proofs.Uses.{uses-total, apart}

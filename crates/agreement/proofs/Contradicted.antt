@@ -20,7 +20,8 @@ use Rattle.area.specs.Area.{entriesOf, flat}
 use Rattle.entries.specs.Entries.{plan}
 use Rattle.translation.specs.Translate.{says, odd, orNone, translate}
 use Rattle.agreement.specs.Agreement.{AllBytes, EveryDisabled, Lent, weights, Accepted, TwoPasses, laidBy, Agree, InReach}
-use Rattle.agreement.proofs.Basics.{either, first-none, none-at, never-none, inside, behind}
+use Rattle.translation.proofs.Lies.{inside, behind}
+use Rattle.agreement.proofs.Basics.{either, first-none, none-at, never-none}
 use Rattle.agreement.proofs.Straight.{lay, Lays, goOn, goOn-total, lay-behind}
 use Rattle.agreement.proofs.Step.{Silent, off-silent, says-silent, odd-silent}
 use Rattle.agreement.proofs.Run.{said, none-odd, other-silents}

@@ -20,7 +20,8 @@ use Rattle.entries.specs.Use.{Use, total, totalOn}
 use Rattle.entries.specs.Entries.{laid, plan, lengthNow}
 use Rattle.translation.specs.Translate.{named, carries, says, odd, firstSaid, orNone}
 use Rattle.agreement.specs.Agreement.{EndToEnd}
-use Rattle.agreement.proofs.Basics.{either, same-or-not, each-map, each-both, each-of, first-none, first-new, none-at, some-map, inside, behind}
+use Rattle.translation.proofs.Lies.{inside, behind}
+use Rattle.agreement.proofs.Basics.{either, same-or-not, each-map, each-both, each-of, first-none, first-new, none-at, some-map}
 use Rattle.agreement.proofs.Straight.{lay, Fresh, Next, Grouped, linked, Apart, Lays, fresh-16, reach, goOn, lay-before, straight-same, same-straight, straight-iff}
 use Rattle.agreement.proofs.Step.{Off, Silent, Stand, Good, silent, stands, good-on, good-odd, good-says, says-silent, odd-silent, Stepped, step-off, step-on, silent-laid}
 

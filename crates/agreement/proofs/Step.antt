@@ -19,7 +19,8 @@ use Rattle.pdo.specs.Direction.{other}
 use Rattle.entries.specs.Use.{Use}
 use Rattle.entries.specs.Entries.{mapped, laid, lengthNow}
 use Rattle.translation.specs.Translate.{within, named, carries, says, odd}
-use Rattle.agreement.proofs.Basics.{either, inside, before, behind}
+use Rattle.translation.proofs.Lies.{inside, before, behind}
+use Rattle.agreement.proofs.Basics.{either}
 
 abbrev pub Off : List ℕ → Type 0
 Off e = fieldsOf e .enable ≡ false

@@ -14,7 +14,8 @@ use Rattle.sheet.specs.Sound.{Each}
 use Rattle.entries.specs.Use.{Use, total, totalOn}
 use Rattle.translation.specs.Translate.{within, named, orNone}
 use Rattle.agreement.specs.Agreement.{sharing, Chained, EndToEnd}
-use Rattle.agreement.proofs.Basics.{inside, before, behind, where-is, cond-same, either, same-or-not, each-map}
+use Rattle.translation.proofs.Lies.{inside, before, behind}
+use Rattle.agreement.proofs.Basics.{where-is, cond-same, either, same-or-not, each-map}
 
 -- the sizes one after another from q: nothing outside; inside, the address plus the byte reached
 unfoldable pub lay : ℕ → List Use → ℕ → Option (Option ℕ)

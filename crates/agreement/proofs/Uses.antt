@@ -23,7 +23,8 @@ use Rattle.entries.specs.Use.{Use, useOf, own, given, firstWith, coeEntry, uses
 use Rattle.wanted.specs.Wanted.{noEntry}
 use Rattle.translation.specs.Translate.{within, named, orNone}
 use Rattle.counting.specs.Count.{spotOf, spotIn, deviceIn}
-use Rattle.agreement.proofs.Basics.{either, same-or-not, each-map, each-of, none-of, where-is, before, behind}
+use Rattle.translation.proofs.Lies.{before, behind}
+use Rattle.agreement.proofs.Basics.{either, same-or-not, each-map, each-of, none-of, where-is}
 use Rattle.agreement.proofs.Straight.{lay, Fresh, Grouped, Apart, apart-flip}
 
 -- what the sheet's rules give of device data

@@ -1,6 +1,7 @@
 // Translation through the FMMU bytes: from a logical address to a device address. Added by design; the crate has none.
 ghost use mathlib.Core.Path.{_≡_};
 ghost use mathlib.Core.List.{map};
+ghost use lib.ListN.{length};
 ghost use Rattle.pdo.specs.Bits.{someOf};
 ghost use Rattle.translation.specs.Translate as meaning;
 ghost use Rattle.translation.specs.Translate.{reachedOf, saidOf, translatedOf, firstSaid, orNone};
@@ -79,6 +80,7 @@ fn odd(direction: PdoDirection, image: [u8; 16]) -> bool
 
 // Whether one of the entries is such.
 fn some_odd(entries: &[[u8; 16]; 16], direction: PdoDirection) -> bool
+    requires { ⌜ length (now entries) ≡ 16 ⌝ }
     ensures { λ r. ⌜ r ≡ someOf (meaning.odd direction) (now (entries .entry)) ⌝ }
 {
     let mut k = 0;
@@ -109,6 +111,7 @@ fn says(direction: PdoDirection, address: u32, image: [u8; 16]) -> Said
 
 // What the first entry that holds the address says.
 fn first_said(entries: &[[u8; 16]; 16], direction: PdoDirection, address: u32) -> Reached
+    requires { ⌜ length (now entries) ≡ 16 ⌝ }
     ensures { λ r. ⌜ reachedOf r ≡ orNone (firstSaid (map (meaning.says direction address) (now (entries .entry)))) ⌝ }
 {
     let mut k = 0;

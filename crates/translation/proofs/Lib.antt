@@ -1,0 +1,4 @@
+-- Laws that belong to no one function.
+pub mod Lies
+pub mod Saying
+pub mod Unique
