@@ -1,6 +1,6 @@
 -- Where an address lies: before some bytes, among them, or behind them.
 -- Assumes nothing.
-use mathlib.Core.Path.{_≡_, refl}
+use mathlib.Core.Path.{_≡_, refl, _∙_}
 use mathlib.Core.Bool.{Bool, true, false, _&&_}
 use Prim.Native.Nat.{ℕ, _+_, _-_, _≤_, _<_}
 use native.Mathlib.Omega.{arith}
@@ -36,3 +36,7 @@ started s n a h = leb-true s a (go (leb s a) h)
     go : (b : Bool) → b && ltb a (s + n) ≡ true → b ≡ true
     go true e = refl
     go false e = e
+
+-- and counts it among its bytes
+pub among : (s n a : ℕ) → within s n a ≡ true → a - s < n
+among s n a h = ltb-true (a - s) n (from-start s n a (started s n a h) ∙ h)
