@@ -22,7 +22,7 @@ use Rattle.pdo.specs.Bits.{someOf, Piece, byCoe, pathKind, bitsOf, piecesFrom, 
 use Rattle.entries.specs.Use.{Use, useOf, own, given, firstWith, coeEntry, usesOf, total, sizeOf}
 use Rattle.wanted.specs.Wanted.{noEntry}
 use Rattle.translation.specs.Translate.{within, named, orNone}
-use Rattle.counting.specs.Count.{spotOf, spotIn, deviceIn}
+use Rattle.counting.specs.Count.{spotAt, spotIn, deviceIn}
 use Rattle.translation.proofs.Lies.{before, behind}
 use Rattle.agreement.proofs.Basics.{either, same-or-not, each-map, each-of, none-of, where-is}
 use Rattle.agreement.proofs.Straight.{lay, Fresh, Grouped, Apart, apart-flip}
@@ -163,7 +163,7 @@ spot-lay o a [] = refl
 spot-lay o a (p ∷ ps) = go (within o (bytesOf (p .bits)) a) (spot-lay (o + bytesOf (p .bits)) a ps)
   where
     go : (b : Bool) → deviceIn (spotIn (o + bytesOf (p .bits)) ps a) ≡ orNone (lay (o + bytesOf (p .bits)) (own ps) a)
-        → deviceIn (cond b (some (spotOf p (a - o))) (spotIn (o + bytesOf (p .bits)) ps a))
+        → deviceIn (cond b (some (spotAt (p .number) (p .address) (a - o))) (spotIn (o + bytesOf (p .bits)) ps a))
         ≡ orNone (cond b (some (named (p .address + (a - o)))) (lay (o + bytesOf (p .bits)) (own ps) a))
     go true i = refl
     go false i = i

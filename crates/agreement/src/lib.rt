@@ -1,1 +1,1 @@
-// Translation and counting: what they mean, and demand 3, which says when they agree, stand in specs/ and proofs/.
+// Demand 3: its statement, read first, stands in specs/Agreement.antt; translation and counting have crates of their own.
