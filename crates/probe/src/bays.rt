@@ -1,0 +1,220 @@
+// The entry points that take a sheet or register areas.
+use crate::say;
+use counting::Counted;
+use entries::Configured;
+use entries::Place;
+use pdi::PdiOffset;
+use pdo::PdoDirection;
+use sheet::Answer;
+use sheet::Device;
+use sheet::SyncManager;
+use subdevice::MailboxConfig;
+use subdevice::MailboxRead;
+use subdevice::Slot;
+use translation::Reached;
+use translation::Translated;
+
+pub fn direction_of(number: u8) -> PdoDirection {
+    if number == 0 {
+        return PdoDirection::MasterRead;
+    }
+    PdoDirection::MasterWrite
+}
+
+// A sync manager of a sheet: address, control byte, ENABLE, usage.
+fn manager(out: &mut [u8], at: usize, m: SyncManager) -> usize {
+    let control = m.control;
+    let one = say::then(out, at, m.start_addr as u64);
+    let two = say::words(out, one, b"/");
+    let three = say::hex(out, two, control.pack());
+    let four = say::words(out, three, b"/");
+    let five = say::number(out, four, wire::bit_of(m.enable) as u64);
+    let six = say::words(out, five, b"/");
+    say::number(out, six, m.usage_type as u64)
+}
+
+fn managers(out: &mut [u8], at: usize, list: [SyncManager; 16], n: usize) -> usize {
+    let mut next = say::then_word(out, at, b"managers");
+    let count = wire::least(n, 16);
+    let mut k = 0;
+    while k < count {
+        let m = list[k];
+        next = manager(out, next, m);
+        k += 1;
+    }
+    next
+}
+
+fn usages(out: &mut [u8], at: usize, list: [u8; 16], f: usize) -> usize {
+    let mut next = say::then_word(out, at, b"usages");
+    let count = wire::least(f, 16);
+    let mut k = 0;
+    while k < count {
+        let usage = list[k];
+        next = say::then(out, next, usage as u64);
+        k += 1;
+    }
+    next
+}
+
+fn device(out: &mut [u8], d: Device) -> usize {
+    let one = say::then_flag(out, 0, d.has_mailbox);
+    let two = say::then_flag(out, one, d.coe_protocol);
+    let three = say::then_flag(out, two, d.complete_access);
+    let four = say::then(out, three, d.receive_size.0 as u64);
+    let five = say::then(out, four, d.send_size.0 as u64);
+    let list = d.managers;
+    let six = managers(out, five, list, d.n);
+    let codes = d.usages;
+    let seven = usages(out, six, codes, d.f);
+    let eight = say::then_word(out, seven, b"pdos");
+    say::then(out, eight, d.p as u64)
+}
+
+pub fn read(out: &mut [u8], sheet: &[u8]) -> usize {
+    let read = sheet::read(sheet);
+    let answer = read.answer;
+    if let Answer::Refused(number) = answer {
+        return say::refused(out, 0, number);
+    }
+    let d = read.device;
+    device(out, d)
+}
+
+// A mailbox: address, size, sync manager.
+fn slot(out: &mut [u8], at: usize, slot: Slot) -> usize {
+    match slot {
+        Slot::None => say::then_word(out, at, b"none"),
+        Slot::At(mailbox) => {
+            let one = say::then(out, at, mailbox.address as u64);
+            let two = say::words(out, one, b"/");
+            let three = say::number(out, two, mailbox.len.0 as u64);
+            let four = say::words(out, three, b"/");
+            say::number(out, four, mailbox.sync_manager as u64)
+        }
+    }
+}
+
+fn config(out: &mut [u8], c: MailboxConfig) -> usize {
+    let read = c.read;
+    let write = c.write;
+    let one = say::then_word(out, 0, b"ok");
+    let two = slot(out, one, read);
+    let three = slot(out, two, write);
+    let four = say::then_flag(out, three, c.has_coe);
+    say::then_flag(out, four, c.complete_access)
+}
+
+pub fn mailboxes(out: &mut [u8], sheet: &[u8], channels: &mut [u8]) -> usize {
+    let next = match subdevice::configure_mailboxes(sheet, channels) {
+        MailboxRead::Config(c) => config(out, c),
+        MailboxRead::Refused(number) => say::refused(out, 0, number),
+    };
+    say::then_bytes(out, next, channels)
+}
+
+fn configured(out: &mut [u8], answer: Configured, offset: u32) -> usize {
+    match answer {
+        Configured::Mapped(segment, next) => {
+            let one = say::then_word(out, 0, b"ok");
+            let two = say::then(out, one, segment.start as u64);
+            let three = say::then(out, two, segment.end as u64);
+            say::then(out, three, next.start_address as u64)
+        }
+        Configured::Refused(number) => {
+            let one = say::refused(out, 0, number);
+            say::then(out, one, offset as u64)
+        }
+    }
+}
+
+// A device address, or none.
+fn reached(out: &mut [u8], at: usize, r: Reached) -> usize {
+    match r {
+        Reached::Nowhere => say::then_word(out, at, b"none"),
+        Reached::At(address) => say::then(out, at, address as u64),
+    }
+}
+
+pub fn translate(out: &mut [u8], fmmus: &[u8], direction: PdoDirection, address: u32) -> usize {
+    match translation::translate(fmmus, direction, address) {
+        Translated::To(r) => reached(out, 0, r),
+        Translated::Refused(number) => say::refused(out, 0, number),
+    }
+}
+
+fn counted(out: &mut [u8], answer: Counted) -> usize {
+    match answer {
+        Counted::Nowhere => say::then_word(out, 0, b"none"),
+        Counted::In(position) => {
+            let device = position.device;
+            let one = say::then(out, 0, position.sync_manager as u64);
+            let two = say::then(out, one, position.byte as u64);
+            reached(out, two, device)
+        }
+        Counted::Refused(number) => say::refused(out, 0, number),
+    }
+}
+
+// One side of an agreement: a device address, none, or a refusal.
+enum Side {
+    At(u16),
+    None,
+    Refused(u8),
+}
+
+fn side_of(r: Reached) -> Side {
+    match r {
+        Reached::Nowhere => Side::None,
+        Reached::At(address) => Side::At(address),
+    }
+}
+
+fn translated_side(answer: Translated) -> Side {
+    match answer {
+        Translated::To(r) => side_of(r),
+        Translated::Refused(number) => Side::Refused(number),
+    }
+}
+
+fn counted_side(answer: Counted) -> Side {
+    match answer {
+        Counted::Nowhere => Side::None,
+        Counted::In(position) => {
+            let device = position.device;
+            side_of(device)
+        }
+        Counted::Refused(number) => Side::Refused(number),
+    }
+}
+
+// A side as one number, so that two can be compared: none above all addresses, refusals above that.
+fn key(side: Side) -> u32 {
+    match side {
+        Side::At(address) => address as u32,
+        Side::None => 65536,
+        Side::Refused(number) => 65537 + (number as u32),
+    }
+}
+
+fn side(out: &mut [u8], at: usize, side: Side) -> usize {
+    match side {
+        Side::At(address) => say::then(out, at, address as u64),
+        Side::None => say::then_word(out, at, b"none"),
+        Side::Refused(number) => {
+            let next = say::then_word(out, at, b"r");
+            say::number(out, next, number as u64)
+        }
+    }
+}
+
+fn agree(out: &mut [u8], translated: Translated, counted: Counted) -> usize {
+    let one = translated_side(translated);
+    let two = counted_side(counted);
+    if key(one) == key(two) {
+        return say::then_word(out, 0, b"same");
+    }
+    let at = say::then_word(out, 0, b"differ");
+    let next = side(out, at, one);
+    side(out, next, two)
+}
