@@ -2,3 +2,4 @@
 pub mod Places
 pub mod Records
 pub mod Search
+pub mod Local

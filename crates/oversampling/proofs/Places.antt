@@ -5,13 +5,20 @@ use mathlib.Core.List.{List, [], _∷_, _++_, map, map-append}
 use Prim.Native.Nat.{ℕ, suc, _+_, _-_, _<_, _≤_}
 use native.Mathlib.Numerals.{add-one}
 use native.Mathlib.Omega.{arith}
-use lib.ListN.{length, getD, take, set, replicate, length-map}
+use lib.ListN.{length, getD, take, set, replicate, length-map, length-append, length-replicate}
 use lib.Seq.{take-suc, take-all, length-take-le, set-at, append-snoc}
 use Rattle.oversampling.specs.Multipliers.{padded}
 
 -- the first i places hold f of the first i elements
 abbrev pub upto : {A : Type 0} → (A → ℕ) → ℕ → List A → ℕ → List ℕ
 upto f d l i = map f (take i l) ++ replicate (255 - i) d
+
+-- 255 of them
+pub upto-long : {A : Type 0} (f : A → ℕ) (d : ℕ) (l : List A) (i : ℕ) → i ≤ length l → i ≤ 255 → length (upto f d l i) ≡ 255
+upto-long f d l i h m =
+    let front : length (map f (take i l)) ≡ i = length-map (take i l) f ∙ length-take-le i l h in
+    let free : length (replicate (255 - i) d) ≡ 255 - i = length-replicate (255 - i) d in
+    length-append (map f (take i l)) (replicate (255 - i) d) ∙ omega arith
 
 module _ {A : Type 0} (f : A → ℕ) (d : ℕ) (l : List A) (i : ℕ) (out : List ℕ) (held : out ≡ upto f d l i) where
   -- one more is filled
