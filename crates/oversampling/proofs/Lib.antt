@@ -3,3 +3,6 @@ pub mod Places
 pub mod Records
 pub mod Search
 pub mod Local
+pub mod Made
+pub mod Stated
+pub mod Unique

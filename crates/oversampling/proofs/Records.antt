@@ -69,23 +69,25 @@ past s (suc n) place h =
     let z : bigAt s (place + 2) 2 ≡ 0 = rw (a, b) in
     λ i. z i ∷ past s n (nextPdo s place) (omega arith) i
 
+-- what is not filled yet is what the records ahead and the places past the last hold
+rest : (front : List ℕ) (p i : ℕ) → i ≤ p → p ≤ 255 → front ++ replicate (255 - i) 0 ≡ (front ++ replicate (p - i) 0) ++ replicate (255 - p) 0
+rest front p i w m =
+    let free : 255 - i ≡ (p - i) + (255 - p) = omega arith in
+    rw (free, ← replicate-append-replicate {A = ℕ} (p - i) (255 - p) 0) (sym (append-assoc front (replicate (p - i) 0) (replicate (255 - p) 0)))
+
 -- or it has left the bytes
 pub indexed-past : {s : List ℕ} {p at : ℕ} {list : List ℕ} {place i : ℕ} → Indexed s p at list place i → p ≤ 255 → length s ≤ place → list ≡ padded 0 (map indexIn (pdosFrom s p at))
 unfolding padded
 indexed-past {s} {p} {at} {list} {place} {i} t m h =
-    let ps = pdosFrom s p at in
-    let n : length (map indexIn ps) ≡ p = length-map ps indexIn ∙ length-pdos s p at in
-    let free : 255 - i ≡ (p - i) + (255 - p) = count p i m (t .within) in
-    let split : map indexIn ps ≡ map indexIn (take i ps) ++ replicate (p - i) 0 =
-    ap (map indexIn) (sym (take-append-drop i ps)) ∙ map-append indexIn (take i ps) (drop i ps)
-    ∙ ap (λ (q : List Pdo). map indexIn (take i ps) ++ map indexIn q) (t .ahead)
-    ∙ ap (λ (q : List ℕ). map indexIn (take i ps) ++ q) (past s (p - i) place h) in
-    t .held
-    ∙ ap (λ (k : ℕ). map indexIn (take i ps) ++ replicate k 0) free
-    ∙ ap (λ (q : List ℕ). map indexIn (take i ps) ++ q) (sym (replicate-append-replicate (p - i) (255 - p) 0))
-    ∙ sym (append-assoc (map indexIn (take i ps)) (replicate (p - i) 0) (replicate (255 - p) 0))
-    ∙ ap (λ (q : List ℕ). q ++ replicate (255 - p) 0) (sym split)
-    ∙ ap (λ (k : ℕ). map indexIn ps ++ replicate (255 - k) 0) (sym n)
+    t .held ∙ rest (map indexIn (take i ps)) p i (t .within) m ∙ ap (λ (q : List ℕ). q ++ replicate (255 - p) 0) (sym split) ∙ ap (λ (k : ℕ). map indexIn ps ++ replicate (255 - k) 0) (sym n)
   where
-    count : (p i : ℕ) → p ≤ 255 → i ≤ p → 255 - i ≡ (p - i) + (255 - p)
-    count p i m w = omega arith
+    ps : List Pdo
+    ps = pdosFrom s p at
+
+    n : length (map indexIn ps) ≡ p
+    n = length-map ps indexIn ∙ length-pdos s p at
+
+    split : map indexIn ps ≡ map indexIn (take i ps) ++ replicate (p - i) 0
+    split =
+        ap (map indexIn) (sym (take-append-drop i ps)) ∙ map-append indexIn (take i ps) (drop i ps)
+        ∙ ap (λ (q : List ℕ). map indexIn (take i ps) ++ q) (ap (map indexIn) (t .ahead) ∙ past s (p - i) place h)
