@@ -14,7 +14,8 @@ use Rattle.sheet.specs.Sound.{Each}
 use Rattle.sheet.specs.Sheet.{sheetData}
 use Rattle.pdo.specs.declared.PdoDirection.{PdoDirection}
 use Rattle.pdo.specs.Direction.{other}
-use Rattle.pdo.specs.Bits.{Oversampling, multipliersOf, piecesOf}
+use Rattle.pdo.specs.declared.Oversampling.{Oversampling}
+use Rattle.pdo.specs.Bits.{multipliersOf, piecesOf}
 use Rattle.entries.specs.Use.{Use, own, usesOf}
 use Rattle.area.specs.Area.{entriesOf}
 use Rattle.subdevice.specs.Pass.{dataPass, entriesAfter}

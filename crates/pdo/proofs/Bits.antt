@@ -11,7 +11,8 @@ use Rattle.pdi.specs.declared.BitLen.{BitLen}
 use Rattle.sheet.specs.Sound.{Each, sum}
 use Rattle.sheet.specs.Device.{Pdo}
 use Rattle.sheet.proofs.Lists.{length-listOf, getD-listOf}
-use Rattle.pdo.specs.Bits.{Oversampling, multiplierOf, multipliersOf, firstOf, othersOf, bitsOf, sumsOf}
+use Rattle.pdo.specs.declared.Oversampling.{Oversampling}
+use Rattle.pdo.specs.Bits.{multiplierOf, multipliersOf, firstOf, othersOf, bitsOf, sumsOf}
 use Rattle.pdo.proofs.Records.{product-bounded}
 
 abbrev pub noBits : BitLen
@@ -65,7 +66,7 @@ bits-table kind k t p ps = refl
 match-bounded : (t : List Oversampling) (index : ℕ) → Each (λ (r : Oversampling). r .multiplier ≤ 255) t → multiplierOf t index ≤ 255
 unfolding multiplierOf
 match-bounded [] index b = omega arith
-match-bounded (r ∷ t) index b = go (eqb (r .index) index) (match-bounded t index (b .1))
+match-bounded (r ∷ t) index b = go (eqb (r .«pdo_index») index) (match-bounded t index (b .1))
   where
     go : (h : Bool) → multiplierOf t index ≤ 255 → cond h (r .multiplier) (multiplierOf t index) ≤ 255
     go true rest = b .0

@@ -9,6 +9,7 @@ use Rattle.pdi.specs.declared.BitLen.{BitLen}
 use Rattle.sheet.specs.Lists.{listOf}
 use Rattle.sheet.specs.Sound.{sum}
 use Rattle.sheet.specs.declared.SyncManager.{SyncManager}
+use Rattle.pdo.specs.declared.Oversampling.{Oversampling}
 use Rattle.pdo.specs.declared.PdoDirection.{PdoDirection}
 use Rattle.pdo.specs.Direction.{usageOf, kindOf}
 
@@ -17,15 +18,10 @@ abbrev pub someOf : {A : Type 0} → (A → Bool) → List A → Bool
 someOf f [] = false
 someOf f (x ∷ xs) = f x || someOf f xs
 
--- an oversampling record: a PDO index and a multiplier
-pub record Oversampling : Type 0 where
-  pub index : ℕ
-  pub multiplier : ℕ
-
 -- the first match counts, none means 1
 unfoldable pub multiplierOf : List Oversampling → ℕ → ℕ
 multiplierOf [] index = 1
-multiplierOf (r ∷ rs) index = cond (eqb (r .index) index) (r .multiplier) (multiplierOf rs index)
+multiplierOf (r ∷ rs) index = cond (eqb (r .«pdo_index») index) (r .multiplier) (multiplierOf rs index)
 
 -- one multiplier for each PDO
 abbrev pub multipliersOf : List Oversampling → List Pdo → List ℕ

@@ -42,8 +42,14 @@ impl PdoDirection {
     }
 }
 
+// An oversampling record: a PDO index, and how many times its bits count.
+pub struct Oversampling {
+    pub pdo_index: u16,
+    pub multiplier: u8,
+}
+
 // A byte of a slice, 0 past its end.
-fn byte_at(bytes: &[u8], at: usize) -> u8
+pub fn byte_at(bytes: &[u8], at: usize) -> u8
     ensures { λ r. ⌜ r ≡ getD (now (bytes .entry)) at 0 ⌝ }
 {
     if at < bytes.len() {

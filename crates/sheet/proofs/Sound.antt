@@ -69,6 +69,12 @@ sum-listOf f (suc n) h =
     let c = h n in
     omega arith
 
+-- as many PDOs as were asked for
+pub length-pdos : (s : List ℕ) (p at : ℕ) → length (pdosFrom s p at) ≡ p
+unfolding pdosFrom
+length-pdos s zero at = refl
+length-pdos s (suc p) at = ap suc (length-pdos s p (nextPdo s at))
+
 module _ (s : List ℕ) (bytes : (k : ℕ) → getD s k 0 < 256) where
   -- two bytes
   word : (at : ℕ) → bigAt s at 2 < 65536
@@ -103,11 +109,6 @@ module _ (s : List ℕ) (bytes : (k : ℕ) → getD s k 0 < 256) where
           omega arith
       go false = let w = word (at + 5) in omega arith
 
-  length-pdos : (p at : ℕ) → length (pdosFrom s p at) ≡ p
-  unfolding pdosFrom
-  length-pdos zero at = refl
-  length-pdos (suc p) at = ap suc (length-pdos p (nextPdo s at))
-
   pdos-sound : (p at : ℕ) → pdosFit s p at ≡ true → Each SoundPdo (pdosFrom s p at)
   unfolding pdosFrom pdosFit
   pdos-sound zero at e = tt
@@ -126,7 +127,7 @@ module _ (s : List ℕ) (bytes : (k : ℕ) → getD s k 0 < 256) where
       let p = bytes 10 in
       let lm = length-listOf m (managerCount s) in
       let lu = length-listOf u (usageCount s) in
-      let lp = length-pdos (pdoCount s) (pdosPlace s) in
+      let lp = length-pdos s (pdoCount s) (pdosPlace s) in
       record {
         managers = omega arith;
         addresses = each-listOf (λ (x : SyncManager). x .«start_addr» < 65536) m (managerCount s) (λ j. word (managerPlace j));
