@@ -1,12 +1,15 @@
 -- A text that was written into a room of its own, in which it fits, stands at the room's front; from there it is typed.
 -- Assumes nothing.
-use mathlib.Core.Path.{_≡_, refl, sym, _∙_, ap, subst}
+use mathlib.Core.Path.{_≡_, refl, sym, _∙_, ap}
+use mathlib.Core.Bool.{Bool, true, false, cond}
 use mathlib.Core.List.{List, [], _∷_, _++_}
 use Prim.Native.Nat.{ℕ, zero, suc, _≤_, min}
 use native.Mathlib.Nat.{zero-min, suc-min-suc}
 use lib.ListN.{length, take, drop}
 use lib.Seq.{take-nil, take-append-seam}
-use borrow.Author.Tests.{le-ltb}
+use native.Mathlib.Omega.{arith}
+use lib.Dec.{ltb}
+use borrow.Author.Tests.{le-ltb, ltb-false}
 use Rattle.wire.specs.Outcome.{Outcome, refused, accepted}
 use Rattle.wire.specs.Room.{writtenOf, roomAfter, InRoom, textIn}
 use Rattle.wire.specs.Text.{Page, Types}
@@ -50,3 +53,14 @@ pub line-typed :
     {s room after front : List ℕ} {w : Written} {p q r : Page} → length s ≤ length room → InRoom (textIn s room) s room w after
     → Types p q front → Types q r (shown w after ++ (10 ∷ [])) → Types p r (line front s)
 line-typed {s} {room} {after} {front} {w} h x a b = then a (types (ap (λ (t : List ℕ). t ++ (10 ∷ [])) (shown-text w h x)) b)
+
+-- an accepted text is no longer than the room
+pub within : {s room after : List ℕ} {w : Written} (n : ℕ) → w ≡ Len n → InRoom (textIn s room) s room w after → n ≤ length room
+within {s} {room} n is x = go (ltb (length room) (length s)) (ltb-false (length room) (length s)) (sym (ap writtenOf is) ∙ x .says)
+  where
+    go : (t : Bool) → (t ≡ false → length s ≤ length room) → accepted n ≡ cond t (refused 12) (accepted (length s)) → n ≤ length room
+    go true h e = absurd (never (sym e))
+    go false h e =
+        let long : n ≡ length s = cc in
+        let below = h refl in
+        omega arith
