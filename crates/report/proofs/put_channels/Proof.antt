@@ -1,0 +1,101 @@
+-- `put_channels`: typing the lines that are left where the loop stands is typing all of them from the start.
+-- Assumes nothing.
+use mathlib.Core.Path.{_≡_, refl, sym, _∙_, ap}
+use mathlib.Core.List.{List}
+use Prim.Native.Nat.{ℕ, _-_, _≤_, min}
+use native.Mathlib.Omega.{arith}
+use denote.Ref.{now}
+use lib.ListN.{length, take, drop}
+use Rattle.wire.specs.Text.{page, typedAll}
+use Rattle.area.specs.Area.{entriesOf, padded}
+use Rattle.area.proofs.Flat.{length-chunks, padded-same}
+use Rattle.report.specs.Text.{lines, imageLine}
+use Rattle.report.proofs.Lines.{lines-turn, lines-end}
+use Rattle.report.proofs.put_channels.Statement.{statement}
+use Rattle.report.proofs.put_channels.Tie as tie
+
+abbrev Inv-loop : tie.InvT-loop
+Inv-loop room₀ from channels n images count at₀ k₀ room at k =
+    (k ≤ count) × (count ≡ min n 16) × (length images ≡ 16) × (length room ≡ length room₀)
+    × (typedAll (page room at) (lines imageLine k (drop k (take n images))) ≡ typedAll (page room₀ from) (lines imageLine 0 (take n images)))
+
+abbrev μ-loop : tie.MeasureT-loop
+μ-loop room₀ from channels n images count at₀ k₀ room at k = count - k
+
+load8-requires : tie.Need-load8-requires Inv-loop μ-loop
+load8-requires c κs = tt
+
+least-requires : tie.Need-least-requires Inv-loop μ-loop
+least-requires c κs = tt
+
+loop-holds : tie.Need-loop-holds Inv-loop μ-loop
+loop-holds c =
+    let a = c .before .before .before .before .args in
+    let sixteen : length (c .before .load8 .result) ≡ 16 = ap length (c .before .load8 .ensures) ∙ length-chunks 8 16 (padded 128 (now (a .channels))) in
+    (omega arith, c .least .ensures, sixteen, refl, refl)
+
+cast-put-channel : tie.Need-cast-put-channel Inv-loop μ-loop
+cast-put-channel c = omega arith
+
+mul-put-channel : tie.Need-mul-put-channel Inv-loop μ-loop
+mul-put-channel c = omega arith
+
+array-copy-out-put-channel : tie.Need-array-copy-out-put-channel Inv-loop μ-loop
+array-copy-out-put-channel c = omega arith
+
+put-channel-requires : tie.Need-put-channel-requires Inv-loop μ-loop
+put-channel-requires c κs = tt
+
+add-k : tie.Need-add-k Inv-loop μ-loop
+add-k c = omega arith
+
+loop-less : tie.Need-loop-less Inv-loop μ-loop
+loop-less c = omega arith
+
+loop-again : tie.Need-loop-again Inv-loop μ-loop
+loop-again c =
+    let l = c .before .before .before .before .before .before .loop in
+    let put = c .before .before .put-channel in
+    let a = c .before .before .before .before .before .before .before .before .before .before .before .args in
+    let images = c .before .before .before .before .before .before .before .before .load8 .result in (
+      omega arith,
+      l .inv .1,
+      l .inv .2,
+      put .kept .0 ∙ l .inv .3,
+      lines-turn imageLine images (a .n) (l .inv .2) (l .k) (omega arith) (put .ensures) ∙ l .inv .4,
+    )
+
+same-length : tie.Need-same-length Inv-loop μ-loop
+same-length c = omega arith
+
+returns : tie.Need-returns Inv-loop μ-loop
+returns c =
+    let l = c .before .loop in
+    let a = c .before .before .before .before .before .before .args in
+    let load = c .before .before .before .load8 in
+    let area = load .ensures ∙ ap (entriesOf 8) (padded-same 128 (now (a .channels)) (c .before .before .before .before .before .before .pre)) in
+    record {
+      is =
+          sym (lines-end imageLine (load .result) (a .n) (l .inv .2) (l .k) {p = page (l .room) (l .at)} (omega arith))
+          ∙ l .inv .4
+          ∙ ap (λ (es : List (List ℕ)). typedAll (page (now (a .room)) (a .from)) (lines imageLine 0 (take (a .n) es))) area;
+    }
+
+pub put-channels-spec : {M : Type 1} → statement M
+put-channels-spec =
+    tie.close
+    (tie.spec
+    Inv-loop
+    μ-loop
+    load8-requires
+    least-requires
+    loop-holds
+    cast-put-channel
+    mul-put-channel
+    array-copy-out-put-channel
+    put-channel-requires
+    add-k
+    loop-less
+    loop-again
+    same-length
+    returns)

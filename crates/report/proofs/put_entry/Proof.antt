@@ -1,0 +1,61 @@
+-- `put_entry`: an entry that is enabled gets its line, its text written to one side.
+-- Assumes nothing.
+use borrow.Author.Tests.{not-true, not-false}
+use Rattle.fmmu.proofs.Text.{fmmu-length}
+use Rattle.report.proofs.Shown.{line-typed}
+use Rattle.report.proofs.Lines.{entry-typed, entry-left-out}
+use borrow.Author.Needs.{needs}
+use Rattle.report.proofs.put_entry.Statement.{statement}
+use Rattle.report.proofs.put_entry.Tie as tie
+
+unpack-requires : tie.Need-unpack-requires
+unpack-requires c κs = search needs
+
+returns : tie.Need-returns
+returns c =
+    let u = c .before .before in
+    let a = u .before .before .args in
+    entry-left-out (a .k) (a .image) (u .unpack .result) (u .unpack .ensures) (not-true _ (c .if1 .taken))
+
+slice-aggregate-fmt : tie.Need-slice-aggregate-fmt
+slice-aggregate-fmt c = search needs
+
+fmt-requires : tie.Need-fmt-requires
+fmt-requires c κs = search needs
+
+slice-aggregate-put-front : tie.Need-slice-aggregate-put-front
+slice-aggregate-put-front c = search needs
+
+put-front-requires : tie.Need-put-front-requires
+put-front-requires c κs = search needs
+
+slice-aggregate-put-shown : tie.Need-slice-aggregate-put-shown
+slice-aggregate-put-shown c = search needs
+
+put-shown-requires : tie.Need-put-shown-requires
+put-shown-requires c κs = search needs
+
+same-length : tie.Need-same-length
+same-length c = search needs
+
+returns-2 : tie.Need-returns-2
+returns-2 c =
+    let u = c .before .before .before .before .before .before .before .before .before .before .before .before .before .before .before in
+    let a = u .before .before .args in
+    entry-typed (a .k) (a .image) (u .unpack .result) (u .unpack .ensures) (not-false _ (c .before .before .before .before .before .before .before .before .before .before .before .before .before .if1 .left))
+    (line-typed (fmmu-length (u .unpack .result)) (c .before .before .before .before .before .before .before .before .before .before .before .fmt .ensures) (c .before .before .before .before .before .before .before .put-front .ensures) (c .before .before .put-shown .ensures))
+
+pub put-entry-spec : {M : Type 1} → statement M
+put-entry-spec =
+    tie.close
+    (tie.spec
+    unpack-requires
+    returns
+    slice-aggregate-fmt
+    fmt-requires
+    slice-aggregate-put-front
+    put-front-requires
+    slice-aggregate-put-shown
+    put-shown-requires
+    same-length
+    returns-2)

@@ -1,0 +1,76 @@
+-- Mailbox, input and output pass over areas of zeros: offset and group 0, no oversampling; refused by the first pass that refuses.
+-- Assumes nothing.
+use mathlib.Core.List.{List, []}
+use Prim.Native.Nat.{ℕ}
+use lib.ListN.{replicate}
+use Rattle.wire.specs.Outcome.{Outcome, refused, accepted}
+use Rattle.pdi.specs.declared.PdiSegment.{PdiSegment}
+use Rattle.sheet.specs.Device.{Data}
+use Rattle.sheet.specs.Sheet.{sheetData}
+use Rattle.pdo.specs.declared.PdoDirection.{PdoDirection}
+use Rattle.pdo.specs.declared.PdoDirection.the-variants.{MasterRead, MasterWrite}
+use Rattle.pdo.specs.Bits.{multipliersOf}
+use Rattle.entries.specs.Entries.{Planned}
+use Rattle.subdevice.specs.declared.MailboxConfig.{MailboxConfig}
+use Rattle.subdevice.specs.Mailbox.{mailboxPass, mailboxArea}
+use Rattle.subdevice.specs.Pass.{dataPass, entriesAfter, channelAreaAfter}
+
+-- what comes after an accepted answer; a refusal stays the answer
+abbrev pub andThen : {A B : Type 0} → Outcome A → (A → Outcome B) → Outcome B
+andThen (refused n) f = refused n
+andThen (accepted x) f = f x
+
+-- the two register areas, as the passes hand them on
+pub record Areas : Type 0 where
+  pub fmmus : List ℕ
+  pub channels : List ℕ
+
+abbrev pub areas : List ℕ → List ℕ → Areas
+areas fmmus channels = record { fmmus = fmmus; channels = channels }
+
+-- a bay that is planned: its segments, and what its areas hold
+pub record Bay : Type 0 where
+  pub inputs : PdiSegment
+  pub outputs : PdiSegment
+  pub left : Areas
+
+abbrev pub bay : PdiSegment → PdiSegment → Areas → Bay
+bay inputs outputs left = record { inputs = inputs; outputs = outputs; left = left }
+
+-- no oversampling: the empty table
+abbrev pub once : List ℕ → List ℕ
+once sheet = multipliersOf [] (sheetData sheet .pdos)
+
+-- an accepted pass: its segment, and where the next one starts
+abbrev pub ended : PdiSegment → ℕ → Planned
+ended segment next = record { segment = segment; next = next }
+
+-- a data pass from an offset, in group 0, and the areas that it leaves where it is accepted
+abbrev pub pass : List ℕ → PdoDirection → ℕ → Areas → Outcome Planned
+pass sheet r offset a = dataPass sheet (once sheet) r offset 0 (a .fmmus) (a .channels)
+
+abbrev pub passLeaves : List ℕ → PdoDirection → ℕ → Areas → Planned → Areas
+passLeaves sheet r offset a p =
+    areas
+    (entriesAfter (accepted p) (sheetData sheet) (once sheet) r offset (a .fmmus))
+    (channelAreaAfter (accepted p) (sheetData sheet) (once sheet) r (a .channels))
+
+-- the output pass starts at the offset where the input pass ended
+unfoldable pub withOutputs : List ℕ → Planned → Areas → Outcome Bay
+withOutputs sheet i a =
+    andThen (pass sheet MasterWrite (i .next) a)
+    (λ (o : Planned). accepted (bay (i .segment) (o .segment) (passLeaves sheet MasterWrite (i .next) a o)))
+
+-- the input pass starts at offset 0
+unfoldable pub withInputs : List ℕ → Areas → Outcome Bay
+withInputs sheet a = andThen (pass sheet MasterRead 0 a) (λ (i : Planned). withOutputs sheet i (passLeaves sheet MasterRead 0 a i))
+
+-- areas zero
+abbrev pub zeros : Areas
+zeros = areas (replicate 256 0) (replicate 128 0)
+
+abbrev pub mailboxLeaves : List ℕ → Areas → MailboxConfig → Areas
+mailboxLeaves sheet a c = areas (a .fmmus) (mailboxArea (accepted c) (sheetData sheet) (a .channels))
+
+unfoldable pub planBay : List ℕ → Outcome Bay
+planBay sheet = andThen (mailboxPass sheet (zeros .channels)) (λ (c : MailboxConfig). withInputs sheet (mailboxLeaves sheet zeros c))

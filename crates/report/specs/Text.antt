@@ -1,0 +1,81 @@
+-- The text of a plan: both segments, the image of each of the sheet's n sync managers, each enabled entry; or only the refusal.
+-- Assumes nothing.
+use mathlib.Core.Bool.{cond}
+use mathlib.Core.List.{List, [], _∷_, _++_}
+use Prim.Native.Nat.{ℕ, suc}
+use lib.ListN.{take}
+use Rattle.wire.specs.Outcome.{Outcome, refused, accepted}
+use Rattle.wire.specs.Text.{decimalOf}
+use Rattle.wire.specs.declared.Written.{Written}
+use Rattle.wire.specs.declared.Written.the-variants.{Len, Refused}
+use Rattle.pdi.specs.Segment.{segmentText}
+use Rattle.sync_manager_channel.specs.declared.SyncManagerChannel.{SyncManagerChannel}
+use Rattle.sync_manager_channel.specs.Image.{readChannel}
+use Rattle.sync_manager_channel.specs.Text.{channelText}
+use Rattle.fmmu.specs.declared.Fmmu.{Fmmu}
+use Rattle.fmmu.specs.Image.{fieldsOf}
+use Rattle.fmmu.specs.Text.{fmmuText}
+use Rattle.sheet.specs.Sheet.{managerCount}
+use Rattle.area.specs.Area.{entriesOf}
+use Rattle.report.specs.Plan.{Areas, Bay, planBay}
+
+-- a line: what it is about, its text, the newline
+abbrev pub line : List ℕ → List ℕ → List ℕ
+line front text = front ++ (text ++ (10 ∷ []))
+
+-- a name with a number: `SM0: `
+abbrev pub numbered : List ℕ → ℕ → List ℕ
+numbered name k = name ++ decimalOf k ++ (58 ∷ 32 ∷ [])
+
+-- inputs 0x00000000..0x00000005
+abbrev pub inputsFront : List ℕ
+inputsFront = 105 ∷ 110 ∷ 112 ∷ 117 ∷ 116 ∷ 115 ∷ 32 ∷ []
+
+-- outputs 0x00000005..0x00000007
+abbrev pub outputsFront : List ℕ
+outputsFront = 111 ∷ 117 ∷ 116 ∷ 112 ∷ 117 ∷ 116 ∷ 115 ∷ 32 ∷ []
+
+-- SM0: start 0x1000, size 0x0080 (128), .. An image that doesn't read has no line; those of a plan all read.
+unfoldable pub channelLine : ℕ → Outcome SyncManagerChannel → List ℕ
+channelLine k (refused n) = []
+channelLine k (accepted s) = line (numbered (83 ∷ 77 ∷ []) k) (channelText s)
+
+-- FMMU0: logical start 0x00000005:0, .. where the entry is enabled
+unfoldable pub entryLine : ℕ → Fmmu → List ℕ
+entryLine k f = cond (f .enable) (line (numbered (70 ∷ 77 ∷ 77 ∷ 85 ∷ []) k) (fmmuText f)) []
+
+-- the lines of images, which are numbered from k on
+unfoldable pub lines : (ℕ → List ℕ → List ℕ) → ℕ → List (List ℕ) → List ℕ
+lines lineOf k [] = []
+lines lineOf k (e ∷ es) = lineOf k e ++ lines lineOf (suc k) es
+
+abbrev pub imageLine : ℕ → List ℕ → List ℕ
+imageLine k e = channelLine k (readChannel e)
+
+abbrev pub enabledLine : ℕ → List ℕ → List ℕ
+enabledLine k e = entryLine k (fieldsOf e)
+
+-- refused 2
+unfoldable pub refusedText : ℕ → List ℕ
+refusedText n = line (114 ∷ 101 ∷ 102 ∷ 117 ∷ 115 ∷ 101 ∷ 100 ∷ 32 ∷ []) (decimalOf n)
+
+-- n is the sheet's number of sync managers
+unfoldable pub bayText : ℕ → Bay → List ℕ
+bayText n b =
+    line inputsFront (segmentText (b .inputs))
+    ++ line outputsFront (segmentText (b .outputs))
+    ++ lines imageLine 0 (take n (entriesOf 8 (b .left .channels)))
+    ++ lines enabledLine 0 (entriesOf 16 (b .left .fmmus))
+
+abbrev pub outcomeText : ℕ → Outcome Bay → List ℕ
+outcomeText n (refused r) = refusedText r
+outcomeText n (accepted b) = bayText n b
+
+-- the whole text
+unfoldable pub reportText : List ℕ → List ℕ
+reportText sheet = outcomeText (managerCount sheet) (planBay sheet)
+
+-- what an answer into lent room says of the room: the text at its front
+abbrev pub shown : Written → List ℕ → List ℕ
+shown (Len n) l = take n l
+shown (Refused n) l = []
