@@ -2,9 +2,27 @@
 
 from collections import Counter
 
-# of 100,000 plans
 WHOLE = 100_000
-MINIMUMS = {}
+# of so many plans, at least so many passes: about half of what the generator gives
+MINIMUMS = {
+    "CoE inputs, not empty": 10_000,
+    "CoE outputs, not empty": 10_000,
+    "EEPROM inputs, not empty": 12_000,
+    "EEPROM outputs, not empty": 12_000,
+    "added to a used entry": 18_000,
+    "table with a repeat": 18_000,
+    "table with a zero": 11_000,
+    "a sync manager of 8,191 bytes": 2_000,
+    "an entry reaches 65,535 bytes": 200,
+    "the offset reaches 4,294,967,295": 400,
+    "mailboxes of unequal sizes": 20_000,
+    "mailboxes, two of a kind": 8_000,
+    "refused 6": 4_000,
+    "refused 7": 1_500,
+    "refused 8": 3_500,
+    "refused 9": 10_000,
+    "refused 10": 7_000,
+}
 
 
 def on_coe(sheet):

@@ -126,7 +126,8 @@ fn channel(record: &[u8]) -> Option<SyncManagerChannel> {
             has_write_event: write_event != 0,
             has_read_event: read_event != 0,
             mailbox_full: full != 0,
-            buffer_state: [BufferState::First, BufferState::Second, BufferState::Third, BufferState::Next][usize::from(buffer % 4)],
+            buffer_state: [BufferState::First, BufferState::Second, BufferState::Third, BufferState::Next]
+                [usize::from(buffer % 4)],
             read_buffer_open: read_open != 0,
             write_buffer_open: write_open != 0,
         },

@@ -52,7 +52,8 @@ fn texts(chance: &Chance, emit: Emit) -> io::Result<()> {
         *byte = chance.pick(&[0, 0, 0, 1, 7, *byte]);
     }
     for letter in [b's', b'f', b'y'] {
-        let mut request = Request { letter, a, b, fmmus: fmmus.clone(), channels: channels.clone(), room: 512, ..Request::default() };
+        let mut request =
+            Request { letter, a, b, fmmus: fmmus.clone(), channels: channels.clone(), room: 512, ..Request::default() };
         request.room = room(chance, &request);
         emit(&request)?;
     }

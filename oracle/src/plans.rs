@@ -123,8 +123,8 @@ fn kinds(chance: &Chance) -> Vec<u8> {
     if chance.one_in(3) {
         return (0..chance.below(17)).map(|_| chance.pick(&[0, 1, 2, 3, 3, 4, 4])).collect();
     }
-    let mut kinds = vec![MAILBOX_WRITE, MAILBOX_READ];
-    kinds.extend((0..1 + chance.below(6)).map(|_| chance.pick(&[DATA_WRITE, DATA_READ])));
+    let mut kinds = vec![MAILBOX_WRITE, MAILBOX_READ, DATA_WRITE, DATA_READ];
+    kinds.extend((0..chance.below(5)).map(|_| chance.pick(&[DATA_WRITE, DATA_READ])));
     kinds
 }
 
@@ -238,7 +238,8 @@ fn fill_nine(chance: &Chance, sheet: &mut Sheet, table: &mut Vec<(u16, u8)>) {
     sheet.pdos.clear();
     for number in first..first + 9 {
         sheet.managers.push(Manager { start: chance.pair(), control: 0x20, enable: 1, usage });
-        let (index, lengths) = if number < first + 8 { (COUNTED, mapping_of(8_191)) } else { (REST, mapping_of(41 + chance.below(32))) };
+        let (index, lengths) =
+            if number < first + 8 { (COUNTED, mapping_of(8_191)) } else { (REST, mapping_of(41 + chance.below(32))) };
         sheet.pdos.push(Pdo { kind: COE, manager: number, index, lengths });
     }
     // the read mailbox, without which there is no CoE, may have been cut off

@@ -73,10 +73,7 @@ impl Item {
             let fields: String = self.places().iter().map(field).collect();
             format!("Some(Self {{ {fields} }})")
         };
-        format!(
-            "impl crate::wire::FromWire for {} {{ fn from_wire(number: u128) -> Option<Self> {{ {body} }} }}",
-            self.name
-        )
+        format!("impl crate::wire::FromWire for {} {{ fn from_wire(number: u128) -> Option<Self> {{ {body} }} }}", self.name)
     }
 
     fn writing(&self) -> String {
