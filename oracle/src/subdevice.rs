@@ -1,0 +1,107 @@
+//! A stand-in for the crate's handle on a device: reads answered from the sheet, registers in two areas. Below it, as in
+//! the crate, stand two files of the text.
+
+use crate::SubIndex;
+use crate::eeprom::{Eeprom, types::SiiOwner};
+use crate::error::Error;
+use crate::mailbox::coe::SdoExpeditedPayload;
+use crate::register::{Areas, RegisterAddress};
+use crate::sheet::{COE, Sheet};
+use crate::subdevice_state::SubDeviceState;
+use crate::wire::{FromWire, ToWire};
+use std::cell::RefCell;
+use std::ops::Deref;
+
+#[allow(unused)]
+pub mod types {
+    include!(concat!(env!("TUGMERANT_CRATE_TEXT"), "/src/subdevice/types.rs.txt"));
+}
+#[allow(unused)]
+pub mod configuration {
+    include!(concat!(env!("TUGMERANT_CRATE_TEXT"), "/src/subdevice/configuration.rs.txt"));
+}
+
+#[derive(Default)]
+pub struct SubDevice {
+    pub config: types::SubDeviceConfig,
+    pub oversampling_config: Vec<(u16, u8)>,
+}
+
+/// The network, with one device on it.
+pub struct MainDevice<'a> {
+    pub sheet: &'a Sheet,
+    pub areas: &'a RefCell<Areas>,
+}
+
+pub struct SubDeviceRef<'a, S> {
+    pub maindevice: &'a MainDevice<'a>,
+    pub configured_address: u16,
+    pub state: S,
+}
+
+impl<S: Deref<Target = SubDevice>> Deref for SubDeviceRef<'_, S> {
+    type Target = SubDevice;
+
+    fn deref(&self) -> &SubDevice {
+        &self.state
+    }
+}
+
+impl<'a, S> SubDeviceRef<'a, S> {
+    fn eeprom(&self) -> Eeprom<'a> {
+        Eeprom { sheet: self.maindevice.sheet }
+    }
+
+    async fn set_eeprom_mode(&self, _owner: SiiOwner) -> Result<(), Error> {
+        Ok(())
+    }
+
+    async fn request_subdevice_state(&self, _state: SubDeviceState) -> Result<(), Error> {
+        Ok(())
+    }
+
+    async fn state(&self) -> Result<SubDeviceState, Error> {
+        Ok(SubDeviceState::PreOp)
+    }
+
+    fn read(&self, address: RegisterAddress) -> Command {
+        Command { address }
+    }
+
+    fn write(&self, address: RegisterAddress) -> Command {
+        Command { address }
+    }
+
+    /// Objects 0x1C10 to 0x1C1F list the CoE PDOs that name a sync manager, every other object is a PDO's mapping: at
+    /// sub-index 0 how many follow, then each.
+    async fn sdo_read_expedited<T: SdoExpeditedPayload>(&self, object: u16, at: SubIndex) -> Result<T, Error> {
+        let mut pdos = self.maindevice.sheet.pdos.iter().filter(|pdo| pdo.kind == COE);
+        let values: Vec<u32> = if (0x1c10..0x1c20).contains(&object) {
+            pdos.filter(|pdo| u16::from(pdo.manager) == object - 0x1c10).map(|pdo| pdo.index.into()).collect()
+        } else {
+            let pdo = pdos.find(|pdo| pdo.index == object).expect("only what the sheet lists is asked for");
+            // the object that is mapped isn't in the sheet; its bits must not be read as a length
+            pdo.lengths.iter().map(|bits| 0x6000_0100 | u32::from(*bits)).collect()
+        };
+        let SubIndex::Index(at) = at;
+        let number = if at == 0 { values.len() as u32 } else { values[usize::from(at) - 1] };
+        Ok(T::from_wire(number.into()).expect("every number is named"))
+    }
+}
+
+/// A register that is to be read or written.
+struct Command {
+    address: RegisterAddress,
+}
+
+impl Command {
+    async fn receive<T: FromWire>(self, maindevice: &MainDevice<'_>) -> Result<T, Error> {
+        let number = maindevice.areas.borrow_mut().read(&self.address);
+        Ok(T::from_wire(number).expect("an FMMU has no unnamed fields"))
+    }
+
+    async fn send(self, maindevice: &MainDevice<'_>, value: &impl ToWire) -> Result<(), Error> {
+        maindevice.areas.borrow_mut().write(&self.address, value.to_wire());
+        Ok(())
+    }
+}
