@@ -157,13 +157,18 @@ def answers(q):
         before = answer
 
 
-def main():
+def answer_all(stream):
+    """The lines that answer a stream of requests; a bad request ends them."""
     try:
-        for q in requests(sys.stdin.buffer):
-            for line in answers(q):
-                print(line)
+        for q in requests(stream):
+            yield from answers(q)
     except BadRequest:
-        print("bad request")
+        yield "bad request"
+
+
+def main():
+    for line in answer_all(sys.stdin.buffer):
+        print(line)
 
 
 if __name__ == "__main__":

@@ -1,9 +1,9 @@
 #!/usr/bin/env python3
 """Checks samples/ and the outputs that docs/TRAINING.md shows against the model.
 
-    python3 tests/samples.py          each samples/NAME.out is what the model answers for samples/NAME.hex,
-                                      and each output of docs/TRAINING.md stands in one of them or in crates/probe/stdout
-    python3 tests/samples.py --write  makes each samples/NAME.out again, but bay.out: that one is copied from document 01
+    python3 tests/samples.py          each samples/NAME.out is what the model answers for samples/NAME.hex, and each
+                                      output of docs/TRAINING.md stands in one of them or in crates/probe/stdout
+    python3 tests/samples.py --write  makes each samples/NAME.out again, but bay.out: that is copied from document 01
     python3 tests/samples.py --run    runs ./plan on each samples/NAME.hex and compares what it prints
 """
 
