@@ -1,0 +1,149 @@
+"""Requests to translation and counting: both at every address in and around the ranges, and the limits of each."""
+
+from bays import IN, OUT, PAIR
+from build import FOUR, SAMPLE, area, coe, eeprom, entry, managers, on_coe, on_eeprom, sheet
+from lesson import STALE, planned
+from registers import LIMIT
+from samples import sample
+from stream import Request
+
+GAP, OWN = sample("gap"), sample("gap-eeprom")
+# the second sync manager's inputs stand before the first's
+SWAPPED = on_coe(coe(3, IN, 16), coe(4, IN + 1, 8), rows=FOUR + managers((0x117F, 0x20, 1, 4)))
+# an empty sync manager between the two doesn't part them
+EMPTY_BETWEEN = on_coe(coe(3, IN, 24), coe(5, IN + 1, 16), rows=FOUR + managers((0x4000, 0x20, 1, 4)) + PAIR)
+# inputs that end past the last device address
+AT_THE_END = on_eeprom(eeprom(1, 0, IN, 24), rows=managers((0xFFFE, 0x20, 1, 4)))
+LARGE = on_eeprom(eeprom(1, 0, IN, 65_528), rows=managers((0x1000, 0x20, 1, 4)))
+
+def both_sides(name, data, passes, fmmus, window, letters="ATC", table=()):
+    """Both directions over a window (first address, how many), counted from the offset of each pass."""
+    first, many = window
+    for write, offset in sorted(passes):
+        counted = dict(a=offset, sheet=data, table=list(table))
+        parts = {"A": {**counted, "fmmus": fmmus}, "T": {"fmmus": fmmus}, "C": counted}
+        for letter in letters:
+            title = f"{name}: {'outputs' if write else 'inputs'}"
+            yield title, Request(letter, write, c=first, times=many, **parts[letter])
+
+
+def agreeing():
+    orders = {"inputs first": [(0, 0), (1, 5)], "outputs first": [(1, 100), (0, 102)], "apart": [(1, 3), (0, 20)]}
+    for name, data in (("the sample", SAMPLE), ("a gap", GAP)):
+        for order, passes in orders.items():
+            first = max(0, min(offset for _, offset in passes) - 3)
+            window = first, max(offset for _, offset in passes) + 10 - first
+            yield from both_sides(f"{name}, {order}", data, passes, planned(data, passes), window)
+    for name, data in (("a gap, EEPROM", OWN), ("swapped", SWAPPED), ("empty between", EMPTY_BETWEEN)):
+        passes = [(0, 2), (1, 9)]
+        yield from both_sides(name, data, passes, planned(data, passes), (0, 16), "A")
+
+
+def far():
+    """Addresses near 0 and near 2^32 for a pass that ends at the last offset."""
+    passes = [(0, LIMIT - 5), (1, 0)]
+    fmmus = planned(SAMPLE, passes)
+    for name, window in (("near 2^32", (LIMIT - 9, 20)), ("near 0", (0, 6))):
+        yield from both_sides(f"the sample, {name}", SAMPLE, passes, fmmus, window)
+    passes = [(0, 1)]
+    yield from both_sides("inputs at 0xfffe", AT_THE_END, passes, planned(AT_THE_END, passes), (0, 6))
+    passes = [(0, 10)]
+    yield from both_sides("8,191 bytes", LARGE, passes, planned(LARGE, passes), (0, 8_210), "A")
+
+
+def tables():
+    table, passes = [(IN, 2), (IN, 9), (OUT, 0)], [(0, 4), (1, 30)]
+    fmmus = planned(SAMPLE, passes, table=table)
+    yield from both_sides("the pass's table", SAMPLE, passes, fmmus, (0, 40), "AC", table)
+    yield from both_sides("another table", SAMPLE, passes, fmmus, (0, 40), "A")
+    yield "another start offset", Request("A", a=5, times=16, sheet=SAMPLE, table=table, fmmus=fmmus)
+
+
+def stale():
+    """Last spring's fault, and the same passes on a fresh area."""
+    passes = [(0, 5), (1, 10)]
+    for name, fmmus in (("a stale entry", STALE), ("a fresh area", area())):
+        yield from both_sides(name, SAMPLE, passes, planned(SAMPLE, passes, fmmus), (0, 15), "TC")
+
+
+def translation():
+    two = area(entry(10, 4, 0x1000), entry(12, 4, 0x2000))
+    yield "the first of two entries that overlap decides", Request("T", fmmus=two, c=8, times=12)
+    turned = area(entry(12, 4, 0x2000), entry(10, 4, 0x1000))
+    yield "the first, in the other order", Request("T", fmmus=turned, c=8, times=12)
+    over = area(entry(0, 4, 0xFFFE), entry(0, 8, 0x3000))
+    yield "65,535 is named, 65,536 is none, whatever later entries say", Request("T", fmmus=over, times=10)
+    last = area(entry(LIMIT - 3, 65_535, 0x1000), first=15)
+    yield "an entry near 2^32", Request("T", fmmus=last, c=LIMIT - 5, times=9)
+    yield "it doesn't wrap", Request("T", fmmus=last, times=5)
+    yield "one of 65,535 bytes from 1", Request("T", fmmus=area(entry(1, 65_535, 0)), c=65_534, times=4)
+    yield "one of 65,535 bytes from 1, its start", Request("T", fmmus=area(entry(1, 65_535, 0)), times=4)
+    yield "length 0 holds nothing", Request("T", fmmus=area(entry(1, 0, 0x1000)), times=4)
+    rights = area(*[entry(4 * k, 4, 0x1000 * k, k) for k in range(4)])
+    for write in (0, 1, 255):
+        yield f"rights 0 to 3, direction {write}", Request("T", write, fmmus=rights, times=17)
+    yield "a disabled entry", Request("T", fmmus=area(entry(0, 4, 0x1000, on=0), entry(0, 2, 0x2000)), times=5)
+    yield "reserved bits set", Request("T", fmmus=area(entry(0, 4, 0x1000, reserved=True)), times=5)
+    yield "an area of zeros", Request("T", times=5, fmmus=area())
+    for size in (0, 255, 257):
+        yield f"area of {size}", Request("T", fmmus=bytes(size))
+
+
+def eleven():
+    for bits in ((1, 7, 0), (0, 6, 0), (0, 7, 1), (7, 0, 7), (4, 7, 0), (0, 3, 0), (0, 7, 4)):
+        yield f"bits {bits}", Request("T", fmmus=area(entry(0, 4, 0x1000, bits=bits)), times=5)
+    odd = dict(bits=(0, 0, 0))
+    yield "of length 0", Request("T", fmmus=area(entry(0, 0, 0x1000, **odd)))
+    yield "after the match", Request("T", fmmus=area(entry(0, 4, 0x1000), entry(9, 4, 0x1000, **odd)), c=2)
+    for write in (0, 1):
+        yield "of the input direction", Request("T", write, fmmus=area(entry(0, 4, 0x1000, 1, **odd)))
+        yield "of the output direction", Request("T", write, fmmus=area(entry(0, 4, 0x1000, 2, **odd)))
+        yield "of both directions", Request("T", write, fmmus=area(entry(0, 4, 0x1000, 3, **odd), first=15))
+        yield "of neither direction", Request("T", write, fmmus=area(entry(0, 4, 0x1000, 0, **odd)))
+    yield "disabled", Request("T", fmmus=area(entry(0, 4, 0x1000, on=0, **odd)))
+    yield "1 and 11", Request("T", fmmus=area(entry(0, 4, 0x1000, **odd), size=255))
+
+
+SEVEN = on_coe(coe(2, OUT, 8), coe(3, IN, 8), usages=())
+SIX = on_eeprom(eeprom(1, 1, IN, 65_529), eeprom(2, 0, OUT, 8))
+
+
+def counting():
+    refused = {
+        2: SAMPLE[:57],
+        3: sheet(0, 0, 0, version=2),
+        4: sheet(8, 0, 0),
+        5: on_eeprom(rows=managers((0, 0x23, 0, 0))),
+        6: SIX,
+        7: SEVEN,
+    }
+    for number, data in refused.items():
+        for write in (0, 1):
+            yield f"counting, {number}", Request("C", write, sheet=data, c=3)
+    yield "7 for inputs alone", Request("C", sheet=on_coe(coe(3, IN, 8), usages=(1,)))
+    yield "no 7 without bits", Request("C", sheet=on_coe(usages=()), times=3)
+    yield "6 and 9", Request("C", sheet=SIX, a=LIMIT)
+    yield "7 and 9", Request("C", sheet=SEVEN, a=LIMIT)
+    yield "6 by the table", Request("C", sheet=SIX, table=[(IN, 0), (IN, 1)], times=3)
+    for start in (LIMIT - 6, LIMIT - 5, LIMIT - 4, LIMIT):
+        yield f"inputs from {start}", Request("C", a=start, c=LIMIT - 8, times=12, sheet=SAMPLE)
+    yield "0 bytes from the last offset", Request("C", a=LIMIT, c=LIMIT, sheet=on_eeprom())
+    yield "sync managers in rising number", Request("C", sheet=SWAPPED, times=5)
+    yield "an empty sync manager is passed over", Request("C", sheet=EMPTY_BETWEEN, times=7)
+
+
+def refused_sides():
+    odd = area(entry(0, 4, 0x1180, bits=(1, 7, 0)))
+    yield "1 beside an address", Request("A", sheet=SAMPLE, fmmus=bytes(255))
+    yield "1 beside none", Request("A", sheet=SAMPLE, c=99)
+    yield "11 beside an address", Request("A", sheet=SAMPLE, fmmus=odd)
+    yield "none beside 2", Request("A", fmmus=area())
+    yield "an address beside 7", Request("A", sheet=SEVEN, fmmus=area(entry(0, 4, 0x1180)), times=6)
+    yield "none beside 9", Request("A", a=LIMIT, sheet=SAMPLE, fmmus=area())
+    yield "1 beside 2", Request("A")
+    yield "11 beside 6", Request("A", sheet=SIX, fmmus=odd)
+
+
+def ask():
+    for part in (agreeing, far, tables, stale, translation, eleven, counting, refused_sides):
+        yield from part()

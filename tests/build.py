@@ -1,0 +1,71 @@
+"""Making sheets and register areas for the requests."""
+
+from registers import FMMU, image
+from stream import packed
+
+# document 01's sample
+SAMPLE = bytes.fromhex(
+    "00 38 01 03 00 80 00 80 05 02 03"
+    "10 00 26 01 01 10 80 22 01 02 11 00 64 01 03"
+    "11 80 20 01 04 11 83 20 01 04 01 02"
+    "00 03 1a 00 02 0c 05 00 04 1a 01 02 08 01"
+    "00 02 16 00 01 10"
+)
+
+
+def managers(*rows):
+    """Each row: start, control, enable byte, usage."""
+    return [packed(row, [2, 1, 1, 1]) for row in rows]
+
+
+def coe(manager, index, *bits):
+    return packed([0, manager, index, len(bits)], [1, 1, 2, 1]) + bytes(bits)
+
+
+def eeprom(kind, manager, index, bits):
+    return packed([kind, manager, index, 2, bits], [1, 1, 2, 1, 2])
+
+
+def sheet(flags, receive, send, rows=(), usages=(), pdos=(), version=1, more=0):
+    """A sheet; `more` is added to L."""
+    body = packed([version, flags, receive, send, len(rows), len(usages), len(pdos)], [1, 1, 2, 2, 1, 1, 1])
+    body += b"".join(rows) + bytes(usages) + b"".join(pdos)
+    return packed([len(body) + more], [2]) + body
+
+
+# the usual two mailboxes, then outputs on sync manager 2 and inputs on 3
+BOXES = ((0x1000, 0x26, 1, 1), (0x1080, 0x22, 1, 2))
+FOUR = managers(*BOXES, (0x1100, 0x64, 1, 3), (0x1180, 0x20, 1, 4))
+# the same process data without mailboxes: outputs on 0, inputs on 1
+TWO = managers((0x1100, 0x64, 1, 3), (0x1180, 0x20, 1, 4))
+
+
+def on_coe(*pdos, rows=FOUR, usages=(1, 2), **words):
+    return sheet(3, 128, 128, rows, usages, pdos, **words)
+
+
+def on_eeprom(*pdos, rows=TWO, usages=(), **words):
+    return sheet(0, 0, 0, rows, usages, pdos, **words)
+
+
+def entry(logical, length, physical, rights=1, on=1, bits=(0, 7, 0), reserved=False):
+    """An entry's sixteen bytes; rights: 1 read, 2 write; reserved bits all clear or all set."""
+    values = [logical, length, bits[0], bits[1], physical, bits[2], rights & 1, rights >> 1, on]
+    new = image(FMMU, values, 16)
+    if reserved:
+        named = image(FMMU, [(1 << width) - 1 for _, width in FMMU], 16)
+        new = bytes(byte | 255 & ~kept for byte, kept in zip(new, named))
+    return new
+
+
+def area(*entries, first=0, size=256):
+    """An FMMU area that is zero but for the given entries, from the entry `first` on."""
+    new = bytearray(size)
+    old = b"".join(entries)
+    new[16 * first : 16 * first + len(old)] = old
+    return bytes(new)
+
+
+def pattern(size):
+    """An area in which each byte differs from its neighbours, so that a byte moved or left out is seen."""
+    return bytes(i % 251 for i in range(size))

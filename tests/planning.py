@@ -1,0 +1,193 @@
+"""Document 01's passes, translation and counting, and what `lockerplan` prints.
+
+Worked out from document 01 alone: nothing here is read from the code that it is held against. An area is a bytearray
+that is lent; a pass that is refused leaves it alone. A table is a list of (PDO index, multiplier).
+"""
+
+from typing import NamedTuple
+
+from registers import CHANNEL, CONTROL, FMMU, LIMIT, MOST_BITS, Fmmu, Refused
+from registers import demand, fields, image, read_channel, read_fmmu, segment_text, size_of
+from sheet import COMPLETE_ACCESS, DATA_READ, DATA_WRITE, MAILBOX, MAILBOX_READ, MAILBOX_WRITE, read_sheet
+
+LAST_ADDRESS = 65_535
+MOST_LENGTH = 65_535
+
+
+class Way(NamedTuple):
+    """What a direction takes: the sync managers' usage, the FMMU usage and the EEPROM kind."""
+
+    usage: int
+    fmmu_usage: int
+    kind: int
+
+
+def way(write):
+    return Way(DATA_WRITE, 1, 2) if write else Way(DATA_READ, 2, 1)
+
+
+def entry_at(fmmus, e):
+    return read_fmmu(bytes(fmmus[16 * e : 16 * e + 16]))
+
+
+def write_manager(channels, k, manager, size):
+    """The image rule: sheet address and control, the size, status 0, enabled only with ENABLE and a size."""
+    enable = 1 if manager.enable and size > 0 else 0
+    values = [manager.start, size, *fields(CONTROL, [manager.control]), *[0] * 6, enable, *[0] * 5]
+    channels[8 * k : 8 * k + 8] = image(CHANNEL, values, 8)
+
+
+# ---- the mailbox pass
+
+
+def configure_mailboxes(data, channels):
+    """The read and the write mailbox, each (address, size, number) or None; CoE; complete access."""
+    demand({1: len(channels) != 128})
+    sheet = read_sheet(data)
+    if not sheet.flag(MAILBOX):
+        return None, None, 0, 0
+    recorded = {MAILBOX_READ: None, MAILBOX_WRITE: None}
+    for k, manager in enumerate(sheet.managers):
+        if manager.usage in recorded:
+            size = sheet.receive if manager.usage == MAILBOX_WRITE else sheet.send
+            write_manager(channels, k, manager, size)
+            recorded[manager.usage] = manager.start, size, k
+    return recorded[MAILBOX_READ], recorded[MAILBOX_WRITE], int(sheet.coe()), sheet.flag(COMPLETE_ACCESS)
+
+
+# ---- the data passes
+
+
+def multiplier(table, index):
+    """The first match counts, none means 1."""
+    return next((times for named, times in table if named == index), 1)
+
+
+def wanted_bits(sheet, table, write):
+    """The exact bits of each wanted sync manager, by its number, rising."""
+    path = 0 if sheet.coe() else way(write).kind
+    bits = {k: 0 for k, manager in enumerate(sheet.managers) if manager.usage == way(write).usage}
+    for pdo in sheet.pdos:
+        if pdo.kind == path and pdo.manager in bits:
+            bits[pdo.manager] += pdo.bits * multiplier(table, pdo.index)
+    return bits
+
+
+def entries_used(sheet, bits, write):
+    """The entry of each sync manager that uses one; None where there is none to use."""
+    if not sheet.coe():
+        return {k: k for k in bits}
+    fmmu_usage = way(write).fmmu_usage
+    first = sheet.usages.index(fmmu_usage) if fmmu_usage in sheet.usages else None
+    return {k: first for k in bits if bits[k] > 0}
+
+
+def pass_rules(bits, used, offset):
+    """6, 7 and 9: the numbers that a data pass and counting share."""
+    return {
+        6: any(count > MOST_BITS for count in bits.values()),
+        7: None in used.values(),
+        9: offset + sum(map(size_of, bits.values())) > LIMIT,
+    }
+
+
+def grown(fmmus, bits, used):
+    """The exact length that each entry in use would have."""
+    lengths = {}
+    for k, e in used.items():
+        if e is not None:
+            old = entry_at(fmmus, e)
+            lengths.setdefault(e, old.length if old.enable else 0)
+            lengths[e] += size_of(bits[k])
+    return lengths
+
+
+def write_entry(fmmus, e, offset, size, start, write):
+    """A disabled entry is made new; an enabled one only grows."""
+    old = entry_at(fmmus, e)
+    if old.enable:
+        new = old._replace(length=old.length + size)
+    else:
+        new = Fmmu(offset, size, 0, 7, start, 0, 0 if write else 1, 1 if write else 0, 1)
+    fmmus[16 * e : 16 * e + 16] = image(FMMU, new, 16)
+
+
+def configure_fmmus(write, offset, group, data, table, fmmus, channels):
+    """The segment's start and end, less the group start, and the next offset."""
+    demand({1: len(fmmus) != 256 or len(channels) != 128})
+    sheet = read_sheet(data)
+    bits = wanted_bits(sheet, table, write)
+    used = entries_used(sheet, bits, write)
+    rules = pass_rules(bits, used, offset)
+    rules[8] = any(length > MOST_LENGTH for length in grown(fmmus, bits, used).values())
+    rules[10] = offset < group
+    demand(rules)
+    at = offset
+    for k in bits:
+        size = size_of(bits[k])
+        write_manager(channels, k, sheet.managers[k], size)
+        if k in used:
+            write_entry(fmmus, used[k], at, size, sheet.managers[k].start, write)
+        at += size
+    return offset - group, at - group, at
+
+
+# ---- both sides
+
+
+def in_reach(address):
+    return address if address <= LAST_ADDRESS else None
+
+
+def translate(write, fmmus, address):
+    """The device address that the FMMU bytes name, or None."""
+    demand({1: len(fmmus) != 256})
+    entries = [entry_at(fmmus, e) for e in range(16)]
+    speaking = [entry for entry in entries if entry.enable and (entry.write if write else entry.read)]
+    demand({11: any(entry.bit_fields() != (0, 7, 0) for entry in speaking)})
+    for entry in speaking:
+        if entry.logical_start <= address < entry.logical_start + entry.length:
+            return in_reach(entry.physical_start + address - entry.logical_start)
+    return None
+
+
+def count(write, offset, data, table, address):
+    """The sync manager, its byte and the device address (or None); None outside the pass's range."""
+    sheet = read_sheet(data)
+    bits = wanted_bits(sheet, table, write)
+    demand(pass_rules(bits, entries_used(sheet, bits, write), offset))
+    at = offset
+    for k in bits:
+        size = size_of(bits[k])
+        if at <= address < at + size:
+            return k, address - at, in_reach(sheet.managers[k].start + address - at)
+        at += size
+    return None
+
+
+# ---- the program
+
+
+def plan(data):
+    """Mailbox, input and output pass over zero areas: the two segments and both areas."""
+    fmmus, channels = bytearray(256), bytearray(128)
+    configure_mailboxes(data, channels)
+    start, end, offset = configure_fmmus(False, 0, 0, data, [], fmmus, channels)
+    inputs = start, end
+    start, end, _ = configure_fmmus(True, offset, 0, data, [], fmmus, channels)
+    return inputs, (start, end), fmmus, channels
+
+
+def lockerplan(data):
+    """The lines that the program prints for a sheet."""
+    try:
+        inputs, outputs, fmmus, channels = plan(data)
+    except Refused as refused:
+        return [f"refused {refused.args[0]}"]
+    lines = [f"inputs {segment_text(*inputs)}", f"outputs {segment_text(*outputs)}"]
+    for k in range(len(read_sheet(data).managers)):
+        lines.append(f"SM{k}: {read_channel(bytes(channels[8 * k : 8 * k + 8])).text()}")
+    for e in range(16):
+        if entry_at(fmmus, e).enable:
+            lines.append(f"FMMU{e}: {entry_at(fmmus, e).text()}")
+    return lines

@@ -1,0 +1,64 @@
+#!/usr/bin/env python3
+"""Writes the requests of crates/probe/stdin (docs/PROBE.md).
+
+    python3 tests/requests.py > crates/probe/stdin      the requests
+    python3 tests/requests.py --names                   each request's name, after the line of crates/probe/stdout
+                                                        at which its answer begins
+"""
+
+import sys
+
+import ask_passes
+import ask_registers
+import ask_sheets
+import ask_sides
+import lesson
+import model
+from bays import IN, OUT
+from build import SAMPLE, coe, on_coe
+from samples import samples
+from stream import Request
+
+# inputs refused with 7, outputs with 6: the first pass refused is named
+SEVEN_THEN_SIX = on_coe(coe(3, IN, 1), *[coe(2, OUT + k, *[255] * 255) for k in range(2)], usages=(1,))
+
+
+def programs():
+    for path, sheet in samples():
+        yield f"lockerplan, {path.stem}", Request("L", sheet=sheet)
+    yield "lockerplan, no bytes", Request("L")
+    yield "lockerplan, cut short", Request("L", sheet=SAMPLE[:-1])
+    yield "lockerplan, inputs refused with 7 and outputs with 6", Request("L", sheet=SEVEN_THEN_SIX)
+
+
+def others():
+    for letter in "aBz\0\xff":
+        yield "no such letter", Request(letter)
+    yield "one answer for several values", Request("d", c=7, times=3, sheet=SAMPLE)
+
+
+def ask():
+    """Each request with its name, in the order of the stream."""
+    for part in (ask_registers.ask, ask_sheets.ask, ask_passes.ask, ask_sides.ask, lesson.ask, programs, others):
+        yield from part()
+
+
+# the last request ends the run: its sheet is one byte short
+CUT = Request("d", sheet=SAMPLE).bytes()[:-1]
+
+
+def main():
+    if sys.argv[1:] == ["--names"]:
+        line = 1
+        for name, request in ask():
+            print(line, name)
+            line += "\n".join(model.answers(request)).count("\n") + 1
+        print(line, "a request cut short")
+        return
+    for _, request in ask():
+        sys.stdout.buffer.write(request.bytes())
+    sys.stdout.buffer.write(CUT)
+
+
+if __name__ == "__main__":
+    main()

@@ -1,0 +1,91 @@
+"""The requests of docs/PROBE.md: making one, and reading them off a stream."""
+
+from typing import NamedTuple
+
+from registers import Channel, Fmmu
+
+HEAD = [1, 1, 2, 4, 4, 4, 4, 2, 2, 2, 2]  # bytes of each number of a request's head
+MOST = [512, 16_387, 256, 512, 512]  # room, bytes of the sheet, records of the table, bytes of the two parts
+FMMU_RECORD = [4, 2, 1, 1, 2, 1, 1, 1, 1]
+CHANNEL_RECORD = [2, 2] + [1] * 17
+
+
+class BadRequest(Exception):
+    """A request that is cut short or longer than it may be."""
+
+
+class Request(NamedTuple):
+    letter: str
+    write: int = 0
+    room: int = 0
+    a: int = 0
+    b: int = 0
+    c: int = 0
+    times: int = 0
+    sheet: bytes = b""
+    table: list = []
+    fmmus: bytes = b""
+    channels: bytes = b""
+
+    def wide(self, high):
+        """The bits that c is the low half of."""
+        return high * 2**32 + self.c
+
+    def bytes(self):
+        """The request as it stands on the stream."""
+        counts = [len(part) for part in (self.sheet, self.table, self.fmmus, self.channels)]
+        head = [ord(self.letter), self.write, self.room, self.a, self.b, self.c, self.times, *counts]
+        table = b"".join(packed(record, [2, 1]) for record in self.table)
+        return packed(head, HEAD) + self.sheet + table + self.fmmus + self.channels
+
+
+def packed(values, widths):
+    """Big-endian numbers, one after another."""
+    assert len(values) == len(widths)
+    return b"".join(value.to_bytes(width, "big") for value, width in zip(values, widths))
+
+
+def numbers(data, widths):
+    """The big-endian numbers that stand one after another."""
+    values, at = [], 0
+    for width in widths:
+        values.append(int.from_bytes(data[at : at + width], "big"))
+        at += width
+    return values
+
+
+def take(stream, count):
+    data = stream.read(count)
+    if len(data) < count:
+        raise BadRequest
+    return data
+
+
+def requests(stream):
+    """Each request of the stream; BadRequest where one is no request."""
+    while head := stream.read(sum(HEAD)):
+        if len(head) < sum(HEAD):
+            raise BadRequest
+        letter, write, room, a, b, c, times, *counts = numbers(head, HEAD)
+        if any(count > most for count, most in zip([room, *counts], MOST)):
+            raise BadRequest
+        sheet, table, fmmus, channels = counts
+        sheet, records, fmmus, channels = [take(stream, n) for n in (sheet, 3 * table, fmmus, channels)]
+        table = [tuple(numbers(records[i : i + 3], [2, 1])) for i in range(0, len(records), 3)]
+        yield Request(chr(letter), write, room, a, b, c, times, sheet, table, fmmus, channels)
+
+
+def fmmu_record(data):
+    if len(data) != sum(FMMU_RECORD):
+        raise BadRequest
+    *values, read, write, enable = numbers(data, FMMU_RECORD)
+    return Fmmu(*values, *(int(flag > 0) for flag in (read, write, enable)))
+
+
+def channel_record(data):
+    if len(data) != sum(CHANNEL_RECORD):
+        raise BadRequest
+    record = Channel(*numbers(data, CHANNEL_RECORD))
+    start, length, mode, *flags = record
+    flags = [int(flag > 0) for flag in flags]
+    return Channel(start, length, 2 if mode else 0, *flags)._replace(buffer_state=record.buffer_state % 4)
