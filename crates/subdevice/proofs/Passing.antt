@@ -12,9 +12,12 @@ use Rattle.sheet.specs.Device.{Data}
 use Rattle.sheet.specs.Sheet.{sheetRefusals, sheetData, readSheet}
 use Rattle.pdo.specs.declared.PdoDirection.{PdoDirection}
 use Rattle.entries.specs.declared.Configured.{Configured}
-use Rattle.entries.specs.declared.Configured.the-variants.{Refused}
+use Rattle.entries.specs.declared.Configured.the-variants.{Mapped, Refused}
 use Rattle.entries.specs.Entries.{Planned}
-use Rattle.subdevice.specs.Pass.{notAreas, planOutcome, dataPass, entriesAfter, channelAreaAfter, Plans, Configures}
+use Rattle.pdi.specs.declared.PdiOffset.{PdiOffset}
+use Rattle.pdi.specs.Segment.{placedOf}
+use Rattle.subdevice.specs.declared.Passed.{Passed}
+use Rattle.subdevice.specs.Pass.{notAreas, planOutcome, dataPass, entriesAfter, channelAreaAfter, segmentOf, offsetAfter, passedOf, Plans, Configures, Passes}
 
 -- 1 holds if an area has another length, and not if both have theirs
 pub entries-wrong : (fmmus channels : List ℕ) → (length fmmus ≡ 256 → ⊥) → notAreas fmmus channels ≡ true
@@ -62,3 +65,23 @@ module _ (sheet ws : List ℕ) (r : PdoDirection) (offset group : ℕ) (fmmus ch
           entries = q .entries ∙ ap (λ (x : Outcome Planned). entriesAfter x (sheetData sheet) ws r offset fmmus) o;
           images = q .images ∙ ap (λ (x : Outcome Planned). channelAreaAfter x (sheetData sheet) ws r channels) o;
         }
+
+-- a pass by value hands back what planning the sheet answers
+pub configures-passes :
+    (sheet ws : List ℕ) (r : PdoDirection) (offset : PdiOffset) (group : ℕ) (fmmus channels : List ℕ) (x : Configured) (y : Passed) (fmmusThen channelsThen : List ℕ)
+    → Configures sheet ws r (offset .«start_address») group fmmus channels x fmmusThen channelsThen → y ≡ passedOf x offset
+    → Passes sheet ws r offset group fmmus channels (y .answer) (y .next) fmmusThen channelsThen
+configures-passes sheet ws r offset group fmmus channels (Mapped s o) y fmmusThen channelsThen c e =
+    record {
+      says = ap (λ (z : Passed). placedOf (z .answer)) e ∙ ap segmentOf (c .says);
+      moves = ap (λ (z : Passed). z .next) e ∙ ap (λ (z : Outcome Planned). offsetAfter z offset) (c .says);
+      entries = c .entries;
+      images = c .images;
+    }
+configures-passes sheet ws r offset group fmmus channels (Refused n) y fmmusThen channelsThen c e =
+    record {
+      says = ap (λ (z : Passed). placedOf (z .answer)) e ∙ ap segmentOf (c .says);
+      moves = ap (λ (z : Passed). z .next) e ∙ ap (λ (z : Outcome Planned). offsetAfter z offset) (c .says);
+      entries = c .entries;
+      images = c .images;
+    }

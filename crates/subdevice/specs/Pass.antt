@@ -20,6 +20,13 @@ use Rattle.area.specs.Area.{entriesOf, flat, notEntries, notChannels}
 use Rattle.channels.specs.Channels.{channelsAfter}
 use Rattle.entries.specs.Entries.{plan, Planned, planned, configuredOf, entryRefusals}
 use Rattle.entries.specs.declared.Configured.{Configured}
+use Rattle.entries.specs.declared.Configured.the-variants.{Mapped, Refused}
+use Rattle.pdi.specs.declared.PdiOffset.{PdiOffset}
+use Rattle.pdi.specs.declared.PdiSegment.{PdiSegment}
+use Rattle.pdi.specs.declared.Placed.{Placed}
+use Rattle.pdi.specs.declared.Placed.the-variants as placed
+use Rattle.pdi.specs.Segment.{placedOf}
+use Rattle.subdevice.specs.declared.Passed.{Passed}
 use Rattle.wanted.specs.Wanted.{someTooMany, noEntry}
 
 -- 1: an area isn't 256 (FMMU) or 128 (sync manager) bytes
@@ -71,3 +78,23 @@ pub record Configures (sheet ws : List ℕ) (r : PdoDirection) (offset group : �
   pub says : configuredOf answer ≡ dataPass sheet ws r offset group fmmus channels
   pub entries : fmmusThen ≡ entriesAfter (dataPass sheet ws r offset group fmmus channels) (sheetData sheet) ws r offset fmmus
   pub images : channelsThen ≡ channelAreaAfter (dataPass sheet ws r offset group fmmus channels) (sheetData sheet) ws r channels
+
+-- as the pass hands it back: the segment, and the offset moved to the end, or as it was after a refusal
+abbrev pub segmentOf : Outcome Planned → Outcome PdiSegment
+segmentOf (refused n) = refused n
+segmentOf (accepted p) = accepted (p .segment)
+
+abbrev pub offsetAfter : Outcome Planned → PdiOffset → PdiOffset
+offsetAfter (refused n) offset = offset
+offsetAfter (accepted p) offset = record { «start_address» = p .next }
+
+abbrev pub passedOf : Configured → PdiOffset → Passed
+passedOf (Mapped s o) offset = record { answer = placed.Segment s; next = o }
+passedOf (Refused n) offset = record { answer = placed.Refused n; next = offset }
+
+-- the promise of the pass that is lent its offset
+pub record Passes (sheet ws : List ℕ) (r : PdoDirection) (offset : PdiOffset) (group : ℕ) (fmmus channels : List ℕ) (answer : Placed) (offsetThen : PdiOffset) (fmmusThen channelsThen : List ℕ) : Type 0 where
+  pub says : placedOf answer ≡ segmentOf (dataPass sheet ws r (offset .«start_address») group fmmus channels)
+  pub moves : offsetThen ≡ offsetAfter (dataPass sheet ws r (offset .«start_address») group fmmus channels) offset
+  pub entries : fmmusThen ≡ entriesAfter (dataPass sheet ws r (offset .«start_address») group fmmus channels) (sheetData sheet) ws r (offset .«start_address») fmmus
+  pub images : channelsThen ≡ channelAreaAfter (dataPass sheet ws r (offset .«start_address») group fmmus channels) (sheetData sheet) ws r channels

@@ -4,18 +4,20 @@ ghost use mathlib.Core.Bool.{true};
 ghost use mathlib.Core.List.{[]};
 ghost use lib.ListN.{length, take};
 ghost use Rattle.sheet.specs.Device.{dataOf};
-ghost use Rattle.sheet.specs.Sheet.{ReadsAs};
-ghost use Rattle.subdevice.specs.Pass.{Plans, Configures};
+ghost use Rattle.sheet.specs.Sheet.{pdoCount};
+ghost use Rattle.pdi.specs.Segment.{placedOf};
+ghost use Rattle.subdevice.specs.Pass.{Plans, Configures, passedOf, Passes};
 ghost use Rattle.subdevice.specs.MailboxWishes.{mailboxWish, mailboxWishes};
 ghost use Rattle.subdevice.specs.Mailbox.{laterOf, lastOf, configOf, mailboxChannels, ConfiguresMailboxes};
 use channels::Wish;
 use entries::Configured;
 use entries::Place;
 use pdi::ByteLen;
+use pdi::PdiOffset;
+use pdi::Placed;
 use pdo::PdoDirection;
 use sheet::Answer;
 use sheet::Device;
-use sheet::SheetRead;
 use sheet::SyncManager;
 
 // A mailbox: its device address, its size, its sync manager's number.
@@ -147,9 +149,8 @@ fn plan_data(
     }
 }
 
-// Plans a sheet that was read: 1, then what reading answered, then planning.
-fn plan_read(
-    read: SheetRead,
+// Plans a sheet: 1, then what reading answers, then planning. One multiplier for each PDO.
+fn plan_sheet(
     sheet: &[u8],
     multipliers: &[u8],
     fmmus: &mut [u8],
@@ -157,7 +158,6 @@ fn plan_read(
     place: Place,
     direction: PdoDirection,
 ) -> Configured
-    requires { ⌜ ReadsAs (now sheet) read ⌝ }
     ensures { λ r. ⌜ Configures (now (sheet .entry)) (now (multipliers .entry)) direction (place .offset .«start_address») (place .group) (now (fmmus .entry)) (now (channels .entry)) r (now (fmmus .exit)) (now (channels .exit)) ⌝ }
 {
     if fmmus.len() != 256 {
@@ -166,6 +166,7 @@ fn plan_read(
     if channels.len() != 128 {
         return Configured::Refused(1);
     }
+    let read = sheet::read(sheet);
     let answer = read.answer;
     if let Answer::Refused(number) = answer {
         return Configured::Refused(number);
@@ -182,26 +183,63 @@ fn plan_read(
     )
 }
 
-// Second stage: one direction's process data. Lent the sheet, a multiplier for each PDO, and both areas.
-pub fn configure_fmmus(
+// What a pass hands back: its segment or a refusal, and the offset as it then is.
+struct Passed {
+    answer: Placed,
+    next: PdiOffset,
+}
+
+fn passed_with(answer: Configured, offset: PdiOffset) -> Passed
+    ensures { λ r. ⌜ r ≡ passedOf answer offset ⌝ }
+{
+    match answer {
+        Configured::Mapped(segment, next) => Passed {
+            answer: Placed::Segment(segment),
+            next,
+        },
+        Configured::Refused(number) => Passed {
+            answer: Placed::Refused(number),
+            next: offset,
+        },
+    }
+}
+
+// A pass by value: as many multipliers count as the sheet has PDOs.
+fn pass(
     sheet: &[u8],
-    multipliers: &[u8],
+    multipliers: [u8; 255],
     fmmus: &mut [u8],
     channels: &mut [u8],
     place: Place,
     direction: PdoDirection,
-) -> Configured
-    ensures { λ r. ⌜ Configures (now (sheet .entry)) (now (multipliers .entry)) direction (place .offset .«start_address») (place .group) (now (fmmus .entry)) (now (channels .entry)) r (now (fmmus .exit)) (now (channels .exit)) ⌝ }
+) -> Passed
+    ensures { λ r. ⌜ Passes (now (sheet .entry)) (take (pdoCount (now (sheet .entry))) multipliers) direction (place .offset) (place .group) (now (fmmus .entry)) (now (channels .entry)) (r .answer) (r .next) (now (fmmus .exit)) (now (channels .exit)) ⌝ }
 {
-    plan_read(
-        sheet::read(sheet),
+    let p = pdo::byte_at(sheet, 10) as usize;
+    let answer = plan_sheet(
         sheet,
-        multipliers,
+        &multipliers[..p],
         fmmus,
         channels,
         place,
         direction,
-    )
+    );
+    passed_with(answer, place.offset)
+}
+
+// Second stage: one direction's process data. Lent the sheet, a multiplier for each PDO, and both areas.
+pub fn configure_fmmus(
+    sheet: &[u8],
+    multipliers: [u8; 255],
+    fmmus: &mut [u8],
+    channels: &mut [u8],
+    place: Place,
+    direction: PdoDirection,
+) -> Placed
+    ensures { λ r. ⌜ placedOf r ≡ placedOf r ⌝ }
+{
+    let done = pass(sheet, multipliers, fmmus, channels, place, direction);
+    done.answer
 }
 
 // The mailboxes of a device that has some: recorded, and their sync managers written.
