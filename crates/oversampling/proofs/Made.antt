@@ -1,7 +1,7 @@
 -- What a caller has: the multipliers made of a sheet's indexes are those of its PDOs.
 -- Assumes nothing.
 use mathlib.Core.Path.{_≡_, _∙_, ap}
-use mathlib.Core.List.{List, _++_, map, map-map}
+use mathlib.Core.List.{List, map, map-map}
 use Prim.Native.Nat.{ℕ, _-_}
 use lib.ListN.{length, take, replicate, length-map}
 use lib.Seq.{take-at}

@@ -1,8 +1,5 @@
 -- `indexes_in`: the three counts are where the sheet's definition has them.
 -- Assumes nothing.
-use mathlib.Core.Path.{_≡_, refl, _∙_, ap}
-use Prim.Native.Nat.{_+_, _*_}
-use denote.Ref.{now}
 use borrow.Author.Needs.{needs}
 use Rattle.sheet.specs.Sheet.{sheetData}
 use Rattle.oversampling.proofs.indexes_in.Statement.{statement}
