@@ -4,7 +4,7 @@ ghost use Prim.Native.Nat.{_+_, _≤_};
 ghost use lib.ListN.{take};
 ghost use Rattle.wire.specs.Outcome.{accepted};
 ghost use Rattle.sheet.specs.Device.{dataOf};
-ghost use Rattle.sheet.specs.Sheet.{ReadsAs};
+ghost use Rattle.sheet.specs.Sheet.{pdoCount};
 ghost use Rattle.counting.specs.Count as meaning;
 ghost use Rattle.counting.specs.Count.{countedOf, spotBy, orNext, after, endFrom, foundFrom, countData};
 use channels::Wish;
@@ -12,7 +12,6 @@ use pdi::PdiOffset;
 use pdo::PdoDirection;
 use sheet::Answer;
 use sheet::Device;
-use sheet::SheetRead;
 use sheet::SyncManager;
 use translation::Reached;
 
@@ -125,18 +124,17 @@ fn count_data(
     laid.found
 }
 
-// Counts a sheet that was read: what reading answered, then the rest.
-fn count_read(
-    read: SheetRead,
+// Counts a sheet: what reading answers, then the rest. One multiplier for each PDO.
+fn count_sheet(
     sheet: &[u8],
     multipliers: &[u8],
     offset: PdiOffset,
     direction: PdoDirection,
     address: u32,
 ) -> Counted
-    requires { ⌜ ReadsAs (now sheet) read ⌝ }
     ensures { λ r. ⌜ countedOf r ≡ meaning.count direction address (now (sheet .entry)) (now (multipliers .entry)) (offset .«start_address») ⌝ }
 {
+    let read = sheet::read(sheet);
     let answer = read.answer;
     if let Answer::Refused(number) = answer {
         return Counted::Refused(number);
@@ -145,22 +143,16 @@ fn count_read(
     count_data(device, sheet, multipliers, offset, direction, address)
 }
 
-// Which byte of which sync manager a pass of the sheet from the offset on maps to a logical address; or 2 to 7 or 9.
+// Counting by value: as many multipliers count as the sheet has PDOs.
 pub fn count(
     sheet: &[u8],
-    multipliers: &[u8],
+    multipliers: [u8; 255],
     offset: PdiOffset,
     direction: PdoDirection,
     address: u32,
 ) -> Counted
-    ensures { λ r. ⌜ countedOf r ≡ meaning.count direction address (now (sheet .entry)) (now (multipliers .entry)) (offset .«start_address») ⌝ }
+    ensures { λ r. ⌜ countedOf r ≡ meaning.count direction address (now (sheet .entry)) (take (pdoCount (now (sheet .entry))) multipliers) (offset .«start_address») ⌝ }
 {
-    count_read(
-        sheet::read(sheet),
-        sheet,
-        multipliers,
-        offset,
-        direction,
-        address,
-    )
+    let p = pdo::byte_at(sheet, 10) as usize;
+    count_sheet(sheet, &multipliers[..p], offset, direction, address)
 }

@@ -41,7 +41,7 @@ pub moved-determined : (x : Moved) → moved-back (movedOf x) ≡ x
 moved-determined (moved.To o) = refl
 moved-determined (moved.Refused n) = refl
 
-abbrev placed-back : Outcome PdiSegment → Placed
+abbrev pub placed-back : Outcome PdiSegment → Placed
 placed-back (refused n) = placed.Refused n
 placed-back (accepted s) = placed.Segment s
 

@@ -1,19 +1,19 @@
 -- A data pass as code goes: the areas' lengths, then the sheet, then planning what was read.
 -- Assumes nothing.
-use mathlib.Core.Path.{_≡_, sym, _∙_, ap, subst}
+use mathlib.Core.Path.{_≡_, refl, sym, _∙_, ap, subst}
 use mathlib.Core.Bool.{true, false}
 use mathlib.Core.List.{List}
 use Prim.Native.Nat.{ℕ}
-use lib.ListN.{length}
+use lib.ListN.{length, getD, take}
 use borrow.Author.Tests.{eq-eqb, ne-eqb}
 use Rattle.wire.specs.Outcome.{Outcome, refused, accepted, first}
 use Rattle.wire.proofs.Order.{passed, passed-answer, stopped}
 use Rattle.sheet.specs.Device.{Data}
-use Rattle.sheet.specs.Sheet.{sheetRefusals, sheetData, readSheet}
+use Rattle.sheet.specs.Sheet.{sheetRefusals, sheetData, readSheet, pdoCount}
 use Rattle.pdo.specs.declared.PdoDirection.{PdoDirection}
 use Rattle.entries.specs.declared.Configured.{Configured}
 use Rattle.entries.specs.declared.Configured.the-variants.{Mapped, Refused}
-use Rattle.entries.specs.Entries.{Planned}
+use Rattle.entries.specs.Entries.{Planned, configuredOf}
 use Rattle.pdi.specs.declared.PdiOffset.{PdiOffset}
 use Rattle.pdi.specs.Segment.{placedOf}
 use Rattle.subdevice.specs.declared.Passed.{Passed}
@@ -66,22 +66,23 @@ module _ (sheet ws : List ℕ) (r : PdoDirection) (offset group : ℕ) (fmmus ch
           images = q .images ∙ ap (λ (x : Outcome Planned). channelAreaAfter x (sheetData sheet) ws r channels) o;
         }
 
--- a pass by value hands back what planning the sheet answers
-pub configures-passes :
-    (sheet ws : List ℕ) (r : PdoDirection) (offset : PdiOffset) (group : ℕ) (fmmus channels : List ℕ) (x : Configured) (y : Passed) (fmmusThen channelsThen : List ℕ)
-    → Configures sheet ws r (offset .«start_address») group fmmus channels x fmmusThen channelsThen → y ≡ passedOf x offset
-    → Passes sheet ws r offset group fmmus channels (y .answer) (y .next) fmmusThen channelsThen
-configures-passes sheet ws r offset group fmmus channels (Mapped s o) y fmmusThen channelsThen c e =
-    record {
-      says = ap (λ (z : Passed). placedOf (z .answer)) e ∙ ap segmentOf (c .says);
-      moves = ap (λ (z : Passed). z .next) e ∙ ap (λ (z : Outcome Planned). offsetAfter z offset) (c .says);
-      entries = c .entries;
-      images = c .images;
-    }
-configures-passes sheet ws r offset group fmmus channels (Refused n) y fmmusThen channelsThen c e =
-    record {
-      says = ap (λ (z : Passed). placedOf (z .answer)) e ∙ ap segmentOf (c .says);
-      moves = ap (λ (z : Passed). z .next) e ∙ ap (λ (z : Outcome Planned). offsetAfter z offset) (c .says);
-      entries = c .entries;
-      images = c .images;
-    }
+-- a pass by value hands back what planning the sheet answers, with as many multipliers as byte 10 says
+module _ (sheet all : List ℕ) (count : ℕ) (r : PdoDirection) (offset : PdiOffset) (group : ℕ) (fmmus channels : List ℕ) where
+  abbrev of : ℕ → Configured → List ℕ → List ℕ → Type 0
+  of n x fmmusThen channelsThen = Configures sheet (take n all) r (offset .«start_address») group fmmus channels x fmmusThen channelsThen
+
+  answered : (x : Configured) → (placedOf (passedOf x offset .answer) ≡ segmentOf (configuredOf x)) × (passedOf x offset .next ≡ offsetAfter (configuredOf x) offset)
+  answered (Mapped s o) = (refl, refl)
+  answered (Refused n) = (refl, refl)
+
+  pub configures-passes :
+      (x : Configured) (y : Passed) (fmmusThen channelsThen : List ℕ) → count ≡ getD sheet 10 0 → of count x fmmusThen channelsThen → y ≡ passedOf x offset
+      → Passes sheet (take (pdoCount sheet) all) r offset group fmmus channels (y .answer) (y .next) fmmusThen channelsThen
+  configures-passes x y fmmusThen channelsThen n h e =
+      let c = subst (λ (m : ℕ). of m x fmmusThen channelsThen) n h in
+      record {
+        says = ap (λ (z : Passed). placedOf (z .answer)) e ∙ answered x .0 ∙ ap segmentOf (c .says);
+        moves = ap (λ (z : Passed). z .next) e ∙ answered x .1 ∙ ap (λ (z : Outcome Planned). offsetAfter z offset) (c .says);
+        entries = c .entries;
+        images = c .images;
+      }

@@ -1,16 +1,22 @@
 -- Each public function's contract leaves one answer, and one content of each area lent to it.
 -- Assumes nothing.
 use mathlib.Core.Path.{_≡_, refl}
+use mathlib.Core.List.{List}
+use Prim.Native.Nat.{ℕ}
 use denote.Ref.{now}
 use Rattle.wire.specs.Outcome.{Outcome, refused, accepted}
 use Rattle.wire.proofs.Pins.{Pins, with-room, same, same-by}
-use Rattle.entries.specs.Entries.{configuredOf}
-use Rattle.entries.proofs.Unique.{configured-back, configured-determined}
+use Rattle.pdi.specs.declared.PdiOffset.{PdiOffset}
+use Rattle.pdi.specs.declared.Placed.{Placed}
+use Rattle.pdi.specs.Segment.{placedOf}
+use Rattle.pdi.proofs.Unique.{placed-back, placed-determined}
+use Rattle.pdo.specs.declared.PdoDirection.{PdoDirection}
+use Rattle.subdevice.specs.Pass.{Passes}
 use Rattle.subdevice.specs.Mailbox.{mailboxOf}
 use Rattle.subdevice.specs.declared.MailboxConfig.{MailboxConfig}
 use Rattle.subdevice.specs.declared.MailboxRead.{MailboxRead}
 use Rattle.subdevice.specs.declared.MailboxRead.the-variants.{Config, Refused}
-use Rattle.subdevice.proofs.configure_fmmus.Reads as configure-fmmus
+use Rattle.subdevice.proofs.pass.Reads as pass
 use Rattle.subdevice.proofs.configure_mailboxes.Reads as configure-mailboxes
 
 -- number and values determine the answer
@@ -27,7 +33,16 @@ configure-mailboxes-pins κs a x y s t p q =
     let r : x ≡ y = same-by mailboxOf mailbox-back mailbox-determined (p .says) (q .says) in
     λ i. (r i, same (p .holds) (q .holds) i)
 
-pub configure-fmmus-pins : Pins configure-fmmus.Post (λ κs r s. with-room (with-room r (now (s .1 .1 .0))) (now (s .1 .1 .1 .0)))
-configure-fmmus-pins κs a x y s t p q =
-    let r : x ≡ y = same-by configuredOf configured-back configured-determined (p .says) (q .says) in
-    λ i. ((r i, same (p .entries) (q .entries) i), same (p .images) (q .images) i)
+-- two promises of a pass: the same answer, the same offset, the same areas
+pub passes-once :
+    (sheet ws : List ℕ) (r : PdoDirection) (offset : PdiOffset) (group : ℕ) (fmmus channels : List ℕ) (x y : Placed) (o p : PdiOffset) (f g c d : List ℕ)
+    → Passes sheet ws r offset group fmmus channels x o f c → Passes sheet ws r offset group fmmus channels y p g d
+    → _≡_ {A = Placed × PdiOffset × List ℕ × List ℕ} (x, o, f, c) (y, p, g, d)
+passes-once sheet ws r offset group fmmus channels x y o p f g c d m n =
+    let a : x ≡ y = same-by placedOf placed-back placed-determined (m .says) (n .says) in
+    λ i. (a i, same (m .moves) (n .moves) i, same (m .entries) (n .entries) i, same (m .images) (n .images) i)
+
+pub pass-pins : Pins pass.Post (λ κs r s. with-room (with-room r (now (s .1 .1 .0))) (now (s .1 .1 .1 .0)))
+pass-pins κs a x y s t p q =
+    let e = passes-once _ _ _ _ _ _ _ (x .answer) (y .answer) (x .next) (y .next) _ _ _ _ p q in
+    λ i. ((record { answer = e i .0; next = e i .1 }, e i .2), e i .3)

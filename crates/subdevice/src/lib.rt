@@ -5,7 +5,6 @@ ghost use mathlib.Core.List.{[]};
 ghost use lib.ListN.{length, take};
 ghost use Rattle.sheet.specs.Device.{dataOf};
 ghost use Rattle.sheet.specs.Sheet.{pdoCount};
-ghost use Rattle.pdi.specs.Segment.{placedOf};
 ghost use Rattle.subdevice.specs.Pass.{Plans, Configures, passedOf, Passes};
 ghost use Rattle.subdevice.specs.MailboxWishes.{mailboxWish, mailboxWishes};
 ghost use Rattle.subdevice.specs.Mailbox.{laterOf, lastOf, configOf, mailboxChannels, ConfiguresMailboxes};
@@ -184,9 +183,9 @@ fn plan_sheet(
 }
 
 // What a pass hands back: its segment or a refusal, and the offset as it then is.
-struct Passed {
-    answer: Placed,
-    next: PdiOffset,
+pub struct Passed {
+    pub answer: Placed,
+    pub next: PdiOffset,
 }
 
 fn passed_with(answer: Configured, offset: PdiOffset) -> Passed
@@ -204,8 +203,8 @@ fn passed_with(answer: Configured, offset: PdiOffset) -> Passed
     }
 }
 
-// A pass by value: as many multipliers count as the sheet has PDOs.
-fn pass(
+// Second stage: one direction's process data, with the offset by value. As many multipliers count as the sheet has PDOs.
+pub fn pass(
     sheet: &[u8],
     multipliers: [u8; 255],
     fmmus: &mut [u8],
@@ -225,21 +224,6 @@ fn pass(
         direction,
     );
     passed_with(answer, place.offset)
-}
-
-// Second stage: one direction's process data. Lent the sheet, a multiplier for each PDO, and both areas.
-pub fn configure_fmmus(
-    sheet: &[u8],
-    multipliers: [u8; 255],
-    fmmus: &mut [u8],
-    channels: &mut [u8],
-    place: Place,
-    direction: PdoDirection,
-) -> Placed
-    ensures { λ r. ⌜ placedOf r ≡ placedOf r ⌝ }
-{
-    let done = pass(sheet, multipliers, fmmus, channels, place, direction);
-    done.answer
 }
 
 // The mailboxes of a device that has some: recorded, and their sync managers written.

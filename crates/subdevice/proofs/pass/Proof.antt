@@ -1,44 +1,44 @@
-use native.Mathlib.Omega.{arith}
-use lib.ListN.{length-take}
+-- `subdevice::pass`: as many multipliers count as byte 10 says; the answer and the offset are handed back.
+-- Assumes nothing.
+use mathlib.Core.Path.{sym}
+use denote.Ref.{now}
+use lib.Seq.{length-take-le}
+use Rattle.subdevice.proofs.Passing.{configures-passes}
 use borrow.Author.Needs.{needs}
 use Rattle.subdevice.proofs.pass.Statement.{statement}
 use Rattle.subdevice.proofs.pass.Tie as tie
 
--- src/lib.rt:218:13
 byte-at-requires : tie.Need-byte-at-requires
 byte-at-requires c κs = search needs
 
--- src/lib.rt:218:13
 cast-p : tie.Need-cast-p
 cast-p c = search needs
 
--- src/lib.rt:221:9
 array-share-prefix-multipliers : tie.Need-array-share-prefix-multipliers
 array-share-prefix-multipliers c = search needs
 
--- src/lib.rt:221:9
 slice-aggregate-plan-sheet : tie.Need-slice-aggregate-plan-sheet
-slice-aggregate-plan-sheet c = omega (arith, length-take (c .before .byte-at .result) (c .before .before .before .before .before .args .t2))
+slice-aggregate-plan-sheet c = sym (length-take-le _ _ (array-share-prefix-multipliers (c .before)))
 
--- src/lib.rt:219:9
 plan-sheet-requires : tie.Need-plan-sheet-requires
 plan-sheet-requires c κs = search needs
 
--- src/lib.rt:227:5
 passed-with-requires : tie.Need-passed-with-requires
 passed-with-requires c κs = search needs
 
--- src/lib.rt:208:1
 same-length : tie.Need-same-length
 same-length c = search needs
 
--- src/lib.rt:208:1
 same-length-2 : tie.Need-same-length-2
 same-length-2 c = search needs
 
--- src/lib.rt:208:1
 returns : tie.Need-returns
-returns c = ?
+returns c =
+    let p = c .before .before .before .before .before in
+    let b = p .before .before .before .before in
+    let a = b .before .before .before .before .args in
+    configures-passes (now (a .sheet)) (a .t2) (b .byte-at .result) (a .direction) (a .place .offset) (a .place .group) (now (a .fmmus)) (now (a .channels))
+    (p .plan-sheet .result) (c .passed-with .result) (p .plan-sheet .last .1 .1 .0) (p .plan-sheet .last .1 .1 .1 .0) (b .byte-at .ensures) (p .plan-sheet .ensures) (c .passed-with .ensures)
 
 pub pass-spec : {M : Type 1} → statement M
 pass-spec =
