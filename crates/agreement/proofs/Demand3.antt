@@ -10,13 +10,14 @@ use native.Mathlib.Omega.{arith}
 use lib.Dec.{eqb, ltb}
 use lib.ListN.{length, getD, List·getD-eq-default}
 use borrow.Author.Tests.{ltb-true, ltb-false, eqb-true, eq-eqb, not-false}
-use Rattle.wire.specs.Outcome.{Outcome, accepted}
+use Rattle.wire.specs.Outcome.{Outcome, refused, accepted}
+use Rattle.wire.proofs.Order.{never}
 use Rattle.pdi.specs.Offset.{pastEnd}
 use Rattle.fmmu.specs.Image.{fieldsOf}
 use Rattle.sheet.specs.Sheet.{wrongLength, wrongVersion, broken, someUnnamed, sheetData}
 use Rattle.pdo.specs.declared.PdoDirection.{PdoDirection}
 use Rattle.pdo.specs.declared.PdoDirection.the-variants.{MasterRead, MasterWrite}
-use Rattle.entries.specs.declared.Configured.the-variants.{Mapped}
+use Rattle.pdi.specs.declared.Placed.the-variants.{Segment}
 use Rattle.pdi.specs.declared.PdiSegment.{PdiSegment}
 use Rattle.pdi.specs.declared.PdiOffset.{PdiOffset}
 use Rattle.pdo.specs.Direction.{other}
@@ -25,10 +26,10 @@ use Rattle.entries.specs.Use.{Use, own, totalOn, sizeOf}
 use Rattle.area.specs.Area.{entriesOf, notEntries, notChannels}
 use Rattle.entries.specs.Entries.{plan, lengthNow, Planned, tooLong}
 use Rattle.wanted.specs.Wanted.{someTooMany, noEntry}
-use Rattle.subdevice.specs.Pass.{entriesAfter, Configures, passRefusals, plannedOf, dataPass}
+use Rattle.subdevice.specs.Pass.{entriesAfter, segmentOf, Passes, passRefusals, plannedOf, dataPass}
 use Rattle.translation.specs.Translate.{says, odd, firstSaid, orNone, translate}
 use Rattle.counting.specs.Count.{spotIn, deviceAlone, countRefusals, count}
-use Rattle.agreement.specs.Agreement.{AllBytes, EveryDisabled, Lent, weights, Accepted, TwoPasses, laidBy, counted, Demand3, Demand3InReach}
+use Rattle.agreement.specs.Agreement.{AllBytes, EveryDisabled, Lent, weights, passOf, Accepted, TwoPasses, laidBy, counted, Demand3, Demand3InReach}
 use Rattle.agreement.proofs.Basics.{accepted-clear, clear-accepted, or-false, none-below, each-map, each-of, either}
 use Rattle.agreement.proofs.Straight.{lay, Lays, apart-flip}
 use Rattle.agreement.proofs.Step.{Off, off-silent}
@@ -245,6 +246,11 @@ pub demand-3-in-reach : Demand3InReach
 demand-3-in-reach sheet lent first area after bytes p r reach = demand-3 sheet lent first area after bytes p r
 
 -- the promise of the pass's code, where it answers a segment, is such an accepted pass
-pub promised : (sheet : List ℕ) (r : PdoDirection) (l : Lent) (area after channelsAfter : List ℕ) (s : PdiSegment) (o : PdiOffset)
-    → Configures sheet (weights sheet l) r (l .offset) (l .group) area (l .channels) (Mapped s o) after channelsAfter → Accepted sheet r l area after
-promised sheet r l area after channelsAfter s o c = record { planned = record { segment = s; next = o .«start_address» }; says = sym (c .says); leaves = c .entries }
+pub promised :
+    (sheet : List ℕ) (r : PdoDirection) (l : Lent) (area after channelsAfter : List ℕ) (s : PdiSegment) (o : PdiOffset)
+    → Passes sheet (weights sheet l) r (record { «start_address» = l .offset }) (l .group) area (l .channels) (Segment s) o after channelsAfter → Accepted sheet r l area after
+promised sheet r l area after channelsAfter s o c = go (passOf sheet r l area) refl
+  where
+    go : (x : Outcome Planned) → passOf sheet r l area ≡ x → Accepted sheet r l area after
+    go (refused n) e = absurd (never (sym (c .says ∙ ap segmentOf e)))
+    go (accepted p) e = record { planned = p; says = e; leaves = c .entries }
