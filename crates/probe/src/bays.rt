@@ -1,18 +1,21 @@
 // The entry points that take a sheet or register areas.
 use crate::say;
 use counting::Counted;
-use entries::Configured;
 use entries::Place;
 use pdi::PdiOffset;
+use pdi::Placed;
+use pdo::Oversampling;
 use pdo::PdoDirection;
 use sheet::Answer;
 use sheet::Device;
 use sheet::SyncManager;
 use subdevice::MailboxConfig;
 use subdevice::MailboxRead;
+use subdevice::Passed;
 use subdevice::Slot;
 use translation::Reached;
 use translation::Translated;
+use wire::Written;
 
 pub fn direction_of(number: u8) -> PdoDirection {
     if number == 0 {
@@ -113,19 +116,17 @@ pub fn mailboxes(out: &mut [u8], sheet: &[u8], channels: &mut [u8]) -> usize {
     say::then_bytes(out, next, channels)
 }
 
-fn configured(out: &mut [u8], answer: Configured, offset: u32) -> usize {
-    match answer {
-        Configured::Mapped(segment, next) => {
+fn passed(out: &mut [u8], done: Passed) -> usize {
+    let answer = done.answer;
+    let next = match answer {
+        Placed::Segment(segment) => {
             let one = say::then_word(out, 0, b"ok");
             let two = say::then(out, one, segment.start as u64);
-            let three = say::then(out, two, segment.end as u64);
-            say::then(out, three, next.start_address as u64)
+            say::then(out, two, segment.end as u64)
         }
-        Configured::Refused(number) => {
-            let one = say::refused(out, 0, number);
-            say::then(out, one, offset as u64)
-        }
-    }
+        Placed::Refused(number) => say::refused(out, 0, number),
+    };
+    say::then(out, next, done.next.start_address as u64)
 }
 
 // A device address, or none.
@@ -217,4 +218,69 @@ fn agree(out: &mut [u8], translated: Translated, counted: Counted) -> usize {
     let at = say::then_word(out, 0, b"differ");
     let next = side(out, at, one);
     side(out, next, two)
+}
+
+// The data pass.
+pub fn pass(
+    out: &mut [u8],
+    sheet: &[u8],
+    table: [Oversampling; 256],
+    records: usize,
+    fmmus: &mut [u8],
+    channels: &mut [u8],
+    place: Place,
+    direction: PdoDirection,
+) -> usize {
+    let done = lent::plan(sheet, table, records, fmmus, channels, place, direction);
+    let next = passed(out, done);
+    let one = say::then_bytes(out, next, fmmus);
+    say::then_bytes(out, one, channels)
+}
+
+pub fn count(
+    out: &mut [u8],
+    sheet: &[u8],
+    table: [Oversampling; 256],
+    records: usize,
+    offset: u32,
+    direction: PdoDirection,
+    address: u32,
+) -> usize {
+    let start = PdiOffset {
+        start_address: offset,
+    };
+    counted(
+        out,
+        lent::locate(sheet, table, records, start, direction, address),
+    )
+}
+
+// Both sides of the agreement at one address.
+pub fn sides(
+    out: &mut [u8],
+    sheet: &[u8],
+    table: [Oversampling; 256],
+    records: usize,
+    fmmus: &[u8],
+    offset: u32,
+    direction: PdoDirection,
+    address: u32,
+) -> usize {
+    let start = PdiOffset {
+        start_address: offset,
+    };
+    let translated = translation::translate(fmmus, direction, address);
+    agree(
+        out,
+        translated,
+        lent::locate(sheet, table, records, start, direction, address),
+    )
+}
+
+// What lockerplan prints for the sheet, less the last line's end.
+pub fn plan(out: &mut [u8], sheet: &[u8]) -> usize {
+    match report::report(sheet, out) {
+        Written::Len(length) => length,
+        Written::Refused(number) => say::refused(out, 0, number),
+    }
 }

@@ -5,6 +5,8 @@ mod records;
 mod say;
 use libc::STDIN_FILENO;
 use libc::STDOUT_FILENO;
+use entries::Place;
+use pdi::PdiOffset;
 use pdo::Oversampling;
 
 // A request's head.
@@ -95,4 +97,226 @@ fn table_of(bytes: &[u8], records: usize) -> [Oversampling; 256] {
         k += 1;
     }
     table
+}
+
+// The entry points that take numbers alone.
+fn of_numbers(out: &mut [u8], head: Head, c: u32, room: &mut [u8]) -> usize {
+    let a = head.a;
+    let b = head.b;
+    let letter = head.entry_point;
+    match letter {
+        b'r' => numbers::round_up(out, say::joined(a, c)),
+        b'i' => numbers::increment(out, a, c),
+        b'b' => numbers::increment_byte_aligned(out, a, say::joined(b, c)),
+        b'u' => numbers::up_to(out, a, c),
+        b'g' => numbers::less(out, a, b, c),
+        b's' => numbers::segment_text(out, a, b, room),
+        b'k' => numbers::control(out, (c % 256) as u8),
+        b'j' => numbers::status(out, (c % 256) as u8),
+        b'e' => numbers::enable(out, (c % 256) as u8, (c / 256 % 256) as u8),
+        _ => say::then_word(out, 0, b"no such entry point"),
+    }
+}
+
+// Those that take an image or a record.
+fn of_records(out: &mut [u8], head: Head, fmmus: &[u8], channels: &[u8], room: &mut [u8]) -> usize {
+    let letter = head.entry_point;
+    match letter {
+        b'f' => records::fmmu_text(out, fmmus, room),
+        b'W' => records::fmmu_write(out, fmmus, room),
+        b'R' => records::fmmu_read(out, fmmus),
+        b'y' => records::channel_text(out, channels, room),
+        b'Z' => records::channel_write(out, channels, room),
+        _ => records::channel_read(out, channels),
+    }
+}
+
+// Those that take a sheet or areas.
+fn of_bays(
+    out: &mut [u8],
+    head: Head,
+    c: u32,
+    sheet: &[u8],
+    table: [Oversampling; 256],
+    fmmus: &mut [u8],
+    channels: &mut [u8],
+) -> usize {
+    let direction = bays::direction_of(head.direction);
+    let letter = head.entry_point;
+    let records = head.records;
+    match letter {
+        b'd' => bays::read(out, sheet),
+        b'm' => bays::mailboxes(out, sheet, channels),
+        b'p' => bays::pass(
+            out,
+            sheet,
+            table,
+            records,
+            fmmus,
+            channels,
+            Place {
+                offset: PdiOffset {
+                    start_address: head.a,
+                },
+                group: head.b,
+            },
+            direction,
+        ),
+        b'T' => bays::translate(out, fmmus, direction, c),
+        b'C' => bays::count(out, sheet, table, records, head.a, direction, c),
+        b'A' => bays::sides(
+            out, sheet, table, records, fmmus, head.a, direction, c,
+        ),
+        _ => bays::plan(out, sheet),
+    }
+}
+
+// Which of the three kinds an entry point is: 0 numbers, 1 records, 2 bays.
+fn kind_of(letter: u8) -> u8 {
+    match letter {
+        b'f' => 1,
+        b'W' => 1,
+        b'R' => 1,
+        b'y' => 1,
+        b'Z' => 1,
+        b'Q' => 1,
+        b'd' => 2,
+        b'm' => 2,
+        b'p' => 2,
+        b'T' => 2,
+        b'C' => 2,
+        b'A' => 2,
+        b'L' => 2,
+        _ => 0,
+    }
+}
+
+// Whether a record's part has the record's length; images and areas may have any.
+fn whole_record(head: Head) -> bool {
+    let letter = head.entry_point;
+    match letter {
+        b'f' => head.fmmus == 14,
+        b'W' => head.fmmus == 14,
+        b'y' => head.channels == 21,
+        b'Z' => head.channels == 21,
+        _ => true,
+    }
+}
+
+// What the room is filled with first: a text's with `~`, an image's with 0xff.
+fn filler(letter: u8) -> u8 {
+    match letter {
+        b'W' => 0xff,
+        b'Z' => 0xff,
+        _ => b'~',
+    }
+}
+
+// One answer.
+fn answer(
+    out: &mut [u8],
+    head: Head,
+    c: u32,
+    sheet: &[u8],
+    table: [Oversampling; 256],
+    fmmus: &mut [u8],
+    channels: &mut [u8],
+) -> usize {
+    let kind = kind_of(head.entry_point);
+    if kind == 2 {
+        return of_bays(out, head, c, sheet, table, fmmus, channels);
+    }
+    let mut space = [filler(head.entry_point); 512];
+    let room = front_mut(&mut space, head.room);
+    if kind == 1 {
+        return of_records(out, head, fmmus, channels, room);
+    }
+    of_numbers(out, head, c, room)
+}
+
+// Writes a line, and its end.
+fn line(out: &mut [u8], length: usize) {
+    let end = wire::put_byte(out, length, b'\n');
+    io::write_all(STDOUT_FILENO, front(out, end));
+}
+
+// Answers the request once, or for each value of c, where an answer that is the same as the one before is left out.
+fn answers(
+    head: Head,
+    sheet: &[u8],
+    table: [Oversampling; 256],
+    fmmus: &mut [u8],
+    channels: &mut [u8],
+) {
+    let mut before = [0u8; 4096];
+    let mut length = 4097;
+    let mut out = [0u8; 4096];
+    let mut left = head.times;
+    let mut c = head.c;
+    if left < 2 {
+        let n = answer(&mut out, head, c, sheet, table, fmmus, channels);
+        line(&mut out, n);
+        return;
+    }
+    while 0 < left {
+        let n = answer(&mut out, head, c, sheet, table, fmmus, channels);
+        if !say::same(front(&out, n), front(&before, length)) {
+            let mut text = [0u8; 4224];
+            let at = say::number(&mut text, 0, c as u64);
+            let next = say::words(&mut text, at, b": ");
+            let end = say::words(&mut text, next, front(&out, n));
+            line(&mut text, end);
+            wire::copy(&out, &mut before);
+            length = n;
+        }
+        if c == 0xffff_ffff {
+            return;
+        }
+        c += 1;
+        left -= 1;
+    }
+}
+
+fn bad() -> bool {
+    io::write_all(STDOUT_FILENO, b"bad request\n");
+    false
+}
+
+// Answers one request, and says whether to go on.
+fn serve(sheet: &mut [u8], table: &mut [u8], fmmus: &mut [u8], channels: &mut [u8]) -> bool {
+    let mut bytes = [0u8; 28];
+    let got = io::read_full(STDIN_FILENO, &mut bytes);
+    if got == 0 {
+        return false;
+    }
+    let head = head_of(&bytes);
+    if got < 28 || !fits(head) || !whole_record(head) {
+        return bad();
+    }
+    if !fill(sheet, head.sheet) || !fill(table, 3 * head.records) {
+        return bad();
+    }
+    if !fill(fmmus, head.fmmus) || !fill(channels, head.channels) {
+        return bad();
+    }
+    let records = table_of(table, head.records);
+    answers(
+        head,
+        front(sheet, head.sheet),
+        records,
+        front_mut(fmmus, head.fmmus),
+        front_mut(channels, head.channels),
+    );
+    true
+}
+
+fn main() {
+    let mut sheet = [0u8; 16387];
+    let mut table = [0u8; 768];
+    let mut fmmus = [0u8; 512];
+    let mut channels = [0u8; 512];
+    let mut turns = u64::MAX;
+    while 0 < turns && serve(&mut sheet, &mut table, &mut fmmus, &mut channels) {
+        turns -= 1;
+    }
 }

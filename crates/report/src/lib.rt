@@ -17,11 +17,19 @@ use entries::Place;
 use fmmu::Fmmu;
 use pdi::PdiOffset;
 use pdi::PdiSegment;
+use pdi::Placed;
+use pdo::Oversampling;
 use pdo::PdoDirection;
 use subdevice::MailboxRead;
+use subdevice::Passed;
 use sync_manager_channel::ChannelRead;
 use sync_manager_channel::SyncManagerChannel;
 use wire::Written;
+
+const NO_TABLE: [Oversampling; 256] = [Oversampling {
+    pdo_index: 0,
+    multiplier: 0,
+}; 256];
 
 // A byte of the sheet, 0 past its end.
 fn byte_at(bytes: &[u8], at: usize) -> u8
@@ -153,6 +161,18 @@ fn put_bay(
     put_entries(room, at, fmmus)
 }
 
+// A pass's answer with its offset beside it.
+fn configured(done: Passed) -> Configured
+    ensures { λ r. ⌜ r ≡ configuredFrom done ⌝ }
+{
+    let answer = done.answer;
+    let next = done.next;
+    match answer {
+        Placed::Segment(segment) => Configured::Mapped(segment, next),
+        Placed::Refused(number) => Configured::Refused(number),
+    }
+}
+
 // A data pass in group 0, with no oversampling.
 fn data_pass(
     sheet: &[u8],
@@ -163,14 +183,16 @@ fn data_pass(
 ) -> Configured
     ensures { λ r. ⌜ Configures (now (sheet .entry)) (once (now (sheet .entry))) direction (offset .«start_address») 0 (now (fmmus .entry)) (now (channels .entry)) r (now (fmmus .exit)) (now (channels .exit)) ⌝ }
 {
-    subdevice::configure_fmmus(
+    let done = lent::plan(
         sheet,
-        b"",
+        NO_TABLE,
+        0,
         fmmus,
         channels,
         Place { offset, group: 0 },
         direction,
-    )
+    );
+    configured(done)
 }
 
 // The output pass, from where the input pass ended, and what is then printed.
