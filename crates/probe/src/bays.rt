@@ -30,10 +30,8 @@ fn manager(out: &mut [u8], at: usize, m: SyncManager) -> usize {
     let one = say::then(out, at, m.start_addr as u64);
     let two = say::words(out, one, b"/");
     let three = say::hex(out, two, control.pack());
-    let four = say::words(out, three, b"/");
-    let five = say::number(out, four, wire::bit_of(m.enable) as u64);
-    let six = say::words(out, five, b"/");
-    say::number(out, six, m.usage_type as u64)
+    let four = say::slash(out, three, wire::bit_of(m.enable) as u64);
+    say::slash(out, four, m.usage_type as u64)
 }
 
 fn managers(out: &mut [u8], at: usize, list: [SyncManager; 16], n: usize) -> usize {
@@ -60,18 +58,22 @@ fn usages(out: &mut [u8], at: usize, list: [u8; 16], f: usize) -> usize {
     next
 }
 
-fn device(out: &mut [u8], d: Device) -> usize {
+fn flags(out: &mut [u8], d: Device) -> usize {
     let one = say::then_flag(out, 0, d.has_mailbox);
     let two = say::then_flag(out, one, d.coe_protocol);
     let three = say::then_flag(out, two, d.complete_access);
     let four = say::then(out, three, d.receive_size.0 as u64);
-    let five = say::then(out, four, d.send_size.0 as u64);
+    say::then(out, four, d.send_size.0 as u64)
+}
+
+fn device(out: &mut [u8], d: Device) -> usize {
+    let one = flags(out, d);
     let list = d.managers;
-    let six = managers(out, five, list, d.n);
+    let two = managers(out, one, list, d.n);
     let codes = d.usages;
-    let seven = usages(out, six, codes, d.f);
-    let eight = say::then_word(out, seven, b"pdos");
-    say::then(out, eight, d.p as u64)
+    let three = usages(out, two, codes, d.f);
+    let four = say::then_word(out, three, b"pdos");
+    say::then(out, four, d.p as u64)
 }
 
 pub fn read(out: &mut [u8], sheet: &[u8]) -> usize {
@@ -90,10 +92,8 @@ fn slot(out: &mut [u8], at: usize, slot: Slot) -> usize {
         Slot::None => say::then_word(out, at, b"none"),
         Slot::At(mailbox) => {
             let one = say::then(out, at, mailbox.address as u64);
-            let two = say::words(out, one, b"/");
-            let three = say::number(out, two, mailbox.len.0 as u64);
-            let four = say::words(out, three, b"/");
-            say::number(out, four, mailbox.sync_manager as u64)
+            let two = say::slash(out, one, mailbox.len.0 as u64);
+            say::slash(out, two, mailbox.sync_manager as u64)
         }
     }
 }
@@ -108,24 +108,33 @@ fn config(out: &mut [u8], c: MailboxConfig) -> usize {
     say::then_flag(out, four, c.complete_access)
 }
 
-pub fn mailboxes(out: &mut [u8], sheet: &[u8], channels: &mut [u8]) -> usize {
-    let next = match subdevice::configure_mailboxes(sheet, channels) {
+fn recorded(out: &mut [u8], answer: MailboxRead) -> usize {
+    match answer {
         MailboxRead::Config(c) => config(out, c),
         MailboxRead::Refused(number) => say::refused(out, 0, number),
-    };
+    }
+}
+
+pub fn mailboxes(out: &mut [u8], sheet: &[u8], channels: &mut [u8]) -> usize {
+    let answer = subdevice::configure_mailboxes(sheet, channels);
+    let next = recorded(out, answer);
     say::then_bytes(out, next, channels)
 }
 
-fn passed(out: &mut [u8], done: Passed) -> usize {
-    let answer = done.answer;
-    let next = match answer {
+fn placed(out: &mut [u8], answer: Placed) -> usize {
+    match answer {
         Placed::Segment(segment) => {
             let one = say::then_word(out, 0, b"ok");
             let two = say::then(out, one, segment.start as u64);
             say::then(out, two, segment.end as u64)
         }
         Placed::Refused(number) => say::refused(out, 0, number),
-    };
+    }
+}
+
+fn passed(out: &mut [u8], done: Passed) -> usize {
+    let answer = done.answer;
+    let next = placed(out, answer);
     say::then(out, next, done.next.start_address as u64)
 }
 
@@ -198,7 +207,7 @@ fn key(side: Side) -> u32 {
     }
 }
 
-fn side(out: &mut [u8], at: usize, side: Side) -> usize {
+fn put_side(out: &mut [u8], at: usize, side: Side) -> usize {
     match side {
         Side::At(address) => say::then(out, at, address as u64),
         Side::None => say::then_word(out, at, b"none"),
@@ -216,8 +225,8 @@ fn agree(out: &mut [u8], translated: Translated, counted: Counted) -> usize {
         return say::then_word(out, 0, b"same");
     }
     let at = say::then_word(out, 0, b"differ");
-    let next = side(out, at, one);
-    side(out, next, two)
+    let next = put_side(out, at, one);
+    put_side(out, next, two)
 }
 
 // The data pass.

@@ -20,11 +20,13 @@ pub struct Head {
     pub times: u32,
     pub sheet: usize,
     pub records: usize,
+    pub table: usize,
     pub fmmus: usize,
     pub channels: usize,
 }
 
 fn head_of(bytes: &[u8]) -> Head {
+    let records = say::number2(bytes, 22) as usize;
     Head {
         entry_point: say::byte_at(bytes, 0),
         direction: say::byte_at(bytes, 1),
@@ -34,7 +36,8 @@ fn head_of(bytes: &[u8]) -> Head {
         c: say::number4(bytes, 12),
         times: say::number4(bytes, 16),
         sheet: say::number2(bytes, 20) as usize,
-        records: say::number2(bytes, 22) as usize,
+        records,
+        table: 3 * records,
         fmmus: say::number2(bytes, 24) as usize,
         channels: say::number2(bytes, 26) as usize,
     }
@@ -240,7 +243,21 @@ fn line(out: &mut [u8], length: usize) {
     io::write_all(STDOUT_FILENO, front(out, end));
 }
 
-// Answers the request once, or for each value of c, where an answer that is the same as the one before is left out.
+// Writes the value of c and its answer, unless the answer is the one before; then keeps it as the one before.
+fn changed(out: &[u8], before: &mut [u8], length: usize, c: u32) -> usize {
+    if say::same(out, front(before, length)) {
+        return length;
+    }
+    let mut text = [0u8; 4224];
+    let at = say::number(&mut text, 0, c as u64);
+    let next = say::words(&mut text, at, b": ");
+    let end = say::words(&mut text, next, out);
+    line(&mut text, end);
+    wire::copy(out, before);
+    out.len()
+}
+
+// Answers the request for one value of c after another.
 fn answers(
     head: Head,
     sheet: &[u8],
@@ -249,27 +266,14 @@ fn answers(
     channels: &mut [u8],
 ) {
     let mut before = [0u8; 4096];
-    let mut length = 4097;
+    let mut length = 0;
     let mut out = [0u8; 4096];
     let mut left = head.times;
     let mut c = head.c;
-    if left < 2 {
-        let n = answer(&mut out, head, c, sheet, table, fmmus, channels);
-        line(&mut out, n);
-        return;
-    }
     while 0 < left {
         let n = answer(&mut out, head, c, sheet, table, fmmus, channels);
-        if !say::same(front(&out, n), front(&before, length)) {
-            let mut text = [0u8; 4224];
-            let at = say::number(&mut text, 0, c as u64);
-            let next = say::words(&mut text, at, b": ");
-            let end = say::words(&mut text, next, front(&out, n));
-            line(&mut text, end);
-            wire::copy(&out, &mut before);
-            length = n;
-        }
-        if c == 0xffff_ffff {
+        length = changed(front(&out, n), &mut before, length, c);
+        if 0xffff_fffe < c {
             return;
         }
         c += 1;
@@ -277,9 +281,71 @@ fn answers(
     }
 }
 
+// Answers the request once, or for each value of c.
+fn respond(
+    head: Head,
+    sheet: &[u8],
+    table: [Oversampling; 256],
+    fmmus: &mut [u8],
+    channels: &mut [u8],
+) {
+    if 1 < head.times {
+        answers(head, sheet, table, fmmus, channels);
+        return;
+    }
+    let mut out = [0u8; 4096];
+    let n = answer(&mut out, head, head.c, sheet, table, fmmus, channels);
+    line(&mut out, n);
+}
+
 fn bad() -> bool {
     io::write_all(STDOUT_FILENO, b"bad request\n");
     false
+}
+
+// Whether a head came whole and asks for what there is room for.
+fn sound(head: Head, got: usize) -> bool {
+    if got < 28 {
+        return false;
+    }
+    if !fits(head) {
+        return false;
+    }
+    whole_record(head)
+}
+
+// Reads a request's parts, or says that the input ended.
+fn take_parts(
+    head: Head,
+    sheet: &mut [u8],
+    table: &mut [u8],
+    fmmus: &mut [u8],
+    channels: &mut [u8],
+) -> bool {
+    if !fill(sheet, head.sheet) {
+        return false;
+    }
+    if !fill(table, head.table) {
+        return false;
+    }
+    if !fill(fmmus, head.fmmus) {
+        return false;
+    }
+    fill(channels, head.channels)
+}
+
+// Answers a request whose parts stand at the front of each buffer.
+fn respond_to(head: Head, sheet: &[u8], table: &[u8], fmmus: &mut [u8], channels: &mut [u8]) {
+    let records = table_of(table, head.records);
+    let f = wire::least(head.fmmus, fmmus.len());
+    let c = wire::least(head.channels, channels.len());
+    respond(
+        head,
+        front(sheet, head.sheet),
+        records,
+        &mut fmmus[..f],
+        &mut channels[..c],
+    );
 }
 
 // Answers one request, and says whether to go on.
@@ -290,23 +356,13 @@ fn serve(sheet: &mut [u8], table: &mut [u8], fmmus: &mut [u8], channels: &mut [u
         return false;
     }
     let head = head_of(&bytes);
-    if got < 28 || !fits(head) || !whole_record(head) {
+    if !sound(head, got) {
         return bad();
     }
-    if !fill(sheet, head.sheet) || !fill(table, 3 * head.records) {
+    if !take_parts(head, sheet, table, fmmus, channels) {
         return bad();
     }
-    if !fill(fmmus, head.fmmus) || !fill(channels, head.channels) {
-        return bad();
-    }
-    let records = table_of(table, head.records);
-    answers(
-        head,
-        front(sheet, head.sheet),
-        records,
-        front_mut(fmmus, head.fmmus),
-        front_mut(channels, head.channels),
-    );
+    respond_to(head, sheet, table, fmmus, channels);
     true
 }
 

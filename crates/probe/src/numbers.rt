@@ -62,12 +62,16 @@ pub fn less(out: &mut [u8], start: u32, end: u32, group: u32) -> usize {
     }
 }
 
-// What a text or an image that was written into lent room answers, and the room.
-pub fn texted(out: &mut [u8], answer: Written, room: &[u8]) -> usize {
-    let next = match answer {
+fn typed(out: &mut [u8], answer: Written) -> usize {
+    match answer {
         Written::Len(length) => say::number(out, 0, length as u64),
         Written::Refused(number) => say::refused(out, 0, number),
-    };
+    }
+}
+
+// What a text that was written into lent room answers, and the room.
+pub fn texted(out: &mut [u8], answer: Written, room: &[u8]) -> usize {
+    let next = typed(out, answer);
     say::then_room(out, next, room)
 }
 

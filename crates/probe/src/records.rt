@@ -43,16 +43,24 @@ pub fn fmmu_write(out: &mut [u8], bytes: &[u8], room: &mut [u8]) -> usize {
     imaged(out, answer, room)
 }
 
-fn fmmu_fields(out: &mut [u8], f: Fmmu) -> usize {
+fn fmmu_logical(out: &mut [u8], f: Fmmu) -> usize {
     let one = say::then(out, 0, f.logical_start_address as u64);
     let two = say::then(out, one, f.length_bytes.0 as u64);
     let three = say::then(out, two, f.logical_start_bit as u64);
-    let four = say::then(out, three, f.logical_end_bit as u64);
-    let five = say::then(out, four, f.physical_start_address as u64);
-    let six = say::then(out, five, f.physical_start_bit as u64);
-    let seven = say::then_flag(out, six, f.read_enable);
-    let eight = say::then_flag(out, seven, f.write_enable);
-    say::then_flag(out, eight, f.enable)
+    say::then(out, three, f.logical_end_bit as u64)
+}
+
+fn fmmu_physical(out: &mut [u8], at: usize, f: Fmmu) -> usize {
+    let one = say::then(out, at, f.physical_start_address as u64);
+    let two = say::then(out, one, f.physical_start_bit as u64);
+    let three = say::then_flag(out, two, f.read_enable);
+    let four = say::then_flag(out, three, f.write_enable);
+    say::then_flag(out, four, f.enable)
+}
+
+fn fmmu_fields(out: &mut [u8], f: Fmmu) -> usize {
+    let next = fmmu_logical(out, f);
+    fmmu_physical(out, next, f)
 }
 
 pub fn fmmu_read(out: &mut [u8], image: &[u8]) -> usize {
@@ -62,12 +70,16 @@ pub fn fmmu_read(out: &mut [u8], image: &[u8]) -> usize {
     }
 }
 
-// What an image that was written into lent room answers, and the room.
-fn imaged(out: &mut [u8], answer: Written, room: &[u8]) -> usize {
-    let next = match answer {
+fn stored(out: &mut [u8], answer: Written) -> usize {
+    match answer {
         Written::Len(_) => say::then_word(out, 0, b"ok"),
         Written::Refused(number) => say::refused(out, 0, number),
-    };
+    }
+}
+
+// What an image that was written into lent room answers, and the room.
+fn imaged(out: &mut [u8], answer: Written, room: &[u8]) -> usize {
+    let next = stored(out, answer);
     say::then_bytes(out, next, room)
 }
 

@@ -71,6 +71,12 @@ pub fn then_flag(out: &mut [u8], at: usize, on: bool) -> usize {
     then(out, at, bit as u64)
 }
 
+// A slash and a number.
+pub fn slash(out: &mut [u8], at: usize, x: u64) -> usize {
+    let next = wire::put_byte(out, at, b'/');
+    number(out, next, x)
+}
+
 pub fn refused(out: &mut [u8], at: usize, number: u8) -> usize {
     let next = then_word(out, at, b"refused");
     then(out, next, number as u64)
