@@ -2,3 +2,4 @@
 mod data_pass;
 
 pub use data_pass::configure_fmmus;
+pub use data_pass::plan;
