@@ -1,0 +1,5 @@
+// The lent forms: the table as a slice of records.
+mod counted;
+
+pub use counted::count;
+pub use counted::locate;
