@@ -1,0 +1,36 @@
+-- Each public function's contract leaves one answer, and one content of each offset and area lent to it.
+-- Assumes nothing.
+use mathlib.Core.Path.{refl}
+use mathlib.Core.List.{List}
+use Prim.Native.Nat.{ℕ}
+use denote.Ref.{now}
+use Rattle.wire.proofs.Pins.{Pins, with-room}
+use Rattle.sheet.specs.Sheet.{sheetData}
+use Rattle.pdi.specs.declared.PdiOffset.{PdiOffset}
+use Rattle.pdi.specs.declared.Placed.{Placed}
+use Rattle.pdo.specs.Bits.{multipliersOf}
+use Rattle.oversampling.proofs.Stated.{Saying, States}
+use Rattle.subdevice.specs.Pass.{Passes}
+use Rattle.subdevice.proofs.Unique.{passes-once}
+use Rattle.lent.proofs.data_pass.configure_fmmus as configure-fmmus
+use Rattle.lent.proofs.data_pass.plan.Reads as plan
+
+-- what a pass that is lent its offset leaves: the answer, the offset, both areas
+abbrev leaves : Placed → PdiOffset → List ℕ → List ℕ → Placed × PdiOffset × List ℕ × List ℕ
+leaves r o fmmus channels = (r, o, fmmus, channels)
+
+abbrev PassesOn : Saying configure-fmmus.ended
+PassesOn κs a r s =
+    Passes (now (a .0)) (multipliersOf (now (a .1 .0)) (sheetData (now (a .0)) .pdos)) (a .1 .1 .1 .1 .1 .1 .0) (now (a .1 .1 .1 .1 .0)) (a .1 .1 .1 .1 .1 .0) (now (a .1 .1 .0)) (now (a .1 .1 .1 .0))
+    r (now (s .1 .1 .1 .1 .0)) (now (s .1 .1 .0)) (now (s .1 .1 .1 .0))
+
+pub configure-fmmus-states : States configure-fmmus.ended (λ M 𝓤 H. configure-fmmus.clauses 𝓤 H) PassesOn
+configure-fmmus-states M 𝓤 H A mem run κs a r s g = refl
+
+pub configure-fmmus-pins : Pins PassesOn (λ κs r s. leaves r (now (s .1 .1 .1 .1 .0)) (now (s .1 .1 .0)) (now (s .1 .1 .1 .0)))
+configure-fmmus-pins κs a x y s t p q = passes-once _ _ _ _ _ _ _ x y _ _ _ _ _ _ p q
+
+pub plan-pins : Pins plan.Post (λ κs r s. with-room (with-room r (now (s .1 .1 .1 .0))) (now (s .1 .1 .1 .1 .0)))
+plan-pins κs a x y s t p q =
+    let e = passes-once _ _ _ _ _ _ _ (x .answer) (y .answer) (x .next) (y .next) _ _ _ _ p q in
+    λ i. ((record { answer = e i .0; next = e i .1 }, e i .2), e i .3)
