@@ -8,7 +8,7 @@ use lib.Dec.{T, eqb, eqb→eq}
 use Rattle.wire.specs.Outcome.{Outcome, refused, accepted}
 use Rattle.sync_manager_channel.specs.Image.{controlAt, unnamed, controlByte}
 use Rattle.fmmu.specs.Image.{fieldsOf, imageOf}
-use Rattle.sheet.specs.Lists.{listOf, someBelow}
+use Rattle.grammar.specs.Lists.{listOf, someBelow}
 use Rattle.sheet.specs.Device.{pdosFrom}
 use Rattle.sheet.specs.Sound.{Each}
 use Rattle.sheet.specs.Sheet.{wrongLength, kindFits, pdosFit, someManagerWrong, someUsageWrong, broken, someUnnamed, sheetData}

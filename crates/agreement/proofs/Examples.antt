@@ -16,7 +16,7 @@ use Rattle.wire.proofs.Below.{all, below}
 use Rattle.pdi.specs.Segment.{segment}
 use Rattle.sync_manager_channel.specs.Image.{controlAt, unnamed}
 use Rattle.fmmu.specs.Image.{fieldsOf, imageOf}
-use Rattle.sheet.specs.Lists.{listOf, someBelow}
+use Rattle.grammar.specs.Lists.{listOf, someBelow}
 use Rattle.sheet.specs.Device.{pdosFrom}
 use Rattle.sheet.specs.Sheet.{wrongLength, kindFits, pdosFit, someManagerWrong, someUsageWrong, broken, someUnnamed, sheetData}
 use Rattle.pdo.specs.declared.PdoDirection.{PdoDirection}

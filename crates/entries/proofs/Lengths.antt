@@ -13,7 +13,7 @@ use lib.Dec.{ltb}
 use borrow.Author.Tests.{ltb-false, eq-eqb, ne-eqb}
 use Rattle.wire.specs.Field.{flagAt, bit}
 use Rattle.wire.proofs.Numbers.{joined-is}
-use Rattle.sheet.proofs.Lists.{some-hit}
+use Rattle.grammar.proofs.Lists.{some-hit}
 use Rattle.fmmu.specs.declared.Fmmu.{Fmmu}
 use Rattle.fmmu.specs.Image.{fieldsOf, imageOf}
 use Rattle.pdo.specs.declared.PdoDirection.{PdoDirection}

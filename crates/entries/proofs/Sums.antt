@@ -11,8 +11,8 @@ use lib.ListN.{length, getD, set, replicate}
 use lib.Seq.{getD-set-same, getD-set-other}
 use lib.Dec.{ltb}
 use borrow.Author.Tests.{lt-ltb, le-ltb}
-use Rattle.sheet.specs.Lists.{someBelow}
-use Rattle.sheet.proofs.Lists.{some-hit, some-miss, some-same}
+use Rattle.grammar.specs.Lists.{someBelow}
+use Rattle.grammar.proofs.Lists.{some-hit, some-miss, some-same}
 use Rattle.entries.specs.Use.{Use, totalOn}
 use Rattle.entries.specs.Entries.{lengthNow, tooLong, Totals}
 use Rattle.entries.proofs.Lengths.{total-here, total-other}

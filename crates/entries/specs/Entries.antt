@@ -12,7 +12,7 @@ use Rattle.pdi.specs.Offset.{pastEnd, incremented, movedOf}
 use Rattle.pdi.specs.declared.Moved.{Moved}
 use Rattle.pdi.specs.Segment.{segment}
 use Rattle.pdi.specs.declared.PdiSegment.{PdiSegment}
-use Rattle.sheet.specs.Lists.{someBelow}
+use Rattle.grammar.specs.Lists.{someBelow}
 use Rattle.area.specs.Area.{padded, entriesOf, flat}
 use Rattle.fmmu.specs.declared.Fmmu.{Fmmu}
 use Rattle.fmmu.specs.Image.{fieldsOf, imageOf}

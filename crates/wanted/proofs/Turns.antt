@@ -14,7 +14,7 @@ use borrow.Author.Tests.{eq-eqb, ne-eqb}
 use Rattle.wire.specs.Outcome.{refused, accepted, when, decide}
 use Rattle.wire.proofs.Lists.{getD-any}
 use Rattle.wire.proofs.Order.{never}
-use Rattle.sheet.specs.Lists.{listOf}
+use Rattle.grammar.specs.Lists.{listOf}
 use Rattle.sheet.specs.declared.SyncManager.{SyncManager}
 use Rattle.pdo.specs.Bits.{someOf, Piece, piecesFrom}
 use Rattle.entries.specs.Use.{firstWith}

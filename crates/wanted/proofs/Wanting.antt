@@ -12,12 +12,12 @@ use Rattle.wire.proofs.Order.{never}
 use Rattle.pdi.specs.Unit.{tooManyBits}
 use Rattle.pdi.specs.declared.BitLen.{BitLen}
 use Rattle.sheet.specs.Device.{Data}
-use Rattle.sheet.specs.Lists.{listOf}
+use Rattle.grammar.specs.Lists.{listOf}
 use Rattle.sheet.specs.Sheet.{noManager, answerOf}
 use Rattle.sheet.specs.declared.Answer.{Answer}
 use Rattle.sheet.specs.declared.Answer.the-variants.{Accepted, Refused}
 use Rattle.sheet.specs.declared.SyncManager.{SyncManager}
-use Rattle.sheet.proofs.Lists.{at-number}
+use Rattle.grammar.proofs.Lists.{at-number}
 use Rattle.channels.specs.declared.Wish.{Wish}
 use Rattle.channels.specs.Channels.{noWish}
 use Rattle.pdo.specs.declared.PdoDirection.{PdoDirection}

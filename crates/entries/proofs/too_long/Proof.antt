@@ -5,7 +5,7 @@ use mathlib.Core.Bool.{false}
 use Prim.Native.Nat.{_-_, _≤_}
 use native.Mathlib.Omega.{arith}
 use denote.Ref.{now}
-use Rattle.sheet.specs.Lists.{someBelow}
+use Rattle.grammar.specs.Lists.{someBelow}
 use Rattle.entries.specs.Entries.{mappedUses}
 use Rattle.entries.proofs.Sums.{long, none-below, long-found, long-next, long-is, long-none}
 use Rattle.entries.proofs.too_long.Statement.{statement}

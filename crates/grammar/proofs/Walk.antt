@@ -9,8 +9,8 @@ use native.Mathlib.Omega.{arith}
 use lib.ListN.{length, getD}
 use lib.Dec.{eqb, leb}
 use borrow.Author.Tests.{le-leb, lt-leb}
-use Rattle.sheet.specs.Device.{nextPdo}
-use Rattle.sheet.specs.Sheet.{kindFits, pdosFit}
+use Rattle.grammar.specs.Grammar.{nextPdo}
+use Rattle.grammar.specs.Grammar.{kindFits, pdosFit}
 
 -- no record is left
 pub walk-end : (s : List ℕ) (left at : ℕ) → left ≤ 0 → pdosFit s left at ≡ eqb at (length s)

@@ -10,7 +10,7 @@ use native.Mathlib.Numerals.{add-one}
 use native.Mathlib.Omega.{arith}
 use lib.ListN.{length, getD, set, replicate, length-append, List·getD-append}
 use lib.Seq.{set-at, append-snoc, getD-at}
-use Rattle.sheet.specs.Lists.{listOf, someBelow}
+use Rattle.grammar.specs.Lists.{listOf, someBelow}
 
 or-left : (a b : Bool) → a ≡ true → a || b ≡ true
 or-left true b e = refl

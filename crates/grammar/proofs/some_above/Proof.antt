@@ -1,4 +1,4 @@
--- `sheet::some_above`: none of the bytes looked at so far is above the limit.
+-- `grammar::some_above`: none of the bytes looked at so far is above the limit.
 -- Assumes nothing.
 use mathlib.Core.Path.{_≡_, refl, sym, _∙_, ap}
 use mathlib.Core.Bool.{false}
@@ -8,10 +8,10 @@ use denote.Ref.{now}
 use lib.ListN.{length, getD}
 use lib.Dec.{ltb}
 use borrow.Author.Tests.{lt-ltb, le-ltb}
-use Rattle.sheet.specs.Lists.{someBelow}
-use Rattle.sheet.proofs.Lists.{some-hit, some-miss}
-use Rattle.sheet.proofs.some_above.Statement.{statement}
-use Rattle.sheet.proofs.some_above.Tie as tie
+use Rattle.grammar.specs.Lists.{someBelow}
+use Rattle.grammar.proofs.Lists.{some-hit, some-miss}
+use Rattle.grammar.proofs.some_above.Statement.{statement}
+use Rattle.grammar.proofs.some_above.Tie as tie
 
 abbrev Inv-loop : tie.InvT-loop
 Inv-loop sheet at step count limit k₀ k = (k ≤ count) × (someBelow (λ j. ltb limit (getD sheet (at + step * j) 0)) k ≡ false)
@@ -25,7 +25,7 @@ loop-holds c = (omega arith, refl)
 
 -- the byte looked at stands in the sheet
 within : (c : tie.In-loop Inv-loop μ-loop) → let a = c .before .before .args in a .at + a .step * c .before .loop .k < length (now (a .sheet))
-within c = c .before .before .pre .1 (c .before .loop .k) (c .loop-test .taken)
+within c = c .before .before .pre (c .before .loop .k) (c .loop-test .taken)
 
 mul-if1 : tie.Need-mul-if1 Inv-loop μ-loop
 mul-if1 c = omega (arith, within c)

@@ -1,4 +1,4 @@
--- `sheet::pdos_fit`: whether the records left fit from where the walk stands is whether all fit from the start.
+-- `grammar::pdos_fit`: whether the records left fit from where the walk stands is whether all fit from the start.
 -- Assumes nothing.
 use mathlib.Core.Path.{_≡_, refl, sym, _∙_}
 use Prim.Native.Nat.{_+_, _≤_}
@@ -6,10 +6,10 @@ use native.Mathlib.Omega.{arith}
 use denote.Ref.{now}
 use lib.ListN.{length}
 use borrow.Author.Tests.{not-true, not-false}
-use Rattle.sheet.specs.Sheet.{pdosFit}
-use Rattle.sheet.proofs.Walk.{walk-end, walk-past, walk-odd, walk-on}
-use Rattle.sheet.proofs.pdos_fit.Statement.{statement}
-use Rattle.sheet.proofs.pdos_fit.Tie as tie
+use Rattle.grammar.specs.Grammar.{pdosFit}
+use Rattle.grammar.proofs.Walk.{walk-end, walk-past, walk-odd, walk-on}
+use Rattle.grammar.proofs.pdos_fit.Statement.{statement}
+use Rattle.grammar.proofs.pdos_fit.Tie as tie
 
 abbrev Inv-loop : tie.InvT-loop
 Inv-loop sheet p at left₀ place₀ left place = (place ≤ length sheet) × (pdosFit sheet left place ≡ pdosFit sheet p at)
@@ -18,7 +18,7 @@ abbrev μ-loop : tie.MeasureT-loop
 μ-loop sheet p at left₀ place₀ left place = left
 
 loop-holds : tie.Need-loop-holds Inv-loop μ-loop
-loop-holds c = (c .before .pre .0, refl)
+loop-holds c = (c .before .pre, refl)
 
 add-if1 : tie.Need-add-if1 Inv-loop μ-loop
 add-if1 c = omega arith

@@ -1,9 +1,9 @@
--- `sheet::kind_fits`: the tests that led to each return say which case of `kindFits` holds.
+-- `grammar::kind_fits`: the tests that led to each return say which case of `kindFits` holds.
 -- Assumes nothing.
 use borrow.Author.Tests.{eq-eqb, ne-eqb, lt-ltb, le-ltb, le-leb, lt-leb}
-use Rattle.sheet.specs.Sheet.{kindFits}
-use Rattle.sheet.proofs.kind_fits.Statement.{statement}
-use Rattle.sheet.proofs.kind_fits.Tie as tie
+use Rattle.grammar.specs.Grammar.{kindFits}
+use Rattle.grammar.proofs.kind_fits.Statement.{statement}
+use Rattle.grammar.proofs.kind_fits.Tie as tie
 
 ruleset tests = (eq-eqb, ne-eqb, lt-ltb, le-ltb, le-leb, lt-leb)
 

@@ -8,9 +8,9 @@ use native.Mathlib.Omega.{arith}
 use lib.ListN.{length, getD}
 use lib.Dec.{eqb, ltb}
 use borrow.Author.Tests.{eq-eqb, ne-eqb, lt-ltb, le-ltb, ltb-false, eqb-true, not-false}
-use Rattle.sheet.specs.Lists.{someBelow}
-use Rattle.sheet.specs.Sheet.{follow, managerCount, usageCount, pdoCount, managerPlace, usagesPlace, pdosPlace, wrongLength, pdosFit, someManagerWrong, someUsageWrong, broken}
-use Rattle.sheet.proofs.Lists.{some-same}
+use Rattle.grammar.specs.Lists.{someBelow}
+use Rattle.grammar.specs.Grammar.{follow, managerCount, usageCount, pdoCount, managerPlace, usagesPlace, pdosPlace, wrongLength, pdosFit, someManagerWrong, someUsageWrong, broken}
+use Rattle.grammar.proofs.Lists.{some-same}
 
 or-true : (b : Bool) → b || true ≡ true
 or-true true = refl
