@@ -22,7 +22,7 @@ use Rattle.sheet.specs.Sheet.{wrongLength, kindFits, pdosFit, someManagerWrong,
 use Rattle.pdo.specs.declared.PdoDirection.{PdoDirection}
 use Rattle.pdo.specs.declared.PdoDirection.the-variants.{MasterRead, MasterWrite}
 use Rattle.pdo.specs.Bits.{multiplierOf, byCoe, bitsOf, piecesFrom, piecesOf}
-use Rattle.entries.specs.Use.{own, given, firstWith, usesOf, total, totalOn, sizeOf}
+use Rattle.uses.specs.Use.{own, given, firstWith, usesOf, total, totalOn, sizeOf}
 use Rattle.area.specs.Area.{chunks, entriesOf, flat}
 use Rattle.entries.specs.Entries.{mapped, plan, Planned, tooLong}
 use Rattle.wanted.specs.Wanted.{someTooMany, noEntry}

@@ -25,7 +25,7 @@ use Rattle.pdo.specs.declared.Terms.{Terms}
 use Rattle.pdo.specs.Direction.{usageOf, termsOf}
 use Rattle.pdo.specs.Bits.{byCoe, pathKind, bitsOf, sumsOf, piecesFrom, piecesOf}
 use Rattle.pdo.proofs.Bits.{tally-at}
-use Rattle.entries.specs.Use.{firstWith, coeEntry}
+use Rattle.uses.specs.Use.{firstWith, coeEntry}
 use Rattle.wanted.specs.declared.Wanted.{Wanted}
 use Rattle.wanted.specs.Wishes.{bitsIn, dataWish, someTooWide, filled, wishesAfter}
 use Rattle.wanted.specs.Wanted.{someTooMany, noEntry, wantedRefusals, wishesOf, wantedFrom, wantedAfter, Wants}

@@ -13,9 +13,9 @@ use lib.Dec.{ltb}
 use borrow.Author.Tests.{lt-ltb, le-ltb}
 use Rattle.grammar.specs.Lists.{someBelow}
 use Rattle.grammar.proofs.Lists.{some-hit, some-miss, some-same}
-use Rattle.entries.specs.Use.{Use, totalOn}
-use Rattle.entries.specs.Entries.{lengthNow, tooLong, Totals}
-use Rattle.entries.proofs.Lengths.{total-here, total-other}
+use Rattle.uses.specs.Use.{Use, totalOn}
+use Rattle.uses.specs.Length.{lengthNow, tooLong, Totals}
+use Rattle.uses.proofs.Room.{total-here, total-other}
 
 -- nothing is added yet
 zeros : (n k : ℕ) → _≡_ {A = ℕ} (getD (replicate n 0) k 0) 0

@@ -1,12 +1,12 @@
--- `entries::length_now`: the length that the entry says, if it is enabled.
+-- `uses::length_now`: the length that the entry says, if it is enabled.
 -- Assumes nothing.
 use mathlib.Core.Path.{sym, _∙_, ap}
 use mathlib.Core.Bool.{Bool, cond}
 use native.Mathlib.Omega.{arith}
 use borrow.Author.Needs.{needs}
-use Rattle.entries.specs.Entries.{lengthOf}
-use Rattle.entries.proofs.length_now.Statement.{statement}
-use Rattle.entries.proofs.length_now.Tie as tie
+use Rattle.uses.specs.Length.{lengthOf}
+use Rattle.uses.proofs.length_now.Statement.{statement}
+use Rattle.uses.proofs.length_now.Tie as tie
 
 unpack-requires : tie.Need-unpack-requires
 unpack-requires c κs = search needs

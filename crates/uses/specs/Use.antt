@@ -1,16 +1,18 @@
 -- Which sync manager uses which entry: the one place that knows the path.
 -- Assumes nothing.
 use mathlib.Core.Bool.{Bool, cond, not, _&&_, _||_}
-use mathlib.Core.List.{List, [], _∷_}
-use Prim.Native.Nat.{ℕ, zero, suc, _+_}
-use lib.ListN.{getD}
+use mathlib.Core.List.{List, [], _∷_, _++_, map}
+use Prim.Native.Nat.{ℕ, zero, suc, _+_, _-_}
+use lib.ListN.{length, getD, take, replicate}
 use lib.Dec.{eqb, ltb}
 use Rattle.pdi.specs.Unit.{bytesOf}
 use Rattle.sheet.specs.Device.{Data}
 use Rattle.sheet.specs.declared.SyncManager.{SyncManager}
 use Rattle.channels.specs.declared.Wish.{Wish}
 use Rattle.channels.specs.Channels.{noWish}
-use Rattle.entries.specs.declared.Route.{Route}
+use Rattle.uses.specs.declared.Route.{Route}
+use Rattle.uses.specs.declared.Mapping.{Mapping}
+use Rattle.uses.specs.declared.Mappings.{Mappings}
 use Rattle.pdo.specs.declared.PdoDirection.{PdoDirection}
 use Rattle.pdo.specs.Direction.{fmmuUsageOf}
 use Rattle.pdo.specs.Bits.{Piece, byCoe, piecesOf}
@@ -71,3 +73,20 @@ usesFrom route ws k (m ∷ ms) =
     (takes route (getD ws k noWish))
     (record { entry = cond (route .coe) (route .entry) k; size = getD ws k noWish .size .0; at = m .«start_addr» } ∷ usesFrom route ws (suc k) ms)
     (usesFrom route ws (suc k) ms)
+
+-- uses as code holds them: at the front of a list of sixteen, with nothing behind them
+abbrev pub noMapping : Mapping
+noMapping = record { entry = 0; size = record { 0 = 0 }; at = 0 }
+
+abbrev pub mappingOf : Use → Mapping
+mappingOf u = record { entry = u .entry; size = record { 0 = u .size }; at = u .at }
+
+abbrev pub mappingsOf : List Use → Mappings
+mappingsOf us = record { list = map mappingOf us ++ replicate (16 - length us) noMapping; count = length us }
+
+-- and back
+abbrev pub useFrom : Mapping → Use
+useFrom m = record { entry = m .entry; size = m .size .0; at = m .at }
+
+abbrev pub mappedUses : Mappings → List Use
+mappedUses ms = map useFrom (take (ms .count) (ms .list))

@@ -1,11 +1,11 @@
--- `entries::takes_entry`: the test of each flag, and of the size.
+-- `uses::takes_entry`: the test of each flag, and of the size.
 -- Assumes nothing.
 use mathlib.Core.Path.{_≡_, refl, sym, _∙_, ap}
 use mathlib.Core.Bool.{Bool, true, false, not, _&&_, _||_}
 use lib.Dec.{ltb}
 use borrow.Author.Tests.{not-true, not-false}
-use Rattle.entries.proofs.takes_entry.Statement.{statement}
-use Rattle.entries.proofs.takes_entry.Tie as tie
+use Rattle.uses.proofs.takes_entry.Statement.{statement}
+use Rattle.uses.proofs.takes_entry.Tie as tie
 
 alone : (b : Bool) → b ≡ b && true
 alone true = refl

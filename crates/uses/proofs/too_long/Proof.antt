@@ -1,4 +1,4 @@
--- `entries::too_long`: the question of each entry in turn.
+-- `uses::too_long`: the question of each entry in turn.
 -- Assumes nothing.
 use mathlib.Core.Path.{_≡_, sym, _∙_}
 use mathlib.Core.Bool.{false}
@@ -6,10 +6,10 @@ use Prim.Native.Nat.{_-_, _≤_}
 use native.Mathlib.Omega.{arith}
 use denote.Ref.{now}
 use Rattle.grammar.specs.Lists.{someBelow}
-use Rattle.entries.specs.Entries.{mappedUses}
-use Rattle.entries.proofs.Sums.{long, none-below, long-found, long-next, long-is, long-none}
-use Rattle.entries.proofs.too_long.Statement.{statement}
-use Rattle.entries.proofs.too_long.Tie as tie
+use Rattle.uses.specs.Use.{mappedUses}
+use Rattle.uses.proofs.Sums.{long, none-below, long-found, long-next, long-is, long-none}
+use Rattle.uses.proofs.too_long.Statement.{statement}
+use Rattle.uses.proofs.too_long.Tie as tie
 
 abbrev Inv-loop : tie.InvT-loop
 Inv-loop entries totals k₀ k = (k ≤ 16) × (someBelow (long entries totals) k ≡ false)
@@ -18,7 +18,7 @@ abbrev μ-loop : tie.MeasureT-loop
 μ-loop entries totals k₀ k = 16 - k
 
 totals-of-requires : tie.Need-totals-of-requires Inv-loop μ-loop
-totals-of-requires c κs = c .pre
+totals-of-requires c κs = tt
 
 loop-holds : tie.Need-loop-holds Inv-loop μ-loop
 loop-holds c = (omega arith, none-below (long (now (c .before .args .entries)) (c .totals-of .result)))

@@ -1,4 +1,4 @@
--- `entries::mappings_of`: each turn collects a use, or none.
+-- `uses::mappings_of`: each turn collects a use, or none.
 -- Assumes nothing.
 use mathlib.Core.Path.{_≡_, refl, sym, _∙_, ap}
 use mathlib.Core.Logic.{⊎-elim}
@@ -10,9 +10,9 @@ use Rattle.channels.specs.Channels.{noWish}
 use Rattle.sync_manager_channel.specs.Image.{controlAt}
 use Rattle.sheet.specs.declared.SyncManager.{SyncManager}
 use Rattle.sheet.specs.Sheet.{noManager}
-use Rattle.entries.proofs.Held.{Collecting, collecting-starts, collecting-at, collecting-takes, collecting-skips, collecting-ends}
-use Rattle.entries.proofs.mappings_of.Statement.{statement}
-use Rattle.entries.proofs.mappings_of.Tie as tie
+use Rattle.uses.proofs.Held.{Collecting, collecting-starts, collecting-at, collecting-takes, collecting-skips, collecting-ends}
+use Rattle.uses.proofs.mappings_of.Statement.{statement}
+use Rattle.uses.proofs.mappings_of.Tie as tie
 
 abbrev Inv-loop : tie.InvT-loop
 Inv-loop n route managers wishes list₀ count₀ most k₀ list count k =
@@ -28,7 +28,7 @@ loop-holds : tie.Need-loop-holds Inv-loop μ-loop
 loop-holds c =
     let a = c .before .args in
     let g = c .before .good in
-    (omega arith, c .least .ensures, g .0 .1 .0 .1, g .1 .1 .0 .1 .0 .1, collecting-starts (a .route) (a .t3) (take (a .n) (a .t1)) _ refl)
+    (omega arith, c .least .ensures, g .0 .1 .0 .1, g .1 .1 .0 .1 .0 .1, collecting-starts (a .route) (a .t3) (take (a .n) (a .t1)))
 
 mul-wish : tie.Need-mul-wish Inv-loop μ-loop
 mul-wish c = omega arith
@@ -85,7 +85,7 @@ returns c =
     let a = c .before .before .before .args in
     let i = l .inv in
     let n = length-take (a .n) (a .t1) in
-    (omega arith, i .4 .many, collecting-ends (i .4) (omega arith))
+    (collecting-ends (i .4) (omega arith), omega arith, i .4 .many)
 
 pub mappings-of-spec : {M : Type 1} → statement M
 mappings-of-spec =
