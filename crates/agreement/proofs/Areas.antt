@@ -10,7 +10,7 @@ use lib.Seq.{length-take-le, take-at, drop-at}
 use Rattle.fmmu.proofs.RoundTrip.{image-length}
 use Rattle.sheet.specs.Sound.{Each}
 use Rattle.pdo.specs.declared.PdoDirection.{PdoDirection}
-use Rattle.entries.specs.Use.{Use}
+use Rattle.uses.specs.Use.{Use}
 use Rattle.area.specs.Area.{chunks, entriesOf, flat}
 use Rattle.entries.specs.Entries.{plan}
 use Rattle.agreement.proofs.Run.{made, after, plan-length}

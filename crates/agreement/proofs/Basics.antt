@@ -16,7 +16,7 @@ use borrow.Author.Tests.{le-leb, lt-ltb, lt-leb, le-ltb, ltb-true, ltb-false}
 use Rattle.wire.specs.Outcome.{refused, accepted, Refusal, decide}
 use Rattle.wire.proofs.Order.{never}
 use Rattle.sheet.specs.Sound.{Each}
-use Rattle.sheet.specs.Lists.{someBelow}
+use Rattle.grammar.specs.Lists.{someBelow}
 use Rattle.pdo.specs.Bits.{someOf}
 use Rattle.translation.specs.Translate.{within, firstSaid}
 

@@ -8,12 +8,12 @@ use lib.Dec.{T, eqb, eqb→eq}
 use Rattle.wire.specs.Outcome.{Outcome, refused, accepted}
 use Rattle.sync_manager_channel.specs.Image.{controlAt, unnamed, controlByte}
 use Rattle.fmmu.specs.Image.{fieldsOf, imageOf}
-use Rattle.sheet.specs.Lists.{listOf, someBelow}
+use Rattle.grammar.specs.Lists.{listOf, someBelow}
 use Rattle.sheet.specs.Device.{pdosFrom}
 use Rattle.sheet.specs.Sound.{Each}
 use Rattle.sheet.specs.Sheet.{wrongLength, kindFits, pdosFit, someManagerWrong, someUsageWrong, broken, someUnnamed, sheetData}
 use Rattle.pdo.specs.Bits.{multiplierOf, byCoe, bitsOf, piecesFrom, piecesOf}
-use Rattle.entries.specs.Use.{own, given, firstWith, usesOf, total, totalOn, sizeOf}
+use Rattle.uses.specs.Use.{own, given, firstWith, usesOf, total, totalOn, sizeOf}
 use Rattle.area.specs.Area.{chunks, flat}
 use Rattle.entries.specs.Entries.{plan, tooLong}
 use Rattle.wanted.specs.Wanted.{someTooMany, noEntry}

@@ -16,7 +16,7 @@ use Rattle.sheet.specs.Sound.{Each}
 use Rattle.sheet.specs.Sheet.{sheetData}
 use Rattle.pdo.specs.declared.PdoDirection.{PdoDirection}
 use Rattle.pdo.specs.Direction.{other}
-use Rattle.entries.specs.Use.{Use, total}
+use Rattle.uses.specs.Use.{Use, total}
 use Rattle.area.specs.Area.{entriesOf}
 use Rattle.translation.specs.Translate.{named, says, firstSaid, orNone, translate}
 use Rattle.agreement.specs.Agreement.{AllBytes, EveryDisabled, Lent, weights, TwoPasses, EndToEnd, laidBy, counted}

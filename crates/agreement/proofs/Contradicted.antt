@@ -15,7 +15,7 @@ use Rattle.sheet.specs.Sound.{Each}
 use Rattle.sheet.specs.Sheet.{sheetData}
 use Rattle.pdo.specs.declared.PdoDirection.{PdoDirection}
 use Rattle.pdo.specs.Direction.{other}
-use Rattle.entries.specs.Use.{Use, total, sizeOf}
+use Rattle.uses.specs.Use.{Use, total, sizeOf}
 use Rattle.area.specs.Area.{entriesOf, flat}
 use Rattle.entries.specs.Entries.{plan}
 use Rattle.translation.specs.Translate.{says, odd, orNone, translate}

@@ -22,7 +22,7 @@ use Rattle.pdi.specs.declared.PdiSegment.{PdiSegment}
 use Rattle.pdi.specs.declared.PdiOffset.{PdiOffset}
 use Rattle.pdo.specs.Direction.{other}
 use Rattle.pdo.specs.Bits.{someOf, piecesOf}
-use Rattle.entries.specs.Use.{Use, own, totalOn, sizeOf}
+use Rattle.uses.specs.Use.{Use, own, totalOn, sizeOf}
 use Rattle.area.specs.Area.{entriesOf, notEntries, notChannels}
 use Rattle.entries.specs.Entries.{plan, lengthNow, Planned, tooLong}
 use Rattle.wanted.specs.Wanted.{someTooMany, noEntry}

@@ -16,13 +16,13 @@ use Rattle.wire.proofs.Below.{all, below}
 use Rattle.pdi.specs.Segment.{segment}
 use Rattle.sync_manager_channel.specs.Image.{controlAt, unnamed}
 use Rattle.fmmu.specs.Image.{fieldsOf, imageOf}
-use Rattle.sheet.specs.Lists.{listOf, someBelow}
+use Rattle.grammar.specs.Lists.{listOf, someBelow}
 use Rattle.sheet.specs.Device.{pdosFrom}
 use Rattle.sheet.specs.Sheet.{wrongLength, kindFits, pdosFit, someManagerWrong, someUsageWrong, broken, someUnnamed, sheetData}
 use Rattle.pdo.specs.declared.PdoDirection.{PdoDirection}
 use Rattle.pdo.specs.declared.PdoDirection.the-variants.{MasterRead, MasterWrite}
 use Rattle.pdo.specs.Bits.{multiplierOf, byCoe, bitsOf, piecesFrom, piecesOf}
-use Rattle.entries.specs.Use.{own, given, firstWith, usesOf, total, totalOn, sizeOf}
+use Rattle.uses.specs.Use.{own, given, firstWith, usesOf, total, totalOn, sizeOf}
 use Rattle.area.specs.Area.{chunks, entriesOf, flat}
 use Rattle.entries.specs.Entries.{mapped, plan, Planned, tooLong}
 use Rattle.wanted.specs.Wanted.{someTooMany, noEntry}

@@ -16,7 +16,7 @@ use Rattle.sheet.specs.Sound.{Each}
 use Rattle.pdo.specs.declared.PdoDirection.{PdoDirection}
 use Rattle.pdo.specs.Direction.{other}
 use Rattle.pdo.specs.Bits.{someOf}
-use Rattle.entries.specs.Use.{Use, total, totalOn}
+use Rattle.uses.specs.Use.{Use, total, totalOn}
 use Rattle.entries.specs.Entries.{laid, plan, lengthNow}
 use Rattle.translation.specs.Translate.{named, carries, says, odd, firstSaid, orNone}
 use Rattle.agreement.specs.Agreement.{EndToEnd}

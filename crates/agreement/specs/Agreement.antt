@@ -16,7 +16,7 @@ use Rattle.pdo.specs.declared.PdoDirection.{PdoDirection}
 use Rattle.pdo.specs.Direction.{other}
 use Rattle.pdo.specs.declared.Oversampling.{Oversampling}
 use Rattle.pdo.specs.Bits.{multipliersOf, piecesOf}
-use Rattle.entries.specs.Use.{Use, own, usesOf}
+use Rattle.uses.specs.Use.{Use, own, usesOf}
 use Rattle.area.specs.Area.{entriesOf}
 use Rattle.subdevice.specs.Pass.{dataPass, entriesAfter}
 use Rattle.entries.specs.Entries.{Planned}

@@ -24,8 +24,8 @@ use Rattle.channels.specs.Channels.{noWish}
 use Rattle.pdo.specs.declared.PdoDirection.{PdoDirection}
 use Rattle.pdo.specs.Direction.{usageOf}
 use Rattle.pdo.specs.Bits.{Piece, pathKind, bitsOf, piecesFrom, piecesOf}
-use Rattle.entries.specs.Use.{own, total, sizeOf}
-use Rattle.entries.proofs.Pieces.{wishFor}
+use Rattle.uses.specs.Use.{own, total, sizeOf}
+use Rattle.uses.proofs.Pieces.{wishFor}
 use Rattle.wanted.specs.declared.Wanted.{Wanted}
 use Rattle.wanted.specs.Wanted.{someTooMany, noEntry, wantedRefusals, wishesOf, wantedFrom, Wants}
 use Rattle.wanted.proofs.Wanting.{wish-at, wanted-refused, wanted-accepted}

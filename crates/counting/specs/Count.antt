@@ -12,7 +12,7 @@ use Rattle.sheet.specs.Device.{Data}
 use Rattle.sheet.specs.Sheet.{sheetRefusals, sheetData}
 use Rattle.pdo.specs.declared.PdoDirection.{PdoDirection}
 use Rattle.pdo.specs.Bits.{Piece, piecesOf}
-use Rattle.entries.specs.Use.{sizeOf}
+use Rattle.uses.specs.Use.{sizeOf}
 use Rattle.wanted.specs.Wanted.{someTooMany, noEntry}
 use Rattle.sheet.specs.declared.SyncManager.{SyncManager}
 use Rattle.channels.specs.declared.Wish.{Wish}

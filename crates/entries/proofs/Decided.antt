@@ -17,8 +17,9 @@ use Rattle.pdi.specs.declared.Moved.{Moved}
 use Rattle.area.specs.Area.{padded, entriesOf, flat}
 use Rattle.pdo.specs.declared.PdoDirection.{PdoDirection}
 use Rattle.entries.specs.declared.Configured.the-variants.{Mapped, Refused}
-use Rattle.entries.specs.Use.{Use, total}
-use Rattle.entries.specs.Entries.{plan, tooLong, Lays, Planned, planned, entriesOutcome, entryArea, WritesEntries}
+use Rattle.uses.specs.Use.{Use, total}
+use Rattle.uses.specs.Length.{tooLong}
+use Rattle.entries.specs.Entries.{plan, Lays, Planned, planned, entriesOutcome, entryArea, WritesEntries}
 use Rattle.entries.proofs.Laying.{stepped}
 
 -- the offset alone decides whether a segment that starts there is below the group start

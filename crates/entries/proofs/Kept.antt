@@ -8,7 +8,7 @@ use Rattle.fmmu.specs.Image.{fieldsOf, imageOf}
 use Rattle.fmmu.proofs.RoundTrip.{image-length}
 use Rattle.area.proofs.Flat.{Rows, rows-set}
 use Rattle.pdo.specs.declared.PdoDirection.{PdoDirection}
-use Rattle.entries.specs.Use.{Use}
+use Rattle.uses.specs.Use.{Use}
 use Rattle.entries.specs.Entries.{laid, withUse, plan}
 
 pub plan-length : (r : PdoDirection) (offset : ℕ) (us : List Use) (area : List (List ℕ)) → length (plan r offset us area) ≡ length area

@@ -12,9 +12,11 @@ use Rattle.wire.proofs.Order.{never, passed-answer}
 use Rattle.pdi.specs.Offset.{pastEnd, incremented}
 use Rattle.pdi.specs.declared.Moved.the-variants.{To, Refused}
 use Rattle.pdo.specs.declared.PdoDirection.{PdoDirection}
-use Rattle.entries.specs.Use.{Use, total}
-use Rattle.entries.specs.Entries.{withUse, plan, lengthNow, tooLong, Lays}
-use Rattle.entries.proofs.Lengths.{Room, not-too-long, room-first, room-rest}
+use Rattle.uses.specs.Use.{Use, total}
+use Rattle.uses.specs.Length.{lengthNow, tooLong}
+use Rattle.entries.specs.Entries.{withUse, plan, Lays}
+use Rattle.uses.proofs.Room.{Room, not-too-long}
+use Rattle.entries.proofs.Lengths.{room-first, room-rest}
 
 -- the uses `us` from the offset on over the entries `before`, of which `rest` are still to be laid from `next` on over the entries `now`
 pub record Laying (us : List Use) (r : PdoDirection) (offset : ℕ) (before : List (List ℕ)) (rest : List Use) (next : ℕ) (now : List (List ℕ)) : Type 0 where

@@ -1,7 +1,7 @@
 -- The lengths of entries: none grows past 65,535 on the way if none does in the end.
 -- Assumes nothing.
 use mathlib.Core.Path.{_≡_, refl, sym, _∙_, ap, ap₂, subst}
-use mathlib.Core.Bool.{Bool, true, false, cond, false≢true}
+use mathlib.Core.Bool.{Bool, true, false, cond}
 use mathlib.Core.List.{List, [], _∷_}
 use Prim.Native.Nat.{ℕ, _+_, _<_, _≤_}
 use native.Mathlib.Nat.{zero-add}
@@ -9,16 +9,15 @@ use native.Mathlib.Decide.{ℕ-discrete}
 use native.Mathlib.Omega.{arith}
 use lib.ListN.{length, getD}
 use lib.Seq.{getD-set-same, getD-set-other}
-use lib.Dec.{ltb}
-use borrow.Author.Tests.{ltb-false, eq-eqb, ne-eqb}
 use Rattle.wire.specs.Field.{flagAt, bit}
 use Rattle.wire.proofs.Numbers.{joined-is}
-use Rattle.sheet.proofs.Lists.{some-hit}
 use Rattle.fmmu.specs.declared.Fmmu.{Fmmu}
 use Rattle.fmmu.specs.Image.{fieldsOf, imageOf}
 use Rattle.pdo.specs.declared.PdoDirection.{PdoDirection}
-use Rattle.entries.specs.Use.{Use, totalOn}
-use Rattle.entries.specs.Entries.{mapped, grown, laid, withUse, lengthOf, lengthNow, tooLong}
+use Rattle.uses.specs.Use.{Use, totalOn}
+use Rattle.uses.specs.Length.{lengthOf, lengthNow}
+use Rattle.uses.proofs.Room.{Room, total-here, total-other}
+use Rattle.entries.specs.Entries.{mapped, grown, laid, withUse}
 
 flag-back : (x : Bool) → flagAt (bit x) 0 ≡ x
 flag-back true = refl
@@ -45,31 +44,6 @@ laid-length r o u f h = go (f .enable) refl
         let s : u .size ≤ 65535 = omega arith in
         let t : u .size ≡ lengthOf f + u .size = rw (e, zero-add) in
         chosen e ∙ written-length (mapped r o (u .size) (u .at)) s ∙ t
-
--- no entry's length exceeds 65,535 with these uses
-pub record Room (us : List Use) (entries : List (List ℕ)) : Type 0 where
-  pub fits : (k : ℕ) → k < 16 → lengthNow (getD entries k []) + totalOn k us ≤ 65535
-
-pub not-too-long : (us : List Use) (entries : List (List ℕ)) → tooLong us entries ≡ false → Room us entries
-unfolding tooLong
-not-too-long us entries e = record { fits = λ k h. ltb-false 65535 (long k) (none k h (ltb 65535 (long k)) refl) }
-  where
-    long : ℕ → ℕ
-    long k = lengthNow (getD entries k []) + totalOn k us
-
-    none : (k : ℕ) → k < 16 → (b : Bool) → ltb 65535 (long k) ≡ b → b ≡ false
-    none k h false s = refl
-    none k h true s = absurd (false≢true (sym e ∙ some-hit (λ j. ltb 65535 (long j)) k 16 h s))
-
--- what a use adds to the bytes on an entry
-module _ (u : Use) (us : List Use) (k : ℕ) where
-  pub total-here : u .entry ≡ k → totalOn k (u ∷ us) ≡ u .size + totalOn k us
-  unfolding totalOn
-  total-here e = rw (eq-eqb (u .entry) k e)
-
-  pub total-other : (u .entry ≡ k → ⊥) → totalOn k (u ∷ us) ≡ totalOn k us
-  unfolding totalOn
-  total-other e = rw (ne-eqb (u .entry) k e, zero-add)
 
 module _ (u : Use) (us : List Use) (entries : List (List ℕ)) (room : Room (u ∷ us) entries) where
   -- the first use's own entry has room for it

@@ -1,10 +1,10 @@
 -- The FMMU entries that a pass leaves.
 -- Assumes nothing.
 use mathlib.Core.Path.{_≡_}
-use mathlib.Core.Bool.{Bool, true, false, cond}
-use mathlib.Core.List.{List, [], _∷_, map}
-use Prim.Native.Nat.{ℕ, _+_, _-_, _<_, _≤_}
-use lib.ListN.{getD, take, set}
+use mathlib.Core.Bool.{true, false, cond}
+use mathlib.Core.List.{List, [], _∷_}
+use Prim.Native.Nat.{ℕ, _+_, _-_}
+use lib.ListN.{getD, set}
 use lib.Dec.{ltb}
 use Rattle.wire.specs.Outcome.{Outcome, refused, accepted, Refusal, when, decide}
 use Rattle.wire.specs.Room.{over}
@@ -12,17 +12,16 @@ use Rattle.pdi.specs.Offset.{pastEnd, incremented, movedOf}
 use Rattle.pdi.specs.declared.Moved.{Moved}
 use Rattle.pdi.specs.Segment.{segment}
 use Rattle.pdi.specs.declared.PdiSegment.{PdiSegment}
-use Rattle.sheet.specs.Lists.{someBelow}
 use Rattle.area.specs.Area.{padded, entriesOf, flat}
 use Rattle.fmmu.specs.declared.Fmmu.{Fmmu}
 use Rattle.fmmu.specs.Image.{fieldsOf, imageOf}
 use Rattle.pdo.specs.declared.PdoDirection.{PdoDirection}
 use Rattle.pdo.specs.Direction.{isRead, isWrite}
-use Rattle.entries.specs.declared.Mapping.{Mapping}
-use Rattle.entries.specs.declared.Mappings.{Mappings}
+use Rattle.uses.specs.Use.{Use, total}
+pub use Rattle.uses.specs.Length.{lengthNow}
+unfoldable pub use Rattle.uses.specs.Length.{tooLong}
 use Rattle.entries.specs.declared.Configured.{Configured}
 use Rattle.entries.specs.declared.Configured.the-variants.{Mapped, Refused}
-use Rattle.entries.specs.Use.{Use, total, totalOn}
 
 -- a disabled entry becomes: logical start the offset, the size, bits 0 to 7, the physical start, physical bit 0, its direction bit, enabled
 abbrev pub mapped : PdoDirection → ℕ → ℕ → ℕ → Fmmu
@@ -67,29 +66,6 @@ unfoldable pub plan : PdoDirection → ℕ → List Use → List (List ℕ) → 
 plan r offset [] area = area
 plan r offset (u ∷ us) area =
     plan r (offset + u .size) us (withUse r offset u area)
-
--- an entry's length, of which a disabled one has none
-abbrev pub lengthOf : Fmmu → ℕ
-lengthOf f = cond (f .enable) (f .«length_bytes» .0) 0
-
-abbrev pub lengthNow : List ℕ → ℕ
-lengthNow e = lengthOf (fieldsOf e)
-
--- uses as code holds them
-abbrev pub useFrom : Mapping → Use
-useFrom m = record { entry = m .entry; size = m .size .0; at = m .at }
-
-abbrev pub mappedUses : Mappings → List Use
-mappedUses ms = map useFrom (take (ms .count) (ms .list))
-
--- the bytes that come onto each entry, those of the uses in `rest` still to be added; none is above `most`
-pub record Totals (us rest : List Use) (most : ℕ) (totals : List ℕ) : Type 0 where
-  pub sum : (k : ℕ) → k < 16 → getD totals k 0 + totalOn k rest ≡ totalOn k us
-  pub below : (k : ℕ) → getD totals k 0 ≤ most
-
--- 8: an entry's exact length would exceed 65,535
-unfoldable pub tooLong : List Use → List (List ℕ) → Bool
-tooLong us entries = someBelow (λ k. ltb 65535 (lengthNow (getD entries k []) + totalOn k us)) 16
 
 -- the promise of laying uses that are not too long: the next offset and the entries, or 9
 pub record Lays (us : List Use) (r : PdoDirection) (offset : ℕ) (entries : List (List ℕ)) (answer : Moved) (after : List (List ℕ)) : Type 0 where

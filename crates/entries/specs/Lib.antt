@@ -1,3 +1,2 @@
--- Which sync manager uses which FMMU entry, and what a pass leaves there.
-pub mod Use
+-- What a pass leaves in the FMMU entries.
 pub mod Entries

@@ -10,7 +10,7 @@ use lib.Dec.{eqb}
 use Rattle.pdi.specs.declared.BitLen.{BitLen}
 use Rattle.sheet.specs.Sound.{Each, sum}
 use Rattle.sheet.specs.Device.{Pdo}
-use Rattle.sheet.proofs.Lists.{length-listOf, getD-listOf}
+use Rattle.grammar.proofs.Lists.{length-listOf, getD-listOf}
 use Rattle.pdo.specs.declared.Oversampling.{Oversampling}
 use Rattle.pdo.specs.Bits.{multiplierOf, multipliersOf, firstOf, othersOf, bitsOf, sumsOf}
 use Rattle.pdo.proofs.Records.{product-bounded}

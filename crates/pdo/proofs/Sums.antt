@@ -12,7 +12,7 @@ use lib.Seq.{ext-getD, getD-set-same, getD-set-other}
 use lib.Dec.{eqb, ltb}
 use borrow.Author.Tests.{eqb-true, eqb-false, ltb-true, ltb-false, ne-eqb}
 use Rattle.pdi.specs.declared.BitLen.{BitLen}
-use Rattle.sheet.specs.Lists.{listOf}
+use Rattle.grammar.specs.Lists.{listOf}
 use Rattle.sheet.specs.Sound.{sum}
 use Rattle.sheet.specs.Device.{pdoAt, nextPdo, pdosFrom}
 use Rattle.pdo.specs.Bits.{firstOf, othersOf, bitsOf, partOf, sumsOf}

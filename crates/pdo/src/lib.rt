@@ -2,7 +2,7 @@
 ghost use mathlib.Core.Path.{_≡_};
 ghost use Prim.Native.Nat.{_+_, _≤_};
 ghost use lib.ListN.{length, getD};
-ghost use Rattle.sheet.specs.Lists.{listOf};
+ghost use Rattle.grammar.specs.Lists.{listOf};
 ghost use Rattle.sheet.specs.Sound.{sum};
 ghost use Rattle.sheet.specs.Device.{pdoAt, pdosFrom};
 ghost use Rattle.pdo.specs.Direction.{termsOf};
@@ -58,12 +58,6 @@ pub fn byte_at(bytes: &[u8], at: usize) -> u8
     0
 }
 
-fn wide(x: u8) -> usize
-    ensures { λ r. ⌜ (r ≡ x) × (r ≤ 255) ⌝ }
-{
-    x as usize
-}
-
 // The sum of the bytes of a part.
 fn sum_bytes(part: &[u8]) -> u64
     requires { ⌜ length (now part) ≤ 255 ⌝ }
@@ -72,7 +66,7 @@ fn sum_bytes(part: &[u8]) -> u64
     let mut total: u64 = 0;
     let mut k = 0;
     while k < part.len() {
-        total += wide(part[k]) as u64;
+        total += wire::wide(part[k]) as u64;
         k += 1;
     }
     total
@@ -83,7 +77,7 @@ fn sum_of(bytes: &[u8], from: usize, m: u8) -> u64
     requires { ⌜ from ≤ 9223372036854775813 ⌝ }
     ensures { λ r. ⌜ (r ≡ sum (listOf (λ k. getD (now (bytes .entry)) (from + k) 0) m)) × (r ≤ 65025) ⌝ }
 {
-    let end = from + wide(m);
+    let end = from + wire::wide(m);
     if end <= bytes.len() {
         return sum_bytes(&bytes[from..end]);
     }
@@ -109,7 +103,7 @@ fn multiplier_at(multipliers: &[u8], i: usize) -> u64
     ensures { λ r. ⌜ (r ≡ getD (now (multipliers .entry)) i 1) × (r ≤ 255) ⌝ }
 {
     if i < multipliers.len() {
-        return wide(multipliers[i]) as u64;
+        return wire::wide(multipliers[i]) as u64;
     }
     1
 }
@@ -135,15 +129,15 @@ pub fn tally(bytes: &[u8], at: usize, p: u8, kind: u8, multipliers: &[u8]) -> [B
     let mut sums = [BitLen(0); 16];
     let mut place = at;
     let mut i = 0;
-    let count = wide(p);
+    let count = wire::wide(p);
     while i < count {
         if bytes.len() <= place {
             return sums;
         }
-        let slot = wide(byte_at(bytes, place + 1) % 16);
+        let slot = wire::wide(byte_at(bytes, place + 1) % 16);
         let before = sums[slot].0;
         sums[slot] = BitLen(before + part_of(bytes, place, kind, multiplier_at(multipliers, i)));
-        place = place + 5 + wide(byte_at(bytes, place + 4));
+        place = place + 5 + wire::wide(byte_at(bytes, place + 4));
         i += 1;
     }
     sums

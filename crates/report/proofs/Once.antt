@@ -15,7 +15,7 @@ use Rattle.sheet.specs.declared.SyncManager.{SyncManager}
 use Rattle.pdo.specs.declared.PdoDirection.{PdoDirection}
 use Rattle.pdo.specs.Direction.{usageOf}
 use Rattle.pdo.specs.Bits.{multiplierOf, multipliersOf, pathKind, bitsOf, Piece, piecesFrom, piecesOf}
-use Rattle.entries.specs.Use.{Use, usesOf, sizeOf}
+use Rattle.uses.specs.Use.{Use, usesOf, sizeOf}
 use Rattle.entries.specs.Entries.{Planned, plan}
 use Rattle.entries.specs.declared.Configured.{Configured}
 use Rattle.area.specs.Area.{entriesOf, flat}

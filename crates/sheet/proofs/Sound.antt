@@ -12,12 +12,12 @@ use Rattle.wire.specs.Number.{bigAt}
 use Rattle.wire.specs.Outcome.{accepted, when, decide}
 use Rattle.wire.proofs.Order.{never, passed-answer}
 use Rattle.sheet.specs.declared.SyncManager.{SyncManager}
-use Rattle.sheet.specs.Lists.{listOf}
+use Rattle.grammar.specs.Lists.{listOf}
 use Rattle.sheet.specs.Device.{Data, pdoAt, nextPdo, pdosFrom, dataOf}
 use Rattle.sheet.specs.Sheet.{managerCount, usageCount, pdoCount, managerPlace, usagesPlace, pdosPlace, managerAt, wrongLength, wrongVersion, kindFits, pdosFit, broken, someUnnamed, sheetRefusals, sheetData, readSheet, deviceOf}
 use Rattle.sheet.specs.Sound.{Each, sum, SoundPdo, Sound}
-use Rattle.sheet.proofs.Lists.{length-listOf}
-use Rattle.sheet.proofs.Broken.{Kept, kept}
+use Rattle.grammar.proofs.Lists.{length-listOf}
+use Rattle.grammar.proofs.Broken.{Kept, kept}
 use Rattle.sheet.proofs.Reading.{device-data}
 
 -- none of four refusals held

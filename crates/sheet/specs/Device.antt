@@ -6,7 +6,8 @@ use Prim.Native.Nat.{ℕ, zero, suc, _+_}
 use lib.ListN.{getD, take}
 use lib.Dec.{eqb}
 use Rattle.wire.specs.Number.{bigAt}
-use Rattle.sheet.specs.Lists.{listOf}
+use Rattle.grammar.specs.Lists.{listOf}
+pub use Rattle.grammar.specs.Grammar.{nextPdo}
 use Rattle.sheet.specs.declared.SyncManager.{SyncManager}
 use Rattle.sheet.specs.declared.Device.{Device}
 
@@ -37,10 +38,6 @@ pdoAt s at =
       index = bigAt s (at + 2) 2;
       lengths = cond (eqb (getD s at 0) 0) (listOf (λ k. getD s (at + 5 + k) 0) (getD s (at + 4) 0)) (bigAt s (at + 5) 2 ∷ []);
     }
-
--- where the next one stands
-abbrev pub nextPdo : List ℕ → ℕ → ℕ
-nextPdo s at = at + 5 + getD s (at + 4) 0
 
 -- p of them from a place on
 unfoldable pub pdosFrom : List ℕ → ℕ → ℕ → List Pdo

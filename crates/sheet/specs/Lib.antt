@@ -1,5 +1,4 @@
--- The device sheet (document 01): device data, and the grammar that gives it. Read from the top.
-pub mod Lists
+-- The device sheet (document 01): device data, and how the sheet gives it. Read from the top, after the rules in `grammar`.
 pub mod Device
 pub mod Sheet
 pub mod Sound

@@ -1,17 +1,18 @@
--- The grammar of the device sheet (document 01, 'The device sheet'), big-endian: from bytes to device data or a refusal.
+-- Reading the device sheet (document 01, 'The device sheet'), big-endian: from bytes to device data or a refusal.
 -- Assumes nothing.
 use mathlib.Core.Path.{_≡_}
-use mathlib.Core.Bool.{Bool, false, not, _&&_, _||_}
+use mathlib.Core.Bool.{Bool, false}
 use mathlib.Core.List.{List, [], _∷_, _++_}
-use Prim.Native.Nat.{ℕ, zero, suc, _+_, _*_, _-_}
-use lib.ListN.{length, getD, replicate}
-use lib.Dec.{eqb, ltb, leb}
+use Prim.Native.Nat.{ℕ, _+_, _-_}
+use lib.ListN.{getD, replicate}
 use Rattle.wire.specs.Outcome.{Outcome, refused, accepted, Refusal, when, decide}
 use Rattle.wire.specs.Field.{flagAt}
 use Rattle.wire.specs.Number.{bigAt}
 use Rattle.sync_manager_channel.specs.Image.{controlAt, unnamed}
-use Rattle.sheet.specs.Lists.{listOf, someBelow}
-use Rattle.sheet.specs.Device.{Data, nextPdo, pdosFrom, dataOf}
+use Rattle.grammar.specs.Lists.{listOf, someBelow}
+pub use Rattle.grammar.specs.Grammar.{managerCount, usageCount, pdoCount, managerPlace, usagesPlace, pdosPlace, wrongVersion}
+unfoldable pub use Rattle.grammar.specs.Grammar.{wrongLength, kindFits, pdosFit, someManagerWrong, someUsageWrong, broken}
+use Rattle.sheet.specs.Device.{Data, pdosFrom, dataOf}
 use Rattle.sheet.specs.declared.SyncManager.{SyncManager}
 use Rattle.sheet.specs.declared.Device.{Device}
 use Rattle.sheet.specs.declared.Answer.{Answer}
@@ -19,30 +20,6 @@ use Rattle.sheet.specs.declared.Answer.the-variants.{Accepted, Refused}
 use Rattle.sheet.specs.declared.SheetRead.{SheetRead}
 use Rattle.sheet.specs.declared.ManagerRead.{ManagerRead}
 use Rattle.sheet.specs.declared.ManagerRead.the-variants as manager
-
--- 0-1: L, the bytes that follow
-abbrev pub follow : List ℕ → ℕ
-follow s = bigAt s 0 2
-
--- 8: n sync managers; 9: f FMMU usages; 10: p PDOs
-abbrev pub managerCount : List ℕ → ℕ
-managerCount s = getD s 8 0
-
-abbrev pub usageCount : List ℕ → ℕ
-usageCount s = getD s 9 0
-
-abbrev pub pdoCount : List ℕ → ℕ
-pdoCount s = getD s 10 0
-
--- then n times 5 bytes, then f bytes, then the PDOs
-abbrev pub managerPlace : ℕ → ℕ
-managerPlace k = 11 + 5 * k
-
-abbrev pub usagesPlace : List ℕ → ℕ
-usagesPlace s = 11 + 5 * managerCount s
-
-abbrev pub pdosPlace : List ℕ → ℕ
-pdosPlace s = usagesPlace s + usageCount s
 
 -- a sync manager: start address (2), control, EEPROM enable (bit 0 is ENABLE, others ignored), usage
 abbrev pub managerAt : List ℕ → ℕ → SyncManager
@@ -61,40 +38,6 @@ readManager s at = decide (when 5 (unnamed (getD s (at + 2) 0)) ∷ []) (manager
 abbrev pub managerReadOf : ManagerRead → Outcome SyncManager
 managerReadOf (manager.Manager m) = accepted m
 managerReadOf (manager.Refused n) = refused n
-
--- 2: under 2 bytes, not L+2 long, or L out of range
-unfoldable pub wrongLength : List ℕ → Bool
-wrongLength s = ltb (length s) 2 || (not (eqb (length s) (follow s + 2)) || (ltb (follow s) 9 || ltb 16384 (follow s)))
-
--- 3: the version isn't 1
-abbrev pub wrongVersion : List ℕ → Bool
-wrongVersion s = not (eqb (getD s 2 0) 1)
-
--- 4: another sheet rule is broken. A PDO: kind 0, or kinds 1 and 2 with m = 2
-unfoldable pub kindFits : ℕ → ℕ → Bool
-kindFits kind m = eqb kind 0 || ((eqb kind 1 || eqb kind 2) && eqb m 2)
-
--- p of them from a place on, none past the end, and the sheet ends there
-unfoldable pub pdosFit : List ℕ → ℕ → ℕ → Bool
-pdosFit s zero at = eqb at (length s)
-pdosFit s (suc p) at = (leb (nextPdo s at) (length s) && kindFits (getD s at 0) (getD s (at + 4) 0)) && pdosFit s p (nextPdo s at)
-
--- a sync manager's usage is 0 to 4, an FMMU's 0 to 3
-unfoldable pub someManagerWrong : List ℕ → Bool
-someManagerWrong s = someBelow (λ k. ltb 4 (getD s (managerPlace k + 4) 0)) (managerCount s)
-
-unfoldable pub someUsageWrong : List ℕ → Bool
-someUsageWrong s = someBelow (λ k. ltb 3 (getD s (usagesPlace s + k) 0)) (usageCount s)
-
--- flags above bit 2 are 0, at most 16 sync managers, at most 16 usages, both within the sheet, their values, the PDOs
-unfoldable pub broken : List ℕ → Bool
-broken s =
-    ltb 7 (getD s 3 0)
-    || (ltb 16 (managerCount s)
-    || (ltb 16 (usageCount s)
-    || (ltb (length s) (pdosPlace s)
-    || (someManagerWrong s
-    || (someUsageWrong s || not (pdosFit s (pdoCount s) (pdosPlace s)))))))
 
 -- 5: any control, wanted or not, has an unnamed mode or direction
 abbrev pub unnamedAt : List ℕ → ℕ → Bool

@@ -4,11 +4,11 @@ ghost use mathlib.Core.Bool.{false};
 ghost use mathlib.Core.List.{[], _∷_};
 ghost use Rattle.wire.specs.Outcome as Outcome;
 ghost use Rattle.wire.specs.Outcome.{when, decide};
-ghost use Prim.Native.Nat.{ℕ, _+_, _*_, _≤_, _<_};
-ghost use lib.ListN.{length, getD};
-ghost use lib.Dec.{ltb};
-ghost use Rattle.sheet.specs.Lists.{someBelow};
-ghost use Rattle.sheet.specs.Sheet.{wrongLength, kindFits, pdosFit, broken, unnamedAt, someUnnamed, managersOf, usagesOf, deviceOf, readManager, managerReadOf, answerOf, sheetReadOf, ReadsAs};
+ghost use Prim.Native.Nat.{_+_, _*_, _≤_};
+ghost use lib.ListN.{length};
+ghost use Rattle.grammar.specs.Lists.{someBelow};
+ghost use Rattle.grammar.specs.Grammar.{broken};
+ghost use Rattle.sheet.specs.Sheet.{unnamedAt, someUnnamed, managersOf, usagesOf, deviceOf, readManager, managerReadOf, answerOf, sheetReadOf, ReadsAs};
 use pdi::ByteLen;
 use sync_manager_channel::Control;
 use sync_manager_channel::ControlRead;
@@ -48,117 +48,6 @@ pub enum Answer {
 pub struct SheetRead {
     pub answer: Answer,
     pub device: Device,
-}
-
-// A byte as a count or a place.
-fn wide(x: u8) -> usize
-    ensures { λ r. ⌜ (r ≡ x) × (r ≤ 255) ⌝ }
-{
-    x as usize
-}
-
-// 2: whether the length is wrong.
-fn wrong_length(sheet: &[u8]) -> bool
-    ensures { λ r. ⌜ r ≡ wrongLength (now (sheet .entry)) ⌝ }
-{
-    if sheet.len() < 2 {
-        return true;
-    }
-    let follow = wire::be16(sheet[0], sheet[1]) as usize;
-    if sheet.len() != follow + 2 {
-        return true;
-    }
-    if follow < 9 {
-        return true;
-    }
-    16384 < follow
-}
-
-// Whether some byte of a row is above its limit: `count` bytes from `at` on, `step` apart.
-fn some_above(sheet: &[u8], at: usize, step: usize, count: usize, limit: u8) -> bool
-    requires { ⌜ (length (now sheet) ≤ 16386) × ((k : ℕ) → k < count → at + step * k < length (now sheet)) ⌝ }
-    ensures { λ r. ⌜ r ≡ someBelow (λ k. ltb limit (getD (now (sheet .entry)) (at + step * k) 0)) count ⌝ }
-{
-    let mut k = 0;
-    while k < count {
-        if limit < sheet[at + step * k] {
-            return true;
-        }
-        k += 1;
-    }
-    false
-}
-
-// Whether a PDO's kind goes with its count.
-fn kind_fits(kind: u8, m: u8) -> bool
-    ensures { λ r. ⌜ r ≡ kindFits kind m ⌝ }
-{
-    if kind == 0 {
-        return true;
-    }
-    if kind == 1 {
-        return m == 2;
-    }
-    if kind == 2 {
-        return m == 2;
-    }
-    false
-}
-
-// Whether p PDO records stand from `at` on, none past the end and nothing after the last one.
-fn pdos_fit(sheet: &[u8], p: usize, at: usize) -> bool
-    requires { ⌜ (at ≤ length (now sheet)) × (length (now sheet) ≤ 16386) ⌝ }
-    ensures { λ r. ⌜ r ≡ pdosFit (now (sheet .entry)) p at ⌝ }
-{
-    let mut left = p;
-    let mut place = at;
-    while 0 < left {
-        if sheet.len() < place + 5 {
-            return false;
-        }
-        let m = sheet[place + 4];
-        let next = place + 5 + wide(m);
-        if sheet.len() < next {
-            return false;
-        }
-        if !kind_fits(sheet[place], m) {
-            return false;
-        }
-        place = next;
-        left -= 1;
-    }
-    place == sheet.len()
-}
-
-// 4: whether another rule of the sheet is broken.
-fn rule_broken(sheet: &[u8]) -> bool
-    requires { ⌜ (11 ≤ length (now sheet)) × (length (now sheet) ≤ 16386) ⌝ }
-    ensures { λ r. ⌜ r ≡ broken (now (sheet .entry)) ⌝ }
-{
-    let n = wide(sheet[8]);
-    let f = wide(sheet[9]);
-    let p = wide(sheet[10]);
-    if 7 < sheet[3] {
-        return true;
-    }
-    if 16 < n {
-        return true;
-    }
-    if 16 < f {
-        return true;
-    }
-    let usages = 11 + 5 * n;
-    let pdos = usages + f;
-    if sheet.len() < pdos {
-        return true;
-    }
-    if some_above(sheet, 15, 5, n, 4) {
-        return true;
-    }
-    if some_above(sheet, usages, 1, f, 3) {
-        return true;
-    }
-    !pdos_fit(sheet, p, pdos)
 }
 
 // A sync manager of a sheet, or 5 where its control has no name.
@@ -270,8 +159,8 @@ fn device_of(sheet: &[u8]) -> SheetRead
     requires { ⌜ (11 ≤ length (now sheet)) × (length (now sheet) ≤ 16386) × (broken (now sheet) ≡ false) ⌝ }
     ensures { λ r. ⌜ r ≡ sheetReadOf (decide (when 5 (someUnnamed (now (sheet .entry))) ∷ []) (deviceOf (now (sheet .entry)))) ⌝ }
 {
-    let n = wide(sheet[8]);
-    let f = wide(sheet[9]);
+    let n = wire::wide(sheet[8]);
+    let f = wire::wide(sheet[9]);
     let managers = managers_of(sheet, n);
     let answer = managers.answer;
     if let Answer::Refused(number) = answer {
@@ -302,13 +191,13 @@ fn device_of(sheet: &[u8]) -> SheetRead
 pub fn read(sheet: &[u8]) -> SheetRead
     ensures { λ r. ⌜ ReadsAs (now (sheet .entry)) r ⌝ }
 {
-    if wrong_length(sheet) {
+    if grammar::wrong_length(sheet) {
         return refused(2);
     }
     if sheet[2] != 1 {
         return refused(3);
     }
-    if rule_broken(sheet) {
+    if grammar::rule_broken(sheet) {
         return refused(4);
     }
     device_of(sheet)

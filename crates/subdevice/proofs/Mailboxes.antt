@@ -16,7 +16,7 @@ use Rattle.sheet.specs.declared.Answer.{Answer}
 use Rattle.sheet.specs.declared.Answer.the-variants as answer
 use Rattle.sheet.specs.declared.SheetRead.{SheetRead}
 use Rattle.sheet.specs.declared.SyncManager.{SyncManager}
-use Rattle.sheet.proofs.Lists.{at-number}
+use Rattle.grammar.proofs.Lists.{at-number}
 use Rattle.area.specs.Area.{entriesOf, flat}
 use Rattle.channels.specs.declared.Wish.{Wish}
 use Rattle.channels.specs.Channels.{noWish, wishOf, wished, channelsAfter, channelArea}

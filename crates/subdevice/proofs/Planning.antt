@@ -26,10 +26,10 @@ use Rattle.pdo.specs.Direction.{usageOf}
 use Rattle.pdo.specs.Bits.{byCoe, pathKind, bitsOf, piecesOf}
 use Rattle.entries.specs.declared.Configured.{Configured}
 use Rattle.entries.specs.declared.Configured.the-variants.{Mapped, Refused}
-use Rattle.entries.specs.declared.Route.{Route}
-use Rattle.entries.specs.Use.{coeEntry, total, usesOf, usesFrom, sizeOf}
+use Rattle.uses.specs.declared.Route.{Route}
+use Rattle.uses.specs.Use.{coeEntry, total, usesOf, usesFrom, sizeOf}
 use Rattle.entries.specs.Entries.{plan, Planned, planned, configuredOf, entryRefusals, entriesOutcome, entryArea, WritesEntries}
-use Rattle.entries.proofs.Pieces.{byRoute, uses-are, route-total}
+use Rattle.uses.proofs.Pieces.{byRoute, uses-are, route-total}
 use Rattle.entries.proofs.Kept.{plan-length, rows-plan}
 use Rattle.wanted.specs.declared.Wanted.{Wanted}
 use Rattle.wanted.specs.Wanted.{someTooMany, noEntry, wantedRefusals, wishesOf, wantedFrom, Wants}

@@ -15,7 +15,7 @@ use Rattle.sheet.specs.declared.SyncManager.{SyncManager}
 use Rattle.pdo.specs.declared.PdoDirection.{PdoDirection}
 use Rattle.pdo.specs.Direction.{usageOf}
 use Rattle.pdo.specs.Bits.{someOf, Piece, byCoe, pathKind, bitsOf, piecesOf}
-use Rattle.entries.specs.Use.{coeEntry, usesOf, sizeOf}
+use Rattle.uses.specs.Use.{coeEntry, usesOf, sizeOf}
 use Rattle.area.specs.Area.{entriesOf, flat, notEntries, notChannels}
 use Rattle.channels.specs.Channels.{channelsAfter}
 use Rattle.entries.specs.Entries.{plan, Planned, planned, configuredOf, entryRefusals}

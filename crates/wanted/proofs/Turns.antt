@@ -14,10 +14,10 @@ use borrow.Author.Tests.{eq-eqb, ne-eqb}
 use Rattle.wire.specs.Outcome.{refused, accepted, when, decide}
 use Rattle.wire.proofs.Lists.{getD-any}
 use Rattle.wire.proofs.Order.{never}
-use Rattle.sheet.specs.Lists.{listOf}
+use Rattle.grammar.specs.Lists.{listOf}
 use Rattle.sheet.specs.declared.SyncManager.{SyncManager}
 use Rattle.pdo.specs.Bits.{someOf, Piece, piecesFrom}
-use Rattle.entries.specs.Use.{firstWith}
+use Rattle.uses.specs.Use.{firstWith}
 use Rattle.sync_manager_channel.specs.declared.OperationMode.the-variants.{Normal}
 use Rattle.sync_manager_channel.specs.declared.Direction.the-variants.{MasterRead}
 

@@ -12,12 +12,12 @@ use Rattle.wire.proofs.Order.{never}
 use Rattle.pdi.specs.Unit.{tooManyBits}
 use Rattle.pdi.specs.declared.BitLen.{BitLen}
 use Rattle.sheet.specs.Device.{Data}
-use Rattle.sheet.specs.Lists.{listOf}
+use Rattle.grammar.specs.Lists.{listOf}
 use Rattle.sheet.specs.Sheet.{noManager, answerOf}
 use Rattle.sheet.specs.declared.Answer.{Answer}
 use Rattle.sheet.specs.declared.Answer.the-variants.{Accepted, Refused}
 use Rattle.sheet.specs.declared.SyncManager.{SyncManager}
-use Rattle.sheet.proofs.Lists.{at-number}
+use Rattle.grammar.proofs.Lists.{at-number}
 use Rattle.channels.specs.declared.Wish.{Wish}
 use Rattle.channels.specs.Channels.{noWish}
 use Rattle.pdo.specs.declared.PdoDirection.{PdoDirection}
@@ -25,7 +25,7 @@ use Rattle.pdo.specs.declared.Terms.{Terms}
 use Rattle.pdo.specs.Direction.{usageOf, termsOf}
 use Rattle.pdo.specs.Bits.{byCoe, pathKind, bitsOf, sumsOf, piecesFrom, piecesOf}
 use Rattle.pdo.proofs.Bits.{tally-at}
-use Rattle.entries.specs.Use.{firstWith, coeEntry}
+use Rattle.uses.specs.Use.{firstWith, coeEntry}
 use Rattle.wanted.specs.declared.Wanted.{Wanted}
 use Rattle.wanted.specs.Wishes.{bitsIn, dataWish, someTooWide, filled, wishesAfter}
 use Rattle.wanted.specs.Wanted.{someTooMany, noEntry, wantedRefusals, wishesOf, wantedFrom, wantedAfter, Wants}

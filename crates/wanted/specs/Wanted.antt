@@ -16,7 +16,7 @@ use Rattle.channels.specs.Channels.{noWish}
 use Rattle.pdo.specs.declared.PdoDirection.{PdoDirection}
 use Rattle.pdo.specs.Direction.{usageOf}
 use Rattle.pdo.specs.Bits.{someOf, Piece, byCoe, pathKind, bitsOf, piecesOf}
-use Rattle.entries.specs.Use.{coeEntry}
+use Rattle.uses.specs.Use.{coeEntry}
 use Rattle.wanted.specs.declared.Wanted.{Wanted}
 use Rattle.wanted.specs.Wishes.{dataWish, filled}
 

@@ -9,7 +9,7 @@ use Rattle.wire.specs.Outcome.{Outcome, refused, accepted}
 use Rattle.pdi.specs.Unit.{bytesOf, tooManyBits}
 use Rattle.pdi.specs.declared.BitLen.{BitLen}
 use Rattle.sheet.specs.declared.SyncManager.{SyncManager}
-use Rattle.sheet.specs.Lists.{listOf}
+use Rattle.grammar.specs.Lists.{listOf}
 use Rattle.sheet.specs.Sheet.{noManager}
 use Rattle.wanted.specs.declared.Sized.{Sized}
 use Rattle.wanted.specs.declared.Sized.the-variants.{To, Refused}

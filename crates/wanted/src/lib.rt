@@ -11,11 +11,10 @@ ghost use Rattle.pdi.specs.Unit.{tooManyBits};
 ghost use Rattle.sheet.specs.Device.{dataOf};
 ghost use Rattle.sheet.specs.Sheet.{answerOf};
 ghost use Rattle.pdo.specs.Bits.{coeOn, someOf, piecesFrom};
-ghost use Rattle.entries.specs.Use.{firstWith};
+ghost use Rattle.uses.specs.Use.{firstWith};
 ghost use Rattle.wanted.specs.Wishes.{someUsage, bitsIn, sizedOf, dataWish, wishesAfter, someTooWide};
 ghost use Rattle.wanted.specs.Wanted.{wantedAfter, Wants};
 use channels::Wish;
-use entries::Route;
 use pdi::BitLen;
 use pdi::ByteLen;
 use pdi::Rounded;
@@ -23,6 +22,7 @@ use pdo::PdoDirection;
 use sheet::Answer;
 use sheet::Device;
 use sheet::SyncManager;
+use uses::Route;
 
 // What a data pass wants: a wish for each sync manager, and the path; or 6 or 7.
 pub struct Wanted {

@@ -26,6 +26,13 @@ pub fn bit_of(flag: bool) -> u8
     if flag { 1 } else { 0 }
 }
 
+// A byte as a count or a place.
+pub fn wide(x: u8) -> usize
+    ensures { λ r. ⌜ (r ≡ x) × (r ≤ 255) ⌝ }
+{
+    x as usize
+}
+
 // Two bytes as a number, the low one first.
 pub fn le16(a: u8, b: u8) -> u16
     ensures { λ r. ⌜ r ≡ littleAt (a ∷ b ∷ []) 0 2 ⌝ }

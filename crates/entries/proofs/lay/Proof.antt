@@ -7,8 +7,8 @@ use denote.Ref.{now}
 use lib.ListN.{drop}
 use borrow.Author.Needs.{needs}
 use Rattle.pdi.specs.Offset.{movedOf}
-use Rattle.entries.specs.Entries.{mappedUses}
-use Rattle.entries.proofs.Held.{uses-next, uses-end}
+use Rattle.uses.specs.Use.{mappedUses}
+use Rattle.uses.proofs.Held.{uses-next, uses-end}
 use Rattle.entries.proofs.Laying.{Laying, laying-starts, laying-fits, laying-turns, laying-halts, laying-ends}
 use Rattle.entries.proofs.lay.Statement.{statement}
 use Rattle.entries.proofs.lay.Tie as tie
@@ -37,7 +37,7 @@ lay-one-requires c κs =
     let a = c .before .before .before .before .args in
     let l = c .before .before .before .loop in
     let p = c .before .before .before .before .pre in
-    (l .inv .1 .many, λ h. laying-fits (l .inv .1) (uses-next (a .t2) (l .j) (p .0) (p .1) (omega arith)) h)
+    (l .inv .1 .many, λ h. laying-fits (l .inv .1) (uses-next (a .t2) (l .j) (p .1) (omega arith)) h)
 
 increment-requires : tie.Need-increment-requires Inv-loop μ-loop
 increment-requires c κs = tt
@@ -53,7 +53,7 @@ returns c =
     let a = c .before .before .before .before .before .before .before .before .before .args in
     let l = c .before .before .before .before .before .before .before .before .loop in
     let p = c .before .before .before .before .before .before .before .before .before .pre in
-    laying-halts (c .before .before .before .before .lay-one .last .0) (l .inv .1) (uses-next (a .t2) (l .j) (p .0) (p .1) (omega arith))
+    laying-halts (c .before .before .before .before .lay-one .last .0) (l .inv .1) (uses-next (a .t2) (l .j) (p .1) (omega arith))
     (sym (ap movedOf (c .before .number .given .1)) ∙ c .before .before .before .increment .ensures)
 
 add-j : tie.Need-add-j Inv-loop μ-loop
@@ -68,14 +68,14 @@ loop-again c =
     let l = c .before .before .before .before .before .before .before .before .loop in
     let p = c .before .before .before .before .before .before .before .before .before .pre in
     let e = sym (ap movedOf (c .before .o .given .1)) ∙ c .before .before .before .increment .ensures in
-    (omega arith, laying-turns (l .inv .1) (uses-next (a .t2) (l .j) (p .0) (p .1) (omega arith)) (c .before .before .before .before .lay-one .ensures) e)
+    (omega arith, laying-turns (l .inv .1) (uses-next (a .t2) (l .j) (p .1) (omega arith)) (c .before .before .before .before .lay-one .ensures) e)
 
 returns-2 : tie.Need-returns-2 Inv-loop μ-loop
 returns-2 c =
     let a = c .before .before .args in
     let l = c .before .loop in
     let p = c .before .before .pre in
-    laying-ends (l .next .«start_address») (l .inv .1) (uses-end (a .t2) (l .j) (p .0) (p .1) (omega arith))
+    laying-ends (l .next .«start_address») (l .inv .1) (uses-end (a .t2) (l .j) (p .1) (omega arith))
 
 pub lay-spec : {M : Type 1} → statement M
 lay-spec =

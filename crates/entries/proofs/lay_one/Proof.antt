@@ -10,7 +10,9 @@ use lib.ListN.{set}
 use lib.Seq.{set-out}
 use Rattle.fmmu.specs.declared.Fmmu.{Fmmu}
 use Rattle.fmmu.specs.Image.{imageOf}
-use Rattle.entries.specs.Entries.{laid, lengthOf, useFrom}
+use Rattle.uses.specs.Use.{useFrom}
+use Rattle.uses.specs.Length.{lengthOf}
+use Rattle.entries.specs.Entries.{laid}
 use Rattle.entries.proofs.lay_one.Statement.{statement}
 use Rattle.entries.proofs.lay_one.Tie as tie
 

@@ -11,8 +11,8 @@ use Rattle.pdi.specs.Segment.{segment, lessGroup, placedOf}
 use Rattle.pdi.specs.declared.PdiSegment.{PdiSegment}
 use Rattle.area.specs.Area.{padded}
 use Rattle.area.proofs.Flat.{length-chunks}
-use Rattle.entries.specs.Use.{Use, usesFrom}
-use Rattle.entries.specs.Entries.{mappedUses}
+use Rattle.uses.specs.Use.{Use, usesFrom, mappedUses}
+use Rattle.uses.proofs.Held.{held-back}
 use Rattle.entries.proofs.Decided.{Looked, too-long-refused, past-end-refused, below-group-refused, entries-written}
 use borrow.Author.Needs.{needs}
 use Rattle.entries.proofs.write_entries.Statement.{statement}
@@ -22,7 +22,7 @@ use Rattle.entries.proofs.write_entries.Tie as tie
 looked : (c : tie.After-too-long) → Looked
     (usesFrom (c .before .before .before .before .before .before .args .route) (c .before .before .before .before .before .before .args .wishes) 0 (take (c .before .before .before .before .before .before .args .n) (c .before .before .before .before .before .before .args .managers)))
     (now (c .before .before .before .before .before .before .args .area)) (mappedUses (c .before .before .mappings-of .result)) (c .before .before .before .load16 .result) (c .too-long .result)
-looked c = record { same = c .before .before .mappings-of .ensures .2; from = c .before .before .before .load16 .ensures; is = sym (c .too-long .ensures) }
+looked c = record { same = ap mappedUses (c .before .before .mappings-of .ensures .0) ∙ held-back _; from = c .before .before .before .load16 .ensures; is = sym (c .too-long .ensures) }
 
 test : {us uses : List Use} {area : List ℕ} {entries : List (List ℕ)} {b d : Bool} → Looked us area uses entries b → b ≡ d → Looked us area uses entries d
 test k e = record { same = k .same; from = k .from; is = k .is ∙ e }
@@ -46,7 +46,7 @@ lay-requires : tie.Need-lay-requires
 lay-requires c κs =
     let m = c .before .before .before .before .before .mappings-of .ensures in
     let l = c .before .before .before .before .before .before .load16 .ensures in
-    (m .0, m .1, ap length l ∙ length-chunks 16 16 (padded 256 (now (c .before .before .before .before .before .before .before .before .before .args .area))), sym (c .before .before .before .too-long .ensures) ∙ c .before .before .if1 .left)
+    (m .1, m .2, ap length l ∙ length-chunks 16 16 (padded 256 (now (c .before .before .before .before .before .before .before .before .before .args .area))), sym (c .before .before .before .too-long .ensures) ∙ c .before .before .if1 .left)
 
 enum-known-next : tie.Need-enum-known-next
 enum-known-next c = search needs

@@ -7,7 +7,7 @@ use denote.Ref.{now}
 use lib.ListN.{getD}
 use Rattle.sheet.specs.declared.Answer.{Answer}
 use Rattle.sheet.specs.Sheet.{usagesOf, deviceOf, answerOf}
-use Rattle.sheet.proofs.Broken.{kept}
+use Rattle.grammar.proofs.Broken.{kept}
 use Rattle.sheet.proofs.Reading.{device-refused, managers-list, device-read}
 use borrow.Author.Needs.{needs}
 use Rattle.sheet.proofs.device_of.Statement.{statement}

@@ -7,7 +7,7 @@ use native.Mathlib.Omega.{arith}
 use denote.Ref.{now}
 use Rattle.wire.specs.Outcome.{accepted}
 use Rattle.sync_manager_channel.specs.Image.{controlAt}
-use Rattle.sheet.specs.Lists.{listOf, someBelow}
+use Rattle.grammar.specs.Lists.{listOf, someBelow}
 use Rattle.sheet.specs.Sheet.{managerPlace, unnamedAt, managersOf, readManager, managerReadOf}
 use Rattle.sheet.proofs.Named.{managers-on, managers-named, managers-stop, managers-end}
 use borrow.Author.Needs.{needs}

@@ -8,7 +8,7 @@ use denote.Ref.{now}
 use borrow.Author.Tests.{eq-eqb, ne-eqb}
 use Rattle.wire.specs.Outcome.{refused, when, decide}
 use Rattle.sheet.specs.Sheet.{wrongLength, someUnnamed, deviceOf}
-use Rattle.sheet.proofs.Broken.{long}
+use Rattle.grammar.proofs.Broken.{long}
 use Rattle.sheet.proofs.Reading.{reads-as}
 use Rattle.sheet.proofs.read.Statement.{statement}
 use Rattle.sheet.proofs.read.Tie as tie
@@ -41,7 +41,7 @@ returns-2 c =
     reads-as (now (c .before .before .before .before .before .before .args .sheet)) _ (refused 3) (rw (w, v)) (c .refused2 .ensures)
 
 rule-broken-requires : tie.Need-rule-broken-requires
-rule-broken-requires c κs = long _ (right-length (c .before .before))
+rule-broken-requires c κs = tt
 
 refused-requires-3 : tie.Need-refused-requires-3
 refused-requires-3 c κs = tt

@@ -7,10 +7,10 @@ use native.Mathlib.Nat.{min-le-right}
 use native.Mathlib.Omega.{arith}
 use lib.ListN.{length, getD, take, set, replicate}
 use Rattle.pdi.specs.declared.ByteLen.{ByteLen}
-use Rattle.sheet.specs.Lists.{listOf}
+use Rattle.grammar.specs.Lists.{listOf}
 use Rattle.sheet.specs.Sheet.{noManager}
 use Rattle.sheet.specs.declared.SyncManager.{SyncManager}
-use Rattle.sheet.proofs.Lists as lists
+use Rattle.grammar.proofs.Lists as lists
 use Rattle.channels.specs.declared.Wish.{Wish}
 use Rattle.channels.specs.Channels.{noWish}
 use Rattle.subdevice.specs.MailboxWishes.{mailboxWish, mailboxWishes}

@@ -1,0 +1,141 @@
+-- The rules of a sheet as the code finds them broken, and what a sheet that keeps them is known to hold.
+-- Assumes nothing.
+use mathlib.Core.Path.{_≡_, refl, sym, _∙_, ap}
+use mathlib.Core.Bool.{Bool, true, false, not, _||_, false≢true}
+use mathlib.Core.List.{List}
+use Prim.Native.Nat.{ℕ, _+_, _*_, _≤_, _<_}
+use native.Mathlib.Omega.{arith}
+use lib.ListN.{length, getD}
+use lib.Dec.{eqb, ltb}
+use borrow.Author.Tests.{eq-eqb, ne-eqb, lt-ltb, le-ltb, ltb-false, eqb-true, not-false}
+use Rattle.grammar.specs.Lists.{someBelow}
+use Rattle.grammar.specs.Grammar.{follow, managerCount, usageCount, pdoCount, managerPlace, usagesPlace, pdosPlace, wrongLength, pdosFit, someManagerWrong, someUsageWrong, broken}
+use Rattle.grammar.proofs.Lists.{some-same}
+
+or-true : (b : Bool) → b || true ≡ true
+or-true true = refl
+or-true false = refl
+
+-- 2, as the code finds it: by one of its parts, or by the last after the others
+module _ (s : List ℕ) where
+  pub short : length s < 2 → wrongLength s ≡ true
+  unfolding wrongLength
+  short h = rw (lt-ltb (length s) 2 h) refl
+
+  pub other-length : (length s ≡ follow s + 2 → ⊥) → wrongLength s ≡ true
+  unfolding wrongLength
+  other-length h = rw (ne-eqb (length s) (follow s + 2) h) (or-true (ltb (length s) 2))
+
+  pub too-low : follow s < 9 → wrongLength s ≡ true
+  unfolding wrongLength
+  too-low h = simp (lt-ltb (follow s) 9 h, or-true)
+
+  pub only-high : (f : ℕ) → f ≡ follow s → 2 ≤ length s → length s ≡ follow s + 2 → 9 ≤ follow s → wrongLength s ≡ ltb 16384 f
+  unfolding wrongLength
+  only-high f e h l low = rw (e, le-ltb (length s) 2 h, eq-eqb (length s) (follow s + 2) l, le-ltb (follow s) 9 low) refl
+
+-- 4, likewise
+module _ (s : List ℕ) where
+  pub flags-broken : 7 < getD s 3 0 → broken s ≡ true
+  unfolding broken
+  flags-broken h = rw (lt-ltb 7 (getD s 3 0) h) refl
+
+  pub managers-broken : 16 < managerCount s → broken s ≡ true
+  unfolding broken
+  managers-broken h = simp (lt-ltb 16 (managerCount s) h, or-true)
+
+  pub usages-broken : 16 < usageCount s → broken s ≡ true
+  unfolding broken
+  usages-broken h = simp (lt-ltb 16 (usageCount s) h, or-true)
+
+  pub places-broken : length s < pdosPlace s → broken s ≡ true
+  unfolding broken
+  places-broken h = simp (lt-ltb (length s) (pdosPlace s) h, or-true)
+
+  -- the two questions over bytes, from what the code asks
+  pub manager-bytes : (n : ℕ) {b : Bool} → n ≡ managerCount s → b ≡ someBelow (λ k. ltb 4 (getD s (15 + 5 * k) 0)) n → someManagerWrong s ≡ b
+  unfolding someManagerWrong
+  manager-bytes n {b} e h =
+      some-same (λ k. ltb 4 (getD s (managerPlace k + 4) 0)) (λ k. ltb 4 (getD s (15 + 5 * k) 0)) (managerCount s)
+      (λ k l. ap (λ (x : ℕ). ltb 4 (getD s x 0)) (omega arith))
+      ∙ ap (someBelow (λ k. ltb 4 (getD s (15 + 5 * k) 0))) (sym e) ∙ sym h
+
+  pub usage-bytes : (n f : ℕ) {b : Bool} → n ≡ managerCount s → f ≡ usageCount s → b ≡ someBelow (λ k. ltb 3 (getD s (11 + 5 * n + 1 * k) 0)) f → someUsageWrong s ≡ b
+  unfolding someUsageWrong
+  usage-bytes n f {b} en ef h =
+      some-same (λ k. ltb 3 (getD s (usagesPlace s + k) 0)) (λ k. ltb 3 (getD s (11 + 5 * n + 1 * k) 0)) (usageCount s)
+      (λ k l. ap (λ (x : ℕ). ltb 3 (getD s x 0)) (omega arith))
+      ∙ ap (someBelow (λ k. ltb 3 (getD s (11 + 5 * n + 1 * k) 0))) (sym ef) ∙ sym h
+
+  pub manager-broken : someManagerWrong s ≡ true → broken s ≡ true
+  unfolding broken
+  manager-broken h = simp (h, or-true)
+
+  pub usage-broken : someUsageWrong s ≡ true → broken s ≡ true
+  unfolding broken
+  usage-broken h = simp (h, or-true)
+
+  pub walk-same : {n f p : ℕ} → n ≡ managerCount s → f ≡ usageCount s → p ≡ pdoCount s → pdosFit s p (11 + 5 * n + f) ≡ pdosFit s (pdoCount s) (pdosPlace s)
+  walk-same en ef ep = rw (en, ef, ep) refl
+
+  pub only-walk : getD s 3 0 ≤ 7 → managerCount s ≤ 16 → usageCount s ≤ 16 → pdosPlace s ≤ length s → someManagerWrong s ≡ false → someUsageWrong s ≡ false → broken s ≡ not (pdosFit s (pdoCount s) (pdosPlace s))
+  unfolding broken
+  only-walk a b c d u v = rw (le-ltb 7 (getD s 3 0) a, le-ltb 16 (managerCount s) b, le-ltb 16 (usageCount s) c, le-ltb (length s) (pdosPlace s) d, u, v) refl
+
+-- nothing of a chain holds, so no part of it does
+none : (a b : Bool) → a || b ≡ false → (a ≡ false) × (b ≡ false)
+none true b e = absurd (false≢true (sym e))
+none false b e = (refl, e)
+
+-- the length of a sheet that isn't refused with 2
+pub long : (s : List ℕ) → wrongLength s ≡ false → (11 ≤ length s) × (length s ≤ 16386)
+unfolding wrongLength
+long s e = go (ltb (length s) 2) (not (eqb (length s) (follow s + 2))) (ltb (follow s) 9) (ltb 16384 (follow s)) refl refl refl e
+  where
+    go : (a b c d : Bool) → not (eqb (length s) (follow s + 2)) ≡ b → ltb (follow s) 9 ≡ c → ltb 16384 (follow s) ≡ d → a || (b || (c || d)) ≡ false → (11 ≤ length s) × (length s ≤ 16386)
+    go a b c d p q r h =
+        let rest = none b (c || d) (none a (b || (c || d)) h .1) in
+        let range = none c d (rest .1) in
+        let l = eqb-true (length s) (follow s + 2) (not-false (eqb (length s) (follow s + 2)) (p ∙ rest .0)) in
+        let low = ltb-false (follow s) 9 (q ∙ range .0) in
+        let high = ltb-false 16384 (follow s) (r ∙ range .1) in
+        (omega arith, omega arith)
+
+-- what a sheet holds that isn't refused with 4
+pub record Kept (s : List ℕ) : Type 0 where
+  pub managers : managerCount s ≤ 16
+  pub usages : usageCount s ≤ 16
+  pub places : pdosPlace s ≤ length s
+  pub walk : pdosFit s (pdoCount s) (pdosPlace s) ≡ true
+
+-- the chain of rules from each on
+abbrev lastOn : List ℕ → Bool
+lastOn s = someUsageWrong s || not (pdosFit s (pdoCount s) (pdosPlace s))
+
+abbrev bytesOn : List ℕ → Bool
+bytesOn s = someManagerWrong s || lastOn s
+
+abbrev placesOn : List ℕ → Bool
+placesOn s = ltb (length s) (pdosPlace s) || bytesOn s
+
+abbrev usagesOn : List ℕ → Bool
+usagesOn s = ltb 16 (usageCount s) || placesOn s
+
+abbrev managersOn : List ℕ → Bool
+managersOn s = ltb 16 (managerCount s) || usagesOn s
+
+pub kept : (s : List ℕ) → broken s ≡ false → Kept s
+unfolding broken
+kept s h =
+    let a = none (ltb 7 (getD s 3 0)) (managersOn s) h .1 in
+    let b = none (ltb 16 (managerCount s)) (usagesOn s) a in
+    let c = none (ltb 16 (usageCount s)) (placesOn s) (b .1) in
+    let d = none (ltb (length s) (pdosPlace s)) (bytesOn s) (c .1) in
+    let e = none (someManagerWrong s) (lastOn s) (d .1) .1 in
+    let w = none (someUsageWrong s) (not (pdosFit s (pdoCount s) (pdosPlace s))) e .1 in
+    record {
+      managers = ltb-false 16 (managerCount s) (b .0);
+      usages = ltb-false 16 (usageCount s) (c .0);
+      places = ltb-false (length s) (pdosPlace s) (d .0);
+      walk = not-false (pdosFit s (pdoCount s) (pdosPlace s)) w;
+    }

@@ -1,0 +1,41 @@
+-- The walk over PDO records: a turn of it, and its end.
+-- Assumes nothing.
+use mathlib.Core.Path.{_≡_, refl}
+use mathlib.Core.Bool.{Bool, true, false, _&&_}
+use mathlib.Core.List.{List}
+use Prim.Native.Nat.{ℕ, zero, suc, _+_, _-_, _≤_, _<_}
+use native.Mathlib.Numerals.{sub-one}
+use native.Mathlib.Omega.{arith}
+use lib.ListN.{length, getD}
+use lib.Dec.{eqb, leb}
+use borrow.Author.Tests.{le-leb, lt-leb}
+use Rattle.grammar.specs.Grammar.{nextPdo}
+use Rattle.grammar.specs.Grammar.{kindFits, pdosFit}
+
+-- no record is left
+pub walk-end : (s : List ℕ) (left at : ℕ) → left ≤ 0 → pdosFit s left at ≡ eqb at (length s)
+unfolding pdosFit
+walk-end s zero at l = refl
+walk-end s (suc n) at l = absurd (omega arith)
+
+-- a record that runs past the end
+pub walk-past : (s : List ℕ) (left at : ℕ) → 0 < left → length s < nextPdo s at → pdosFit s left at ≡ false
+unfolding pdosFit
+walk-past s zero at l h = absurd (omega arith)
+walk-past s (suc n) at l h = rw (lt-leb (nextPdo s at) (length s) h)
+
+-- one whose kind doesn't go with its count
+pub walk-odd : (s : List ℕ) (left at : ℕ) → 0 < left → kindFits (getD s at 0) (getD s (at + 4) 0) ≡ false → pdosFit s left at ≡ false
+unfolding pdosFit
+walk-odd s zero at l h = absurd (omega arith)
+walk-odd s (suc n) at l h = rw h (go (leb (nextPdo s at) (length s)))
+  where
+    go : (b : Bool) → (b && false) && pdosFit s n (nextPdo s at) ≡ false
+    go true = refl
+    go false = refl
+
+-- one that fits: the others decide
+pub walk-on : (s : List ℕ) (left at next : ℕ) → 0 < left → next ≡ nextPdo s at → next ≤ length s → kindFits (getD s at 0) (getD s (at + 4) 0) ≡ true → pdosFit s (left - 1) next ≡ pdosFit s left at
+unfolding pdosFit
+walk-on s zero at next l e h k = absurd (omega arith)
+walk-on s (suc n) at next l e h k = rw (sub-one, e, k, le-leb (nextPdo s at) (length s) (omega arith))
