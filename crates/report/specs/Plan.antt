@@ -6,13 +6,16 @@ use lib.ListN.{replicate}
 use Rattle.wire.specs.Outcome.{Outcome, refused, accepted}
 use Rattle.pdi.specs.declared.PdiSegment.{PdiSegment}
 use Rattle.sheet.specs.Device.{Data}
-use Rattle.sheet.specs.Sheet.{sheetData}
+use Rattle.sheet.specs.Sheet.{sheetData, managerCount}
 use Rattle.pdo.specs.declared.PdoDirection.{PdoDirection}
 use Rattle.pdo.specs.declared.PdoDirection.the-variants.{MasterRead, MasterWrite}
 use Rattle.pdo.specs.Bits.{multipliersOf}
 use Rattle.entries.specs.Entries.{Planned}
 use Rattle.subdevice.specs.declared.MailboxConfig.{MailboxConfig}
 use Rattle.subdevice.specs.Mailbox.{mailboxPass, mailboxArea}
+use Rattle.lines.specs.Text.{refusedText, bayText}
+use Rattle.report.specs.declared.Plan.{Plan}
+use Rattle.report.specs.declared.Plan.the-variants.{Segments, Refused}
 use Rattle.subdevice.specs.Pass.{dataPass, entriesAfter, channelAreaAfter}
 
 -- what comes after an accepted answer; a refusal stays the answer
@@ -65,12 +68,25 @@ withOutputs sheet i a =
 unfoldable pub withInputs : List ℕ → Areas → Outcome Bay
 withInputs sheet a = andThen (pass sheet MasterRead 0 a) (λ (i : Planned). withOutputs sheet i (passLeaves sheet MasterRead 0 a i))
 
+abbrev pub mailboxLeaves : List ℕ → Areas → MailboxConfig → Areas
+mailboxLeaves sheet a c = areas (a .fmmus) (mailboxArea (accepted c) (sheetData sheet) (a .channels))
+
+unfoldable pub planBay : List ℕ → Areas → Outcome Bay
+planBay sheet a = andThen (mailboxPass sheet (a .channels)) (λ (c : MailboxConfig). withInputs sheet (mailboxLeaves sheet a c))
+
 -- areas zero
 abbrev pub zeros : Areas
 zeros = areas (replicate 256 0) (replicate 128 0)
 
-abbrev pub mailboxLeaves : List ℕ → Areas → MailboxConfig → Areas
-mailboxLeaves sheet a c = areas (a .fmmus) (mailboxArea (accepted c) (sheetData sheet) (a .channels))
+-- both segments, the images of the sheet's n sync managers, the enabled entries; or only the refusal
+abbrev pub outcomeText : ℕ → Outcome Bay → List ℕ
+outcomeText n (refused r) = refusedText r
+outcomeText n (accepted b) = bayText n (b .inputs) (b .outputs) (b .left .fmmus) (b .left .channels)
 
-unfoldable pub planBay : List ℕ → Outcome Bay
-planBay sheet = andThen (mailboxPass sheet (zeros .channels)) (λ (c : MailboxConfig). withInputs sheet (mailboxLeaves sheet zeros c))
+unfoldable pub reportText : List ℕ → List ℕ
+reportText sheet = outcomeText (managerCount sheet) (planBay sheet zeros)
+
+-- what the cases of `Plan` say, beside the areas that are left
+abbrev pub bayOf : Plan → Areas → Outcome Bay
+bayOf (Segments inputs outputs) a = accepted (bay inputs outputs a)
+bayOf (Refused n) a = refused n
