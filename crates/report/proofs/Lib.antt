@@ -1,6 +1,4 @@
 -- Laws that the report's proofs share.
-pub mod Shown
-pub mod Lines
-pub mod Once
+pub mod Handed
 pub mod Passes
 pub mod Fits

@@ -1,4 +1,4 @@
--- What is printed after a pass, from what the pass promises: go on with what it leaves, or print its refusal.
+-- From what a pass promises to the plan, which goes on with what the pass leaves or is the pass's refusal; and from the plan to its text.
 -- Assumes nothing.
 use mathlib.Core.Path.{_≡_, sym, _∙_, ap}
 use mathlib.Core.List.{List}
@@ -16,80 +16,81 @@ use Rattle.subdevice.specs.declared.MailboxConfig.{MailboxConfig}
 use Rattle.subdevice.specs.declared.MailboxRead.{MailboxRead}
 use Rattle.subdevice.specs.declared.MailboxRead.the-variants as mailbox
 use Rattle.subdevice.specs.Mailbox.{mailboxPass, mailboxArea, mailboxOf, ConfiguresMailboxes}
-use Rattle.subdevice.specs.Pass.{dataPass, entriesAfter, channelAreaAfter, Configures}
-use Rattle.report.specs.Plan.{andThen, Areas, areas, Bay, bay, once, ended, pass, passLeaves, withOutputs, withInputs, zeros, mailboxLeaves, planBay}
-use Rattle.report.specs.Text.{refusedText, bayText, outcomeText, reportText}
+use Rattle.subdevice.specs.Pass.{entriesAfter, channelAreaAfter, Configures}
+use Rattle.lines.specs.Text.{refusedText, bayText}
+use Rattle.report.specs.declared.Plan.{Plan}
+use Rattle.report.specs.declared.Plan.the-variants as plan
+use Rattle.report.specs.Plan.{andThen, Areas, areas, Bay, bay, once, ended, pass, passLeaves, withOutputs, withInputs, mailboxLeaves, planBay, zeros, outcomeText, reportText, bayOf}
 
--- a data pass: what its promise says in either case
+-- a data pass
 module _ (sheet : List ℕ) (r : PdoDirection) (offset : ℕ) (fmmus channels : List ℕ) {answer : Configured} {fmmusThen channelsThen : List ℕ}
     (c : Configures sheet (once sheet) r offset 0 fmmus channels answer fmmusThen channelsThen) where
-  module _ (s : PdiSegment) (o : PdiOffset) (is : answer ≡ configured.Mapped s o) where
-    abbrev its : Planned
-    its = ended s (o .«start_address»)
+  gone-on :
+      (s : PdiSegment) (o : PdiOffset) → answer ≡ configured.Mapped s o → (f : Planned → Areas → Outcome Bay)
+      → f (ended s (o .«start_address»)) (areas fmmusThen channelsThen)
+      ≡ andThen (pass sheet r offset (areas fmmus channels)) (λ (p : Planned). f p (passLeaves sheet r offset (areas fmmus channels) p))
+  gone-on s o is f =
+      let d = sheetData sheet in
+      let p = ended s (o .«start_address») in
+      let mapped : accepted p ≡ pass sheet r offset (areas fmmus channels) = sym (ap configuredOf is) ∙ c .says in
+      let entries = c .entries ∙ ap (λ (x : Outcome Planned). entriesAfter x d (once sheet) r offset fmmus) (sym mapped) in
+      let images = c .images ∙ ap (λ (x : Outcome Planned). channelAreaAfter x d (once sheet) r channels) (sym mapped) in
+      let left : areas fmmusThen channelsThen ≡ passLeaves sheet r offset (areas fmmus channels) p = λ i. areas (entries i) (images i) in
+      ap (f p) left ∙ ap (λ (x : Outcome Planned). andThen x (λ (q : Planned). f q (passLeaves sheet r offset (areas fmmus channels) q))) mapped
 
-    mapped : accepted its ≡ pass sheet r offset (areas fmmus channels)
-    mapped = sym (ap configuredOf is) ∙ c .says
+  stopped : (n : ℕ) → answer ≡ configured.Refused n → (f : Planned → Outcome Bay) → refused n ≡ andThen (pass sheet r offset (areas fmmus channels)) f
+  stopped n is f = ap (λ (x : Outcome Planned). andThen x f) (sym (ap configuredOf is) ∙ c .says)
 
-    leaves : areas fmmusThen channelsThen ≡ passLeaves sheet r offset (areas fmmus channels) its
-    leaves =
-        let d = sheetData sheet in
-        let f = c .entries ∙ ap (λ (x : Outcome Planned). entriesAfter x d (once sheet) r offset fmmus) (sym mapped) in
-        let s = c .images ∙ ap (λ (x : Outcome Planned). channelAreaAfter x d (once sheet) r channels) (sym mapped) in
-        λ i. areas (f i) (s i)
-
-    -- the text goes on with what the pass leaves
-    gone-on :
-        (n : ℕ) (f : Planned → Areas → Outcome Bay)
-        → outcomeText n (f its (areas fmmusThen channelsThen))
-        ≡ outcomeText n (andThen (pass sheet r offset (areas fmmus channels)) (λ (p : Planned). f p (passLeaves sheet r offset (areas fmmus channels) p)))
-    gone-on n f =
-        ap (λ (a : Areas). outcomeText n (f its a)) leaves
-        ∙ ap (λ (x : Outcome Planned). outcomeText n (andThen x (λ (p : Planned). f p (passLeaves sheet r offset (areas fmmus channels) p)))) mapped
-
-  refused-text :
-      (m : ℕ) → answer ≡ configured.Refused m → (n : ℕ) (f : Planned → Outcome Bay)
-      → refusedText m ≡ outcomeText n (andThen (pass sheet r offset (areas fmmus channels)) f)
-  refused-text m is n f = ap (λ (x : Outcome Planned). outcomeText n (andThen x f)) (sym (ap configuredOf is) ∙ c .says)
-
-module _ (sheet : List ℕ) (n : ℕ) (fmmus channels : List ℕ) {answer : Configured} {fmmusThen channelsThen : List ℕ} where
-  -- after the output pass
+module _ (sheet fmmus channels : List ℕ) {answer : Configured} {fmmusThen channelsThen : List ℕ} where
+  -- the output pass
   module _ (i : Planned) (c : Configures sheet (once sheet) MasterWrite (i .next) 0 fmmus channels answer fmmusThen channelsThen) where
     pub outputs-mapped :
         (s : PdiSegment) (o : PdiOffset) → answer ≡ configured.Mapped s o
-        → bayText n (bay (i .segment) s (areas fmmusThen channelsThen)) ≡ outcomeText n (withOutputs sheet i (areas fmmus channels))
+        → accepted (bay (i .segment) s (areas fmmusThen channelsThen)) ≡ withOutputs sheet i (areas fmmus channels)
     unfolding withOutputs
-    outputs-mapped s o is = gone-on sheet MasterWrite (i .next) fmmus channels c s o is n (λ p a. accepted (bay (i .segment) (p .segment) a))
+    outputs-mapped s o is = gone-on sheet MasterWrite (i .next) fmmus channels c s o is (λ p a. accepted (bay (i .segment) (p .segment) a))
 
-    pub outputs-refused : (m : ℕ) → answer ≡ configured.Refused m → refusedText m ≡ outcomeText n (withOutputs sheet i (areas fmmus channels))
+    pub outputs-refused : (n : ℕ) → answer ≡ configured.Refused n → refused n ≡ withOutputs sheet i (areas fmmus channels)
     unfolding withOutputs
-    outputs-refused m is = refused-text sheet MasterWrite (i .next) fmmus channels c m is n _
+    outputs-refused n is = stopped sheet MasterWrite (i .next) fmmus channels c n is _
 
-  -- after the input pass
+  -- the input pass
   module _ (c : Configures sheet (once sheet) MasterRead 0 0 fmmus channels answer fmmusThen channelsThen) where
     pub inputs-mapped :
         (s : PdiSegment) (o : PdiOffset) → answer ≡ configured.Mapped s o
-        → outcomeText n (withOutputs sheet (ended s (o .«start_address»)) (areas fmmusThen channelsThen))
-        ≡ outcomeText n (withInputs sheet (areas fmmus channels))
+        → withOutputs sheet (ended s (o .«start_address»)) (areas fmmusThen channelsThen) ≡ withInputs sheet (areas fmmus channels)
     unfolding withInputs
-    inputs-mapped s o is = gone-on sheet MasterRead 0 fmmus channels c s o is n (withOutputs sheet)
+    inputs-mapped s o is = gone-on sheet MasterRead 0 fmmus channels c s o is (withOutputs sheet)
 
-    pub inputs-refused : (m : ℕ) → answer ≡ configured.Refused m → refusedText m ≡ outcomeText n (withInputs sheet (areas fmmus channels))
+    pub inputs-refused : (n : ℕ) → answer ≡ configured.Refused n → refused n ≡ withInputs sheet (areas fmmus channels)
     unfolding withInputs
-    inputs-refused m is = refused-text sheet MasterRead 0 fmmus channels c m is n _
+    inputs-refused n is = stopped sheet MasterRead 0 fmmus channels c n is _
 
--- after the mailbox pass
-module _ (sheet : List ℕ) {answer : MailboxRead} {after : List ℕ} (c : ConfiguresMailboxes sheet (zeros .channels) answer after) where
-  pub mailboxes-read :
-      (config : MailboxConfig) → answer ≡ mailbox.Config config
-      → outcomeText (managerCount sheet) (withInputs sheet (areas (zeros .fmmus) after)) ≡ reportText sheet
-  unfolding reportText planBay
+-- the mailbox pass
+module _ (sheet fmmus channels : List ℕ) {answer : MailboxRead} {channelsThen : List ℕ} (c : ConfiguresMailboxes sheet channels answer channelsThen) where
+  abbrev rest : MailboxConfig → Outcome Bay
+  rest config = withInputs sheet (mailboxLeaves sheet (areas fmmus channels) config)
+
+  pub mailboxes-read : (config : MailboxConfig) → answer ≡ mailbox.Config config → withInputs sheet (areas fmmus channelsThen) ≡ planBay sheet (areas fmmus channels)
+  unfolding planBay
   mailboxes-read config is =
-      let says : accepted config ≡ mailboxPass sheet (zeros .channels) = sym (ap mailboxOf is) ∙ c .says in
-      let left = c .holds ∙ ap (λ (x : Outcome MailboxConfig). mailboxArea x (sheetData sheet) (zeros .channels)) (sym says) in
-      ap (λ (l : List ℕ). outcomeText (managerCount sheet) (withInputs sheet (areas (zeros .fmmus) l))) left
-      ∙ ap (λ (x : Outcome MailboxConfig). outcomeText (managerCount sheet) (andThen x (λ (m : MailboxConfig). withInputs sheet (mailboxLeaves sheet zeros m)))) says
+      let says : accepted config ≡ mailboxPass sheet channels = sym (ap mailboxOf is) ∙ c .says in
+      let left = c .holds ∙ ap (λ (x : Outcome MailboxConfig). mailboxArea x (sheetData sheet) channels) (sym says) in
+      ap (λ (l : List ℕ). withInputs sheet (areas fmmus l)) left ∙ ap (λ (x : Outcome MailboxConfig). andThen x rest) says
 
-  pub mailboxes-refused : (m : ℕ) → answer ≡ mailbox.Refused m → refusedText m ≡ reportText sheet
-  unfolding reportText planBay
-  mailboxes-refused m is =
-      ap (λ (x : Outcome MailboxConfig). outcomeText (managerCount sheet) (andThen x (λ (m : MailboxConfig). withInputs sheet (mailboxLeaves sheet zeros m)))) (sym (ap mailboxOf is) ∙ c .says)
+  pub mailboxes-refused : (n : ℕ) → answer ≡ mailbox.Refused n → refused n ≡ planBay sheet (areas fmmus channels)
+  unfolding planBay
+  mailboxes-refused n is = ap (λ (x : Outcome MailboxConfig). andThen x rest) (sym (ap mailboxOf is) ∙ c .says)
+
+-- the text of what the passes answer
+module _ (sheet : List ℕ) (r : Plan) (fmmus channels : List ℕ) (says : bayOf r (areas fmmus channels) ≡ planBay sheet zeros) where
+  told : (o : Outcome Bay) → bayOf r (areas fmmus channels) ≡ o → outcomeText (managerCount sheet) o ≡ reportText sheet
+  unfolding reportText
+  told o is = ap (outcomeText (managerCount sheet)) (sym is ∙ says)
+
+  pub bay-text : (i o : PdiSegment) (n : ℕ) → r ≡ plan.Segments i o → n ≡ managerCount sheet → bayText n i o fmmus channels ≡ reportText sheet
+  bay-text i o n is count =
+      ap (λ (k : ℕ). bayText k i o fmmus channels) count ∙ told (accepted (bay i o (areas fmmus channels))) (ap (λ (x : Plan). bayOf x (areas fmmus channels)) is)
+
+  pub refusal-text : (n : ℕ) → r ≡ plan.Refused n → refusedText n ≡ reportText sheet
+  refusal-text n is = told (refused n) (ap (λ (x : Plan). bayOf x (areas fmmus channels)) is)

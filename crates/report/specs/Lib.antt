@@ -1,3 +1,2 @@
--- What `lockerplan` prints (document 01, 'Bench cases'): the plan of a bay from its sheet alone, and its text. Read from the top.
+-- What `lockerplan` prints: the plan of a bay from its sheet alone, and its text.
 pub mod Plan
-pub mod Text

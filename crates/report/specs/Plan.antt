@@ -4,15 +4,23 @@ use mathlib.Core.List.{List, []}
 use Prim.Native.Nat.{ℕ}
 use lib.ListN.{replicate}
 use Rattle.wire.specs.Outcome.{Outcome, refused, accepted}
+use Rattle.pdi.specs.declared.PdiOffset.{PdiOffset}
 use Rattle.pdi.specs.declared.PdiSegment.{PdiSegment}
+use Rattle.pdi.specs.declared.Placed.{Placed}
+use Rattle.pdi.specs.declared.Placed.the-variants as placed
 use Rattle.sheet.specs.Device.{Data}
-use Rattle.sheet.specs.Sheet.{sheetData}
+use Rattle.sheet.specs.Sheet.{sheetData, managerCount}
 use Rattle.pdo.specs.declared.PdoDirection.{PdoDirection}
 use Rattle.pdo.specs.declared.PdoDirection.the-variants.{MasterRead, MasterWrite}
 use Rattle.pdo.specs.Bits.{multipliersOf}
+use Rattle.entries.specs.declared.Configured.{Configured}
+use Rattle.entries.specs.declared.Configured.the-variants as configured
 use Rattle.entries.specs.Entries.{Planned}
 use Rattle.subdevice.specs.declared.MailboxConfig.{MailboxConfig}
 use Rattle.subdevice.specs.Mailbox.{mailboxPass, mailboxArea}
+use Rattle.lines.specs.Text.{refusedText, bayText}
+use Rattle.report.specs.declared.Plan.{Plan}
+use Rattle.report.specs.declared.Plan.the-variants.{Segments, Refused}
 use Rattle.subdevice.specs.Pass.{dataPass, entriesAfter, channelAreaAfter}
 
 -- what comes after an accepted answer; a refusal stays the answer
@@ -41,6 +49,11 @@ bay inputs outputs left = record { inputs = inputs; outputs = outputs; left = le
 abbrev pub once : List ℕ → List ℕ
 once sheet = multipliersOf [] (sheetData sheet .pdos)
 
+-- a pass's answer with its offset beside it
+abbrev pub configuredWith : Placed → PdiOffset → Configured
+configuredWith (placed.Segment s) o = configured.Mapped s o
+configuredWith (placed.Refused n) o = configured.Refused n
+
 -- an accepted pass: its segment, and where the next one starts
 abbrev pub ended : PdiSegment → ℕ → Planned
 ended segment next = record { segment = segment; next = next }
@@ -65,12 +78,25 @@ withOutputs sheet i a =
 unfoldable pub withInputs : List ℕ → Areas → Outcome Bay
 withInputs sheet a = andThen (pass sheet MasterRead 0 a) (λ (i : Planned). withOutputs sheet i (passLeaves sheet MasterRead 0 a i))
 
+abbrev pub mailboxLeaves : List ℕ → Areas → MailboxConfig → Areas
+mailboxLeaves sheet a c = areas (a .fmmus) (mailboxArea (accepted c) (sheetData sheet) (a .channels))
+
+unfoldable pub planBay : List ℕ → Areas → Outcome Bay
+planBay sheet a = andThen (mailboxPass sheet (a .channels)) (λ (c : MailboxConfig). withInputs sheet (mailboxLeaves sheet a c))
+
 -- areas zero
 abbrev pub zeros : Areas
 zeros = areas (replicate 256 0) (replicate 128 0)
 
-abbrev pub mailboxLeaves : List ℕ → Areas → MailboxConfig → Areas
-mailboxLeaves sheet a c = areas (a .fmmus) (mailboxArea (accepted c) (sheetData sheet) (a .channels))
+-- both segments, the images of the sheet's n sync managers, the enabled entries; or only the refusal
+abbrev pub outcomeText : ℕ → Outcome Bay → List ℕ
+outcomeText n (refused r) = refusedText r
+outcomeText n (accepted b) = bayText n (b .inputs) (b .outputs) (b .left .fmmus) (b .left .channels)
 
-unfoldable pub planBay : List ℕ → Outcome Bay
-planBay sheet = andThen (mailboxPass sheet (zeros .channels)) (λ (c : MailboxConfig). withInputs sheet (mailboxLeaves sheet zeros c))
+unfoldable pub reportText : List ℕ → List ℕ
+reportText sheet = outcomeText (managerCount sheet) (planBay sheet zeros)
+
+-- what the cases of `Plan` say, beside the areas that are left
+abbrev pub bayOf : Plan → Areas → Outcome Bay
+bayOf (Segments inputs outputs) a = accepted (bay inputs outputs a)
+bayOf (Refused n) a = refused n

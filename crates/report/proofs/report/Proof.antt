@@ -4,7 +4,7 @@ use mathlib.Core.Path.{sym}
 use denote.Ref.{now}
 use lib.Seq.{length-take-le}
 use Rattle.wire.proofs.Typing.{Holds, holds, written}
-use Rattle.report.specs.Text.{reportText}
+use Rattle.report.specs.Plan.{reportText}
 use Rattle.report.proofs.Fits.{report-length}
 use borrow.Author.Needs.{needs}
 use Rattle.report.proofs.report.Statement.{statement}

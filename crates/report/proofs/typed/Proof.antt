@@ -1,29 +1,35 @@
--- `typed`: what the mailbox pass answers decides between the data passes and the refusal.
+-- `typed`: what the passes answer decides between the plan's text and the refusal's.
 -- Assumes nothing.
 use denote.Ref.{now}
 use Rattle.wire.proofs.Typing.{types}
-use Rattle.report.proofs.Passes.{mailboxes-read, mailboxes-refused}
+use Rattle.report.proofs.Passes.{bay-text, refusal-text}
 use borrow.Author.Needs.{needs}
 use Rattle.report.proofs.typed.Statement.{statement}
 use Rattle.report.proofs.typed.Tie as tie
 
-slice-aggregate-configure-mailboxes : tie.Need-slice-aggregate-configure-mailboxes
-slice-aggregate-configure-mailboxes c = search needs
+slice-aggregate-plan-bay : tie.Need-slice-aggregate-plan-bay
+slice-aggregate-plan-bay c = search needs
 
-configure-mailboxes-requires : tie.Need-configure-mailboxes-requires
-configure-mailboxes-requires c κs = search needs
+slice-aggregate-plan-bay-2 : tie.Need-slice-aggregate-plan-bay-2
+slice-aggregate-plan-bay-2 c = search needs
 
-enum-told : tie.Need-enum-told
-enum-told c = search needs
+plan-bay-requires : tie.Need-plan-bay-requires
+plan-bay-requires c κs = search needs
 
-slice-aggregate-put-inputs : tie.Need-slice-aggregate-put-inputs
-slice-aggregate-put-inputs c = search needs
+enum-known-inputs : tie.Need-enum-known-inputs
+enum-known-inputs c = search needs
 
-slice-aggregate-put-inputs-2 : tie.Need-slice-aggregate-put-inputs-2
-slice-aggregate-put-inputs-2 c = search needs
+byte-at-requires : tie.Need-byte-at-requires
+byte-at-requires c κs = search needs
 
-put-inputs-requires : tie.Need-put-inputs-requires
-put-inputs-requires c κs = search needs
+slice-aggregate-put-bay : tie.Need-slice-aggregate-put-bay
+slice-aggregate-put-bay c = search needs
+
+slice-aggregate-put-bay-2 : tie.Need-slice-aggregate-put-bay-2
+slice-aggregate-put-bay-2 c = search needs
+
+put-bay-requires : tie.Need-put-bay-requires
+put-bay-requires c κs = search needs
 
 enum-known-number : tie.Need-enum-known-number
 enum-known-number c = search needs
@@ -36,29 +42,32 @@ same-length c = search needs
 
 returns : tie.Need-returns
 returns c =
-    let m = c .before .before .before .before .before .before .before .before .before .before .before .configure-mailboxes in
-    let s = c .before .before .before .before .before .before .before .before .enum-told .given in
-    types (mailboxes-read (now (c .before .before .before .before .before .before .before .before .before .before .before .before .before .before .before .args .sheet)) (m .ensures) (s .0 .0) (s .1)) (c .before .before .before .before .put-inputs .ensures)
+    let p = c .before .before .before .before .before .before .before .before .before .before .before .before .plan-bay in
+    let n = c .before .before .before .before .before .before .byte-at in
+    let s = c .before .before .before .before .before .before .before .before .inputs .given in
+    types (bay-text (now (c .before .before .before .before .before .before .before .before .before .before .before .before .before .before .before .before .before .args .sheet)) (p .result) (p .last .1 .0) (p .last .1 .1 .0) (p .ensures) (s .0 .0) (s .0 .1 .0) (n .result) (s .1) (n .ensures)) (c .before .before .put-bay .ensures)
 
 same-length-2 : tie.Need-same-length-2
 same-length-2 c = search needs
 
 returns-2 : tie.Need-returns-2
 returns-2 c =
-    let m = c .before .before .before .before .before .before .before .before .configure-mailboxes in
-    let s = c .before .before .before .before .before .number .given in
-    types (mailboxes-refused (now (c .before .before .before .before .before .before .before .before .before .before .before .before .args .sheet)) (m .ensures) (s .0 .0) (s .1)) (c .before .before .put-refused .ensures)
+    let p = c .before .before .before .before .before .before .before .before .before .plan-bay in
+    let n = c .before .before .before .before .before .number .given in
+    types (refusal-text (now (c .before .before .before .before .before .before .before .before .before .before .before .before .before .before .args .sheet)) (p .result) (p .last .1 .0) (p .last .1 .1 .0) (p .ensures) (n .0 .0) (n .1)) (c .before .before .put-refused .ensures)
 
 pub typed-spec : {M : Type 1} → statement M
 typed-spec =
     tie.close
     (tie.spec
-    slice-aggregate-configure-mailboxes
-    configure-mailboxes-requires
-    enum-told
-    slice-aggregate-put-inputs
-    slice-aggregate-put-inputs-2
-    put-inputs-requires
+    slice-aggregate-plan-bay
+    slice-aggregate-plan-bay-2
+    plan-bay-requires
+    enum-known-inputs
+    byte-at-requires
+    slice-aggregate-put-bay
+    slice-aggregate-put-bay-2
+    put-bay-requires
     enum-known-number
     put-refused-requires
     same-length

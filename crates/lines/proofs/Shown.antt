@@ -18,7 +18,7 @@ use Rattle.wire.specs.declared.Written.the-variants.{Len, Refused}
 use Rattle.wire.proofs.Copied.{over-front}
 use Rattle.wire.proofs.Order.{never}
 use Rattle.wire.proofs.Typing.{then, types}
-use Rattle.report.specs.Text.{line, shown}
+use Rattle.lines.specs.Text.{line, shown}
 
 -- as much of a list as it has
 take-least : (n : ℕ) (l : List ℕ) → take (min n (length l)) l ≡ take n l

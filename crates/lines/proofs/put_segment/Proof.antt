@@ -1,10 +1,10 @@
 -- `put_segment`: its text is written to one side, where it always fits, and typed from there.
 -- Assumes nothing.
 use Rattle.pdi.proofs.Text.{segment-length}
-use Rattle.report.proofs.Shown.{line-typed}
+use Rattle.lines.proofs.Shown.{line-typed}
 use borrow.Author.Needs.{needs}
-use Rattle.report.proofs.put_segment.Statement.{statement}
-use Rattle.report.proofs.put_segment.Tie as tie
+use Rattle.lines.proofs.put_segment.Statement.{statement}
+use Rattle.lines.proofs.put_segment.Tie as tie
 
 slice-aggregate-fmt : tie.Need-slice-aggregate-fmt
 slice-aggregate-fmt c = search needs

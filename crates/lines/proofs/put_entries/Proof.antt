@@ -1,24 +1,23 @@
 -- `put_entries`: typing the lines that are left where the loop stands is typing all of them from the start.
 -- Assumes nothing.
 use mathlib.Core.Path.{_≡_, refl, sym, _∙_, ap}
-use mathlib.Core.List.{List}
+use mathlib.Core.List.{List, []}
 use Prim.Native.Nat.{ℕ, _-_, _≤_}
 use native.Mathlib.Omega.{arith}
 use denote.Ref.{now}
-use lib.ListN.{length, take, drop}
-use lib.Seq.{take-all}
+use lib.ListN.{length, getD, drop}
 use Rattle.wire.specs.Text.{page, typedAll}
-use Rattle.area.specs.Area.{entriesOf, padded}
-use Rattle.area.proofs.Flat.{length-chunks, padded-same}
-use Rattle.report.specs.Text.{lines, enabledLine}
-use Rattle.report.proofs.Lines.{lines-turn, lines-end}
-use Rattle.report.proofs.put_entries.Statement.{statement}
-use Rattle.report.proofs.put_entries.Tie as tie
+use Rattle.area.specs.Area.{padded}
+use Rattle.area.proofs.Flat.{length-chunks}
+use Rattle.lines.specs.Text.{lines, enabledLine}
+use Rattle.lines.proofs.Lines.{lines-turn, lines-end}
+use Rattle.lines.proofs.put_entries.Statement.{statement}
+use Rattle.lines.proofs.put_entries.Tie as tie
 
 abbrev Inv-loop : tie.InvT-loop
 Inv-loop room₀ from fmmus images at₀ k₀ room at k =
     (k ≤ 16) × (length images ≡ 16) × (length room ≡ length room₀)
-    × (typedAll (page room at) (lines enabledLine k (drop k (take 16 images))) ≡ typedAll (page room₀ from) (lines enabledLine 0 (take 16 images)))
+    × (typedAll (page room at) (lines enabledLine k (drop k images)) ≡ typedAll (page room₀ from) (lines enabledLine 0 images))
 
 abbrev μ-loop : tie.MeasureT-loop
 μ-loop room₀ from fmmus images at₀ k₀ room at k = 16 - k
@@ -58,7 +57,7 @@ loop-again c =
       omega arith,
       l .inv .1,
       put .kept .0 ∙ l .inv .2,
-      lines-turn enabledLine images 16 (l .inv .1) (l .k) (omega arith) (put .ensures) ∙ l .inv .3,
+      lines-turn enabledLine images (l .k) (getD images (l .k) []) (omega arith) refl (put .ensures) ∙ l .inv .3,
     )
 
 same-length : tie.Need-same-length Inv-loop μ-loop
@@ -69,12 +68,11 @@ returns c =
     let l = c .before .loop in
     let a = c .before .before .before .before .before .args in
     let load = c .before .before .load16 in
-    let area = take-all 16 (load .result) (omega arith) ∙ load .ensures ∙ ap (entriesOf 16) (padded-same 256 (now (a .fmmus)) (c .before .before .before .before .before .pre)) in
     record {
       is =
-          sym (lines-end enabledLine (load .result) 16 (l .inv .1) (l .k) {p = page (l .room) (l .at)} (omega arith))
+          sym (lines-end enabledLine (load .result) (l .k) {p = page (l .room) (l .at)} (omega arith))
           ∙ l .inv .3
-          ∙ ap (λ (es : List (List ℕ)). typedAll (page (now (a .room)) (a .from)) (lines enabledLine 0 es)) area;
+          ∙ ap (λ (es : List (List ℕ)). typedAll (page (now (a .room)) (a .from)) (lines enabledLine 0 es)) (load .ensures);
     }
 
 pub put-entries-spec : {M : Type 1} → statement M

@@ -2,8 +2,8 @@
 -- Assumes nothing.
 use Rattle.wire.proofs.Typing.{then}
 use borrow.Author.Needs.{needs}
-use Rattle.report.proofs.put_front.Statement.{statement}
-use Rattle.report.proofs.put_front.Tie as tie
+use Rattle.lines.proofs.put_front.Statement.{statement}
+use Rattle.lines.proofs.put_front.Tie as tie
 
 put-bytes-requires : tie.Need-put-bytes-requires
 put-bytes-requires c κs = search needs

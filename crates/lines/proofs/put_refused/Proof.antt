@@ -1,10 +1,10 @@
 -- `put_refused`: each part is typed after the one before it.
 -- Assumes nothing.
 use Rattle.wire.proofs.Typing.{then}
-use Rattle.report.specs.Text.{refusedText}
+use Rattle.lines.specs.Text.{refusedText}
 use borrow.Author.Needs.{needs}
-use Rattle.report.proofs.put_refused.Statement.{statement}
-use Rattle.report.proofs.put_refused.Tie as tie
+use Rattle.lines.proofs.put_refused.Statement.{statement}
+use Rattle.lines.proofs.put_refused.Tie as tie
 
 slice-aggregate-put-bytes : tie.Need-slice-aggregate-put-bytes
 slice-aggregate-put-bytes c = search needs

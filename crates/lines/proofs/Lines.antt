@@ -3,9 +3,10 @@
 use mathlib.Core.Path.{_≡_, refl, sym, _∙_, ap}
 use mathlib.Core.Bool.{Bool, true, false, cond}
 use mathlib.Core.List.{List, [], _∷_, _++_}
-use Prim.Native.Nat.{ℕ, suc, _+_, _<_, _≤_, min}
+use Prim.Native.Nat.{ℕ, suc, _+_, _<_, _≤_}
 use native.Mathlib.Numerals.{add-one}
-use lib.ListN.{length, getD, take, drop}
+use lib.ListN.{length, getD, drop, drop-of-length-le}
+use lib.Seq.{drop-cons}
 use Rattle.wire.specs.Outcome.{refused, accepted}
 use Rattle.wire.specs.Text.{Page, typedAll, Types}
 use Rattle.wire.proofs.Typing.{typed-append, types}
@@ -17,8 +18,7 @@ use Rattle.sync_manager_channel.specs.Text.{channelText}
 use Rattle.fmmu.specs.declared.Fmmu.{Fmmu}
 use Rattle.fmmu.specs.Image.{fieldsOf}
 use Rattle.fmmu.specs.Text.{fmmuText}
-use Rattle.subdevice.proofs.Turns.{turn, over}
-use Rattle.report.specs.Text.{line, numbered, channelLine, entryLine, imageLine, enabledLine, lines}
+use Rattle.lines.specs.Text.{line, numbered, channelLine, entryLine, imageLine, enabledLine, lines}
 
 -- no line
 pub none : (p : Page) → Types p p []
@@ -45,21 +45,20 @@ module _ (k : ℕ) (image : List ℕ) (f : Fmmu) (fields : f ≡ fieldsOf image)
   unfolding entryLine
   entry-left-out {p} off = types (ap (λ (b : Bool). cond b (line (numbered (70 ∷ 77 ∷ 77 ∷ 85 ∷ []) k) (fmmuText f)) []) (sym off) ∙ ap (entryLine k) fields) (none p)
 
--- the first n of sixteen images
-module _ (lineOf : ℕ → List ℕ → List ℕ) (images : List (List ℕ)) (n : ℕ) (long : length images ≡ 16) (k : ℕ) {p : Page} where
-  -- a turn: the line of image k is typed, the others are left
+-- images one after another; `e` is the one that the loop stands at
+module _ (lineOf : ℕ → List ℕ → List ℕ) (es : List (List ℕ)) (k : ℕ) {p : Page} where
+  -- a turn: its line is typed, the others are left
   pub lines-turn :
-      {q : Page} → k < min n 16 → Types p q (lineOf k (getD images k []))
-      → typedAll q (lines lineOf (k + 1) (drop (k + 1) (take n images))) ≡ typedAll p (lines lineOf k (drop k (take n images)))
+      (e : List ℕ) {q : Page} → k < length es → getD es k [] ≡ e → Types p q (lineOf k e)
+      → typedAll q (lines lineOf (k + 1) (drop (k + 1) es)) ≡ typedAll p (lines lineOf k (drop k es))
   unfolding lines
-  lines-turn {q} h t =
-      let rest = drop (k + 1) (take n images) in
-      ap (λ (o : Page). typedAll o (lines lineOf (k + 1) rest)) (t .is)
-      ∙ sym (typed-append p (lineOf k (getD images k [])) (lines lineOf (k + 1) rest))
-      ∙ ap (λ (j : ℕ). typedAll p (lineOf k (getD images k []) ++ lines lineOf j rest)) (add-one k)
-      ∙ ap (λ (l : List (List ℕ)). typedAll p (lines lineOf k l)) (sym (turn images n 16 long k [] h))
+  lines-turn e {q} h at t =
+      ap (λ (o : Page). typedAll o (lines lineOf (k + 1) (drop (k + 1) es))) (t .is)
+      ∙ sym (typed-append p (lineOf k e) (lines lineOf (k + 1) (drop (k + 1) es)))
+      ∙ ap (λ (j : ℕ). typedAll p (lineOf k e ++ lines lineOf j (drop j es))) (add-one k)
+      ∙ ap (λ (l : List (List ℕ)). typedAll p (lines lineOf k l)) (sym (drop-cons es k [] h ∙ ap (λ (x : List ℕ). x ∷ drop (suc k) es) at))
 
   -- the end: none are left
-  pub lines-end : min n 16 ≤ k → typedAll p (lines lineOf k (drop k (take n images))) ≡ p
+  pub lines-end : length es ≤ k → typedAll p (lines lineOf k (drop k es)) ≡ p
   unfolding lines typedAll
-  lines-end h = ap (λ (l : List (List ℕ)). typedAll p (lines lineOf k l)) (over images n 16 long k h)
+  lines-end h = ap (λ (l : List (List ℕ)). typedAll p (lines lineOf k l)) (drop-of-length-le es h)

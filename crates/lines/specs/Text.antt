@@ -1,4 +1,5 @@
--- The text of a plan: both segments, the image of each of the sheet's n sync managers, each enabled entry; or only the refusal.
+-- The text of a plan (document 01, 'Bench cases'): both segments, the image of each of the sheet's n sync managers, each enabled entry; or only
+-- the refusal. Every line ends in a newline.
 -- Assumes nothing.
 use mathlib.Core.Bool.{cond}
 use mathlib.Core.List.{List, [], _∷_, _++_}
@@ -8,6 +9,7 @@ use Rattle.wire.specs.Outcome.{Outcome, refused, accepted}
 use Rattle.wire.specs.Text.{decimalOf}
 use Rattle.wire.specs.declared.Written.{Written}
 use Rattle.wire.specs.declared.Written.the-variants.{Len, Refused}
+use Rattle.pdi.specs.declared.PdiSegment.{PdiSegment}
 use Rattle.pdi.specs.Segment.{segmentText}
 use Rattle.sync_manager_channel.specs.declared.SyncManagerChannel.{SyncManagerChannel}
 use Rattle.sync_manager_channel.specs.Image.{readChannel}
@@ -15,9 +17,7 @@ use Rattle.sync_manager_channel.specs.Text.{channelText}
 use Rattle.fmmu.specs.declared.Fmmu.{Fmmu}
 use Rattle.fmmu.specs.Image.{fieldsOf}
 use Rattle.fmmu.specs.Text.{fmmuText}
-use Rattle.sheet.specs.Sheet.{managerCount}
-use Rattle.area.specs.Area.{entriesOf}
-use Rattle.report.specs.Plan.{Areas, Bay, planBay}
+use Rattle.area.specs.Area.{padded, entriesOf}
 
 -- a line: what it is about, its text, the newline
 abbrev pub line : List ℕ → List ℕ → List ℕ
@@ -59,21 +59,13 @@ enabledLine k e = entryLine k (fieldsOf e)
 unfoldable pub refusedText : ℕ → List ℕ
 refusedText n = line (114 ∷ 101 ∷ 102 ∷ 117 ∷ 115 ∷ 101 ∷ 100 ∷ 32 ∷ []) (decimalOf n)
 
--- n is the sheet's number of sync managers
-unfoldable pub bayText : ℕ → Bay → List ℕ
-bayText n b =
-    line inputsFront (segmentText (b .inputs))
-    ++ line outputsFront (segmentText (b .outputs))
-    ++ lines imageLine 0 (take n (entriesOf 8 (b .left .channels)))
-    ++ lines enabledLine 0 (entriesOf 16 (b .left .fmmus))
-
-abbrev pub outcomeText : ℕ → Outcome Bay → List ℕ
-outcomeText n (refused r) = refusedText r
-outcomeText n (accepted b) = bayText n b
-
--- the whole text
-unfoldable pub reportText : List ℕ → List ℕ
-reportText sheet = outcomeText (managerCount sheet) (planBay sheet)
+-- both segments, the images of the first n sync managers, the enabled entries; an area counts as its load in `area` takes it
+unfoldable pub bayText : ℕ → PdiSegment → PdiSegment → List ℕ → List ℕ → List ℕ
+bayText n inputs outputs fmmus channels =
+    line inputsFront (segmentText inputs)
+    ++ line outputsFront (segmentText outputs)
+    ++ lines imageLine 0 (take n (entriesOf 8 (padded 128 channels)))
+    ++ lines enabledLine 0 (entriesOf 16 (padded 256 fmmus))
 
 -- what an answer into lent room says of the room: the text at its front
 abbrev pub shown : Written → List ℕ → List ℕ

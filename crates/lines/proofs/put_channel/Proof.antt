@@ -1,11 +1,11 @@
 -- `put_channel`: an image that reads gets its line, its text written to one side; one that doesn't gets none.
 -- Assumes nothing.
 use Rattle.sync_manager_channel.proofs.Text.{channel-length}
-use Rattle.report.proofs.Shown.{line-typed}
-use Rattle.report.proofs.Lines.{image-typed, image-left-out}
+use Rattle.lines.proofs.Shown.{line-typed}
+use Rattle.lines.proofs.Lines.{image-typed, image-left-out}
 use borrow.Author.Needs.{needs}
-use Rattle.report.proofs.put_channel.Statement.{statement}
-use Rattle.report.proofs.put_channel.Tie as tie
+use Rattle.lines.proofs.put_channel.Statement.{statement}
+use Rattle.lines.proofs.put_channel.Tie as tie
 
 unpack-requires : tie.Need-unpack-requires
 unpack-requires c κs = search needs

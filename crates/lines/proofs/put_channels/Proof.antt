@@ -1,22 +1,24 @@
 -- `put_channels`: typing the lines that are left where the loop stands is typing all of them from the start.
 -- Assumes nothing.
 use mathlib.Core.Path.{_≡_, refl, sym, _∙_, ap}
-use mathlib.Core.List.{List}
-use Prim.Native.Nat.{ℕ, _-_, _≤_, min}
+use mathlib.Core.List.{List, []}
+use Prim.Native.Nat.{ℕ, _-_, _<_, _≤_, min}
+use native.Mathlib.Nat.{min-le-left, min-le-right}
 use native.Mathlib.Omega.{arith}
 use denote.Ref.{now}
-use lib.ListN.{length, take, drop}
+use lib.ListN.{length, getD, take, drop, length-take}
+use lib.Seq.{getD-take}
 use Rattle.wire.specs.Text.{page, typedAll}
-use Rattle.area.specs.Area.{entriesOf, padded}
-use Rattle.area.proofs.Flat.{length-chunks, padded-same}
-use Rattle.report.specs.Text.{lines, imageLine}
-use Rattle.report.proofs.Lines.{lines-turn, lines-end}
-use Rattle.report.proofs.put_channels.Statement.{statement}
-use Rattle.report.proofs.put_channels.Tie as tie
+use Rattle.area.specs.Area.{padded}
+use Rattle.area.proofs.Flat.{length-chunks}
+use Rattle.lines.specs.Text.{lines, imageLine}
+use Rattle.lines.proofs.Lines.{lines-turn, lines-end}
+use Rattle.lines.proofs.put_channels.Statement.{statement}
+use Rattle.lines.proofs.put_channels.Tie as tie
 
 abbrev Inv-loop : tie.InvT-loop
 Inv-loop room₀ from channels n images count at₀ k₀ room at k =
-    (k ≤ count) × (count ≡ min n 16) × (length images ≡ 16) × (length room ≡ length room₀)
+    (k ≤ count) × (count ≤ n) × (count ≤ 16) × (count ≡ length (take n images)) × (length room ≡ length room₀)
     × (typedAll (page room at) (lines imageLine k (drop k (take n images))) ≡ typedAll (page room₀ from) (lines imageLine 0 (take n images)))
 
 abbrev μ-loop : tie.MeasureT-loop
@@ -32,7 +34,10 @@ loop-holds : tie.Need-loop-holds Inv-loop μ-loop
 loop-holds c =
     let a = c .before .before .before .before .args in
     let sixteen : length (c .before .load8 .result) ≡ 16 = ap length (c .before .load8 .ensures) ∙ length-chunks 8 16 (padded 128 (now (a .channels))) in
-    (omega arith, c .least .ensures, sixteen, refl, refl)
+    let all = c .least .ensures ∙ sym (length-take (a .n) (c .before .load8 .result) ∙ ap (min (a .n)) sixteen) in
+    let few = min-le-left (a .n) 16 in
+    let most = min-le-right (a .n) 16 in
+    (omega arith, omega arith, omega arith, all, refl, refl)
 
 cast-put-channel : tie.Need-cast-put-channel Inv-loop μ-loop
 cast-put-channel c = omega arith
@@ -57,12 +62,14 @@ loop-again c =
     let l = c .before .before .before .before .before .before .loop in
     let put = c .before .before .put-channel in
     let a = c .before .before .before .before .before .before .before .before .before .before .before .args in
-    let images = c .before .before .before .before .before .before .before .before .load8 .result in (
+    let images = c .before .before .before .before .before .before .before .before .load8 .result in
+    let here : l .k < a .n = omega arith in (
       omega arith,
       l .inv .1,
       l .inv .2,
-      put .kept .0 ∙ l .inv .3,
-      lines-turn imageLine images (a .n) (l .inv .2) (l .k) (omega arith) (put .ensures) ∙ l .inv .4,
+      l .inv .3,
+      put .kept .0 ∙ l .inv .4,
+      lines-turn imageLine (take (a .n) images) (l .k) (getD images (l .k) []) (omega arith) (getD-take (a .n) images (l .k) [] here) (put .ensures) ∙ l .inv .5,
     )
 
 same-length : tie.Need-same-length Inv-loop μ-loop
@@ -73,12 +80,11 @@ returns c =
     let l = c .before .loop in
     let a = c .before .before .before .before .before .before .args in
     let load = c .before .before .before .load8 in
-    let area = load .ensures ∙ ap (entriesOf 8) (padded-same 128 (now (a .channels)) (c .before .before .before .before .before .before .pre)) in
     record {
       is =
-          sym (lines-end imageLine (load .result) (a .n) (l .inv .2) (l .k) {p = page (l .room) (l .at)} (omega arith))
-          ∙ l .inv .4
-          ∙ ap (λ (es : List (List ℕ)). typedAll (page (now (a .room)) (a .from)) (lines imageLine 0 (take (a .n) es))) area;
+          sym (lines-end imageLine (take (a .n) (load .result)) (l .k) {p = page (l .room) (l .at)} (omega arith))
+          ∙ l .inv .5
+          ∙ ap (λ (es : List (List ℕ)). typedAll (page (now (a .room)) (a .from)) (lines imageLine 0 (take (a .n) es))) (load .ensures);
     }
 
 pub put-channels-spec : {M : Type 1} → statement M

@@ -2,11 +2,11 @@
 -- Assumes nothing.
 use borrow.Author.Tests.{not-true, not-false}
 use Rattle.fmmu.proofs.Text.{fmmu-length}
-use Rattle.report.proofs.Shown.{line-typed}
-use Rattle.report.proofs.Lines.{entry-typed, entry-left-out}
+use Rattle.lines.proofs.Shown.{line-typed}
+use Rattle.lines.proofs.Lines.{entry-typed, entry-left-out}
 use borrow.Author.Needs.{needs}
-use Rattle.report.proofs.put_entry.Statement.{statement}
-use Rattle.report.proofs.put_entry.Tie as tie
+use Rattle.lines.proofs.put_entry.Statement.{statement}
+use Rattle.lines.proofs.put_entry.Tie as tie
 
 unpack-requires : tie.Need-unpack-requires
 unpack-requires c κs = search needs

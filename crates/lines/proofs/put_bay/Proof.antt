@@ -1,10 +1,10 @@
 -- `put_bay`: each part is typed after the one before it.
 -- Assumes nothing.
 use Rattle.wire.proofs.Typing.{then}
-use Rattle.report.specs.Text.{bayText}
+use Rattle.lines.specs.Text.{bayText}
 use borrow.Author.Needs.{needs}
-use Rattle.report.proofs.put_bay.Statement.{statement}
-use Rattle.report.proofs.put_bay.Tie as tie
+use Rattle.lines.proofs.put_bay.Statement.{statement}
+use Rattle.lines.proofs.put_bay.Tie as tie
 
 slice-aggregate-put-segment : tie.Need-slice-aggregate-put-segment
 slice-aggregate-put-segment c = search needs

@@ -6,10 +6,10 @@ use native.Mathlib.Omega.{arith}
 use lib.ListN.{length}
 use lib.Seq.{length-take-le}
 use denote.Ref.{now}
-use Rattle.report.proofs.Shown.{front-typed, none-typed}
+use Rattle.lines.proofs.Shown.{front-typed, none-typed}
 use borrow.Author.Needs.{needs}
-use Rattle.report.proofs.put_shown.Statement.{statement}
-use Rattle.report.proofs.put_shown.Tie as tie
+use Rattle.lines.proofs.put_shown.Statement.{statement}
+use Rattle.lines.proofs.put_shown.Tie as tie
 
 enum-known-written : tie.Need-enum-known-written
 enum-known-written c = search needs

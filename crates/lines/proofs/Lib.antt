@@ -1,0 +1,4 @@
+-- Laws that the proofs of the lines share.
+pub mod Shown
+pub mod Lines
+pub mod Fits

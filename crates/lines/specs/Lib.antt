@@ -1,0 +1,2 @@
+-- The text of a plan, line by line.
+pub mod Text
