@@ -6,11 +6,15 @@ lacking of Debian's packages is installed where this is run as root, and named w
 
 import os
 import platform
+import re
 import shutil
 import subprocess
 import sys
 import tempfile
 from pathlib import Path
+
+RATTLE, C, RUST = "Rattle", "C", "Rust"
+EACH_PASS, CHECKED = "C, reading in each pass", "Rust, overflow checks on"
 
 HERE = Path(__file__).resolve().parent
 ROOT = HERE.parent
@@ -56,13 +60,17 @@ def packages():
         lacking += ["qemu-user"]
     if not shutil.which("cc"):
         lacking += ["gcc", "libc6-dev"]
-    if not shutil.which(CC):
-        lacking += ["gcc", "libc6-dev"] if NATIVE else ["gcc-x86-64-linux-gnu", "libc6-dev-amd64-cross"]
     if not all(shutil.which(word) for word in cargo()):
         lacking += ["cargo-web", "rustc-web"]
-    if not NATIVE and not Path("/usr/lib/rustlib", TRIPLE).is_dir():
-        lacking += ["libstd-rust-web-dev:amd64"]
-    return sorted(set(lacking))
+    if not NATIVE:
+        there = {
+            "gcc-x86-64-linux-gnu": shutil.which(CC),
+            "libc6-dev-amd64-cross": Path("/usr/x86_64-linux-gnu/include/stdio.h").exists(),
+            "libc6:amd64": Path("/lib64/ld-linux-x86-64.so.2").exists(),
+            "libstd-rust-web-dev:amd64": Path("/usr/lib/rustlib", TRIPLE).is_dir(),
+        }
+        lacking += [name for name, found in there.items() if not found]
+    return lacking
 
 
 def prepare():
@@ -121,6 +129,26 @@ def rattle_program():
     return ROOT / "target" / "bin" / "bench"
 
 
+def programs(rattle=None):
+    """All that can be built, by name."""
+    prepare()
+    TARGET.mkdir(exist_ok=True)
+    built = {
+        RATTLE: rattle or rattle_program(),
+        C: c_program("plan"),
+        EACH_PASS: c_program("plan-each-pass", "-DREAD_IN_EACH_PASS"),
+        RUST: rust_program("rust", checks=False),
+        CHECKED: rust_program("rust-checked", checks=True),
+    }
+    return {name: program for name, program in built.items() if program}
+
+
+def same(right, text):
+    """Equal; or the crate fails, which has no number, in the pass that is refused."""
+    failed = re.sub(r"refused (6|7|8|9|10) .*\n\Z", "fails\n", right)
+    return text in (right, failed)
+
+
 def compilers():
     """What each figure rests on, a line each."""
     lines = [
@@ -139,7 +167,6 @@ class Counter:
     """Runs programs under qemu-user and says what they executed."""
 
     def __init__(self):
-        TARGET.mkdir(exist_ok=True)
         self.plugin = self.fitting()
 
     def fitting(self):

@@ -236,9 +236,10 @@ static unsigned pdo_bits(const struct pdo *pdo)
 {
     if (pdo->kind != COE_PDO)
         return pair(pdo->lengths);
+    const uint8_t *at = pdo->lengths, *end = at + pdo->count;
     unsigned bits = 0;
-    for (unsigned k = 0; k < pdo->count; k++)
-        bits += pdo->lengths[k];
+    while (at < end)
+        bits += *at++;
     return bits;
 }
 

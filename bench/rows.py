@@ -93,7 +93,7 @@ SMALL = [
     Row("16 sync managers, EEPROM", eeprom(14, 16)),
 ]
 BY_LENGTH = [Row(f"{kib} KiB, CoE", coe(kib * KIB, MANY)) for kib in (1, 4, 16)]
-BY_PDOS = [Row(f"1 KiB, CoE, {count} PDOs", coe(KIB, count)) for count in (4, 165)]
+BY_PDOS = [Row(f"660 mapping bytes, CoE, {count} PDOs", coe(31 + 5 * count + 660, count)) for count in (4, 100, 255)]
 EEPROM = [
     Row("1 KiB, EEPROM", eeprom(142)),
     Row("255 PDOs, EEPROM", eeprom(255)),
