@@ -14,7 +14,7 @@ import tempfile
 from pathlib import Path
 
 RATTLE, C, RUST = "Rattle", "C", "Rust"
-EACH_PASS, CHECKED = "C, reading in each pass", "Rust, overflow checks on"
+EACH_PASS, MORE, CHECKED = "C, reading in each pass", "C at -O3", "Rust, overflow checks on"
 
 HERE = Path(__file__).resolve().parent
 ROOT = HERE.parent
@@ -137,6 +137,7 @@ def programs(rattle=None):
         RATTLE: rattle or rattle_program(),
         C: c_program("plan"),
         EACH_PASS: c_program("plan-each-pass", "-DREAD_IN_EACH_PASS"),
+        MORE: c_program("plan-more", "-O3"),
         RUST: rust_program("rust", checks=False),
         CHECKED: rust_program("rust-checked", checks=True),
     }
@@ -152,7 +153,7 @@ def same(right, text):
 def compilers():
     """What each figure rests on, a line each."""
     lines = [
-        f"- C: {first_line(CC, '--version')}, `{' '.join(C_FLAGS)}`",
+        f"- C: {first_line(CC, '--version')}, `{' '.join(C_FLAGS)}` unless said",
         f"- Rust: {first_line(cargo()[1], '--version')}, cargo's release profile (optimisation level 3), overflow checks off unless said",
     ]
     if shutil.which("rt"):

@@ -98,7 +98,7 @@ EEPROM = [
     Row("1 KiB, EEPROM", eeprom(142)),
     Row("255 PDOs, EEPROM", eeprom(255)),
     Row("largest of EEPROM PDOs alone", eeprom(255, 16, (0,) * 16)),
-    Row("16 KiB, EEPROM, of CoE PDOs", sheet(NO_MAILBOX, managers(4), (1, 2), coe_pdos(MANY, 16 * KIB - 31 - 5 * MANY))),
+    Row("16 KiB, EEPROM, of CoE PDOs", sheet(NO_MAILBOX, managers(4), (1,), coe_pdos(MANY, 16 * KIB - 30 - 5 * MANY))),
 ]
 TABLES = [
     Row("table of 0", ONE_INDEX),

@@ -111,20 +111,26 @@ fn say_pass(config: &SubDeviceConfig, direction: PdoDirection, next: PdiOffset, 
     println!("ok {start} {end} {} {} {}", next.start_address, hex(&areas.fmmus), hex(&areas.channels));
 }
 
-/// How often to plan, the table and the sheet.
-fn read_input(input: &'static [u8]) -> Option<(u32, Vec<(u16, u8)>, &'static [u8])> {
+/// What README.md says of the input.
+struct Input {
+    times: u32,
+    table: Vec<(u16, u8)>,
+    sheet: &'static [u8],
+}
+
+fn read_input(input: &'static [u8]) -> Option<Input> {
     let (times, rest) = input.split_first_chunk()?;
     let (records, rest) = rest.split_first_chunk()?;
     let records = usize::from(u16::from_be_bytes(*records));
     let (table, sheet) = rest.split_at_checked(3 * records)?;
     let table = table.chunks(3).map(|record| (u16::from_be_bytes([record[0], record[1]]), record[2])).collect();
-    (records <= 256).then_some((u32::from_be_bytes(*times), table, sheet))
+    (records <= 256).then_some(Input { times: u32::from_be_bytes(*times), table, sheet })
 }
 
 fn main() -> ExitCode {
     let mut input = Vec::new();
     let read = io::stdin().read_to_end(&mut input);
-    let Some((times, table, bytes)) = read.ok().and_then(|_| read_input(input.leak())) else {
+    let Some(Input { times, table, sheet: bytes }) = read.ok().and_then(|_| read_input(input.leak())) else {
         eprintln!("bench: the input is cut short, or its table is too long");
         return ExitCode::from(2);
     };
