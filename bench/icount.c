@@ -1,6 +1,6 @@
 /* A plugin for qemu-user that counts the instructions which the emulated program executes, and writes the number to the
    file that its option out= names. A string instruction with a repeat prefix counts once for each turn and once to end.
-   Debian ships no header for plugins, so the six functions that are used are declared here. */
+   Debian ships no header for plugins, so the four functions that are used are declared here. */
 #include <stddef.h>
 #include <stdint.h>
 #include <stdio.h>
