@@ -88,6 +88,20 @@ impl Sheet {
             && coe.iter().all(|pdo| coe.iter().all(|other| pdo.index != other.index || pdo.lengths == other.lengths))
     }
 
+    /// What an SDO read answers. Objects 0x1C10 to 0x1C1F list the CoE PDOs that name a sync manager, every other object
+    /// is a PDO's mapping: at sub-index 0 how many follow, then each.
+    pub fn object(&self, object: u16, at: u8) -> u32 {
+        let mut pdos = self.pdos.iter().filter(|pdo| pdo.kind == COE);
+        let values: Vec<u32> = if (0x1c10..0x1c20).contains(&object) {
+            pdos.filter(|pdo| u16::from(pdo.manager) == object - 0x1c10).map(|pdo| pdo.index.into()).collect()
+        } else {
+            let pdo = pdos.find(|pdo| pdo.index == object).expect("only what the sheet lists is asked for");
+            // the object that is mapped isn't in the sheet; its bits must not be read as a length
+            pdo.lengths.iter().map(|bits| 0x6000_0100 | u32::from(*bits)).collect()
+        };
+        if at == 0 { values.len() as u32 } else { values[usize::from(at) - 1] }
+    }
+
     pub fn bytes(&self) -> Vec<u8> {
         let mut body = vec![1, self.flags];
         body.extend(self.receive.to_be_bytes());

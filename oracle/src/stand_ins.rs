@@ -93,7 +93,10 @@ pub mod register {
         }
 
         pub fn read(&mut self, address: &RegisterAddress) -> u128 {
-            self.image(address).iter().rev().fold(0, |number, byte| number << 8 | u128::from(*byte))
+            let mut bytes = [0; 16];
+            let image = self.image(address);
+            bytes[..image.len()].copy_from_slice(image);
+            u128::from_le_bytes(bytes)
         }
 
         pub fn write(&mut self, address: &RegisterAddress, number: u128) {

@@ -6,7 +6,7 @@ use crate::eeprom::{Eeprom, types::SiiOwner};
 use crate::error::Error;
 use crate::mailbox::coe::SdoExpeditedPayload;
 use crate::register::{Areas, RegisterAddress};
-use crate::sheet::{COE, Sheet};
+use crate::sheet::Sheet;
 use crate::subdevice_state::SubDeviceState;
 use crate::wire::{FromWire, ToWire};
 use std::cell::RefCell;
@@ -72,19 +72,9 @@ impl<'a, S> SubDeviceRef<'a, S> {
         Command { address }
     }
 
-    /// Objects 0x1C10 to 0x1C1F list the CoE PDOs that name a sync manager, every other object is a PDO's mapping: at
-    /// sub-index 0 how many follow, then each.
     async fn sdo_read_expedited<T: SdoExpeditedPayload>(&self, object: u16, at: SubIndex) -> Result<T, Error> {
-        let mut pdos = self.maindevice.sheet.pdos.iter().filter(|pdo| pdo.kind == COE);
-        let values: Vec<u32> = if (0x1c10..0x1c20).contains(&object) {
-            pdos.filter(|pdo| u16::from(pdo.manager) == object - 0x1c10).map(|pdo| pdo.index.into()).collect()
-        } else {
-            let pdo = pdos.find(|pdo| pdo.index == object).expect("only what the sheet lists is asked for");
-            // the object that is mapped isn't in the sheet; its bits must not be read as a length
-            pdo.lengths.iter().map(|bits| 0x6000_0100 | u32::from(*bits)).collect()
-        };
         let SubIndex::Index(at) = at;
-        let number = if at == 0 { values.len() as u32 } else { values[usize::from(at) - 1] };
+        let number = self.maindevice.sheet.object(object, at);
         Ok(T::from_wire(number.into()).expect("every number is named"))
     }
 }

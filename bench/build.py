@@ -1,0 +1,194 @@
+"""Builds the programs that bench/count counts, for x86-64, and counts the instructions that a run of one executes.
+
+The kit's programs are for x86-64, so all are; qemu-user runs them on any machine, with a plugin that counts. What is
+lacking of Debian's packages is installed where this is run as root, and named where not.
+"""
+
+import os
+import platform
+import re
+import shutil
+import subprocess
+import sys
+import tempfile
+from pathlib import Path
+
+RATTLE, C, RUST = "Rattle", "C", "Rust"
+EACH_PASS, MORE, CHECKED = "C, reading in each pass", "C at -O3", "Rust, overflow checks on"
+
+HERE = Path(__file__).resolve().parent
+ROOT = HERE.parent
+TARGET = HERE / "target"
+NATIVE = platform.machine() in ("x86_64", "amd64")
+TRIPLE = "x86_64-unknown-linux-gnu"
+CC = "gcc" if NATIVE else "x86_64-linux-gnu-gcc"
+C_FLAGS = ["-std=c11", "-O2"]
+# the environment lies on a program's stack: the same for every run
+QUIET = {"PATH": "/usr/bin:/bin", "LC_ALL": "C"}
+
+
+def stop(reason):
+    print(f"not counted: {reason}")
+    sys.exit(2)
+
+
+def run(*command, **words):
+    done = subprocess.run([str(word) for word in command], **words)
+    if done.returncode:
+        stop(f"{command[0]} ended with status {done.returncode}")
+    return done
+
+
+def first_line(*command):
+    return run(*command, stdout=subprocess.PIPE, text=True).stdout.splitlines()[0]
+
+
+# ---- what is needed
+
+
+def cargo():
+    """Cargo and its compiler. Beside x86-64, Debian's: it has the standard library for x86-64."""
+    if NATIVE and shutil.which("cargo"):
+        return "cargo", "rustc"
+    return "/usr/bin/cargo", "/usr/bin/rustc"
+
+
+def packages():
+    """Debian's packages that are lacking."""
+    lacking = []
+    if not shutil.which("qemu-x86_64"):
+        lacking += ["qemu-user"]
+    if not shutil.which("cc"):
+        lacking += ["gcc", "libc6-dev"]
+    if not all(shutil.which(word) for word in cargo()):
+        lacking += ["cargo-web", "rustc-web"]
+    if not NATIVE:
+        there = {
+            "gcc-x86-64-linux-gnu": shutil.which(CC),
+            "libc6-dev-amd64-cross": Path("/usr/x86_64-linux-gnu/include/stdio.h").exists(),
+            "libc6:amd64": Path("/lib64/ld-linux-x86-64.so.2").exists(),
+            "libstd-rust-web-dev:amd64": Path("/usr/lib/rustlib", TRIPLE).is_dir(),
+        }
+        lacking += [name for name, found in there.items() if not found]
+    return lacking
+
+
+def prepare():
+    lacking = packages()
+    if not lacking:
+        return
+    steps = [["apt-get", "update", "-q"], ["apt-get", "install", "-q", "-y", "--no-install-recommends", *lacking]]
+    if not NATIVE:
+        steps.insert(0, ["dpkg", "--add-architecture", "amd64"])
+    words = " && ".join(" ".join(step) for step in steps)
+    if os.geteuid() or not shutil.which("apt-get"):
+        stop(f"these of Debian's packages are lacking; as root: {words}")
+    print(f"installing: {words}", file=sys.stderr)
+    for step in steps:
+        run(*step, stdout=sys.stderr)
+
+
+# ---- the programs
+
+
+def crate_text():
+    """The folder of the crate's text, whose files are those that the oracle recorded."""
+    folder = os.environ.get("TUGMERANT_CRATE_TEXT")
+    if not folder:
+        stop("TUGMERANT_CRATE_TEXT, the folder of the crate's text, isn't set")
+    run("sha256sum", "--check", "--quiet", ROOT / "oracle" / "TEXT.sha256", cwd=folder, stdout=sys.stderr)
+    return Path(folder).resolve()
+
+
+def c_program(name, *flags):
+    program = TARGET / name
+    run(CC, *C_FLAGS, *flags, "-o", program, HERE / "plan.c")
+    return program
+
+
+def rust_program(name, checks):
+    """Cargo's settings from outside are left out: the profile is bench/rust/Cargo.toml's, but for the overflow checks."""
+    program, compiler = cargo()
+    environment = {word: value for word, value in os.environ.items() if not word.startswith(("CARGO_", "RUSTC", "RUSTFLAGS"))}
+    environment |= {"RUSTC": compiler, "TUGMERANT_CRATE_TEXT": str(crate_text())}
+    environment["CARGO_PROFILE_RELEASE_OVERFLOW_CHECKS"] = "true" if checks else "false"
+    if not NATIVE:
+        environment["CARGO_TARGET_X86_64_UNKNOWN_LINUX_GNU_LINKER"] = CC
+    words = ["build", "--release", "--offline", "--locked", "--quiet", "--target", TRIPLE, "--target-dir", TARGET / name]
+    run(program, *words, cwd=HERE / "rust", env=environment)
+    return TARGET / name / TRIPLE / "release" / "bench"
+
+
+def rattle_program():
+    """The program of crates/bench, proved; nothing where there is none."""
+    if not (ROOT / "crates" / "bench").is_dir():
+        return None
+    if not shutil.which("rt"):
+        stop("there is no rt to build crates/bench with")
+    run("rt", "check", "bench", cwd=ROOT, stdout=sys.stderr)
+    return ROOT / "target" / "bin" / "bench"
+
+
+def programs(rattle=None):
+    """All that can be built, by name."""
+    prepare()
+    TARGET.mkdir(exist_ok=True)
+    built = {
+        RATTLE: rattle or rattle_program(),
+        C: c_program("plan"),
+        EACH_PASS: c_program("plan-each-pass", "-DREAD_IN_EACH_PASS"),
+        MORE: c_program("plan-more", "-O3"),
+        RUST: rust_program("rust", checks=False),
+        CHECKED: rust_program("rust-checked", checks=True),
+    }
+    return {name: program for name, program in built.items() if program}
+
+
+def same(right, text):
+    """Equal; or the crate fails, which has no number, in the pass that is refused."""
+    failed = re.sub(r"refused (6|7|8|9|10) .*\n\Z", "fails\n", right)
+    return text in (right, failed)
+
+
+def compilers():
+    """What each figure rests on, a line each."""
+    lines = [
+        f"- C: {first_line(CC, '--version')}, `{' '.join(C_FLAGS)}` unless said",
+        f"- Rust: {first_line(cargo()[1], '--version')}, cargo's release profile (optimisation level 3), overflow checks off unless said",
+    ]
+    if shutil.which("rt"):
+        lines.insert(0, f"- Rattle: {first_line('rt', 'version')}, which compiles by LLVM at `-O3 -march=x86-64`")
+    return lines
+
+
+# ---- counting
+
+
+class Counter:
+    """Runs programs under qemu-user and says what they executed."""
+
+    def __init__(self):
+        self.plugin = self.fitting()
+
+    def fitting(self):
+        """The plugin, built for the number that this qemu speaks."""
+        for number in range(1, 10):
+            plugin = TARGET / f"icount{number}.so"
+            run("cc", "-O2", "-fPIC", "-shared", f"-DPLUGIN_API={number}", "-o", plugin, HERE / "icount.c")
+            if self.executed(plugin, [c_program("plan")], bytes(6))[0]:
+                return plugin
+        stop("this qemu-x86_64 takes no plugin")
+
+    def executed(self, plugin, command, data):
+        """The number of instructions, or 0 where there was no count; and what the program wrote."""
+        with tempfile.NamedTemporaryFile() as out:
+            emulator = ["qemu-x86_64", "-cpu", "qemu64", "-plugin", f"{plugin},out={out.name}"]
+            done = subprocess.run([*emulator, *command], input=data, capture_output=True, env=QUIET)
+            count = Path(out.name).read_text().strip()
+        return int(count or 0), done.stdout.decode(), done
+
+    def count(self, program, data):
+        count, text, done = self.executed(self.plugin, [program], data)
+        if done.returncode or not count:
+            stop(f"{program} ended with status {done.returncode}: {done.stderr.decode().strip()}")
+        return count, text

@@ -1,0 +1,430 @@
+/* A planner in plain C, written from document 01: the yardstick that bench/count holds the others to.
+   Input and answer are those of README.md. Where READ_IN_EACH_PASS is defined, each pass reads the sheet itself, as entry
+   points do that take a sheet; otherwise a plan reads it once. */
+#include <stdbool.h>
+#include <stdint.h>
+#include <stdio.h>
+#include <string.h>
+
+enum {
+    MANAGERS = 16,
+    ENTRIES = 16,
+    MOST_PDOS = 255,
+    MOST_RECORDS = 256,
+    MOST_FOLLOWING = 16384,
+    MOST_BITS = 65528,
+    MOST_LENGTH = 65535,
+};
+enum { MAILBOX = 1, COE = 2, COMPLETE_ACCESS = 4 };
+enum { MAILBOX_WRITE = 1, MAILBOX_READ = 2, DATA_WRITE = 3, DATA_READ = 4 };
+enum { OUTPUTS = 1, INPUTS = 2 };
+enum { COE_PDO = 0, EEPROM_READ = 1, EEPROM_WRITE = 2 };
+
+struct manager {
+    uint16_t start;
+    uint8_t control;
+    bool enable;
+    uint8_t usage;
+};
+
+struct pdo {
+    uint8_t kind;
+    uint8_t manager;
+    uint16_t index;
+    uint8_t count;
+    const uint8_t *lengths; /* where they stand in the sheet */
+};
+
+struct device {
+    uint8_t flags;
+    uint16_t receive, send;
+    unsigned n, f, p;
+    struct manager managers[MANAGERS];
+    uint8_t usages[ENTRIES];
+    struct pdo pdos[MOST_PDOS];
+    bool coe;
+};
+
+struct record {
+    uint16_t index;
+    uint8_t multiplier;
+};
+
+struct input {
+    uint8_t bytes[4 + 2 + 3 * MOST_RECORDS + 2 + MOST_FOLLOWING + 1];
+    struct record table[MOST_RECORDS];
+    unsigned records;
+    const uint8_t *sheet;
+    size_t length;
+};
+
+struct areas {
+    uint8_t fmmus[16 * ENTRIES];
+    uint8_t channels[8 * MANAGERS];
+};
+
+struct mailbox {
+    bool exists;
+    uint16_t address, size;
+    uint8_t number;
+};
+
+struct config {
+    struct mailbox read, write;
+    bool coe, complete_access;
+};
+
+struct segment {
+    uint32_t start, end;
+};
+
+/* ---- the sheet */
+
+static uint16_t pair(const uint8_t *at)
+{
+    return (uint16_t)(at[0] << 8 | at[1]);
+}
+
+static bool has_usage(const struct device *device, uint8_t usage)
+{
+    for (unsigned k = 0; k < device->n; k++)
+        if (device->managers[k].usage == usage)
+            return true;
+    return false;
+}
+
+/* Reads a sheet, or answers the number of its refusal. */
+static int read_sheet(const uint8_t *sheet, size_t length, struct device *device)
+{
+    if (length < 2 || length != (size_t)pair(sheet) + 2 || pair(sheet) < 9 || pair(sheet) > MOST_FOLLOWING)
+        return 2;
+    if (sheet[2] != 1)
+        return 3;
+    device->flags = sheet[3];
+    device->receive = pair(sheet + 4);
+    device->send = pair(sheet + 6);
+    device->n = sheet[8];
+    device->f = sheet[9];
+    device->p = sheet[10];
+    if (device->flags > 7 || device->n > MANAGERS || device->f > ENTRIES)
+        return 4;
+
+    const uint8_t *at = sheet + 11, *end = sheet + length;
+    if ((size_t)(end - at) < 5 * device->n + device->f)
+        return 4;
+    bool unnamed = false;
+    for (unsigned k = 0; k < device->n; k++, at += 5) {
+        struct manager *manager = &device->managers[k];
+        manager->start = pair(at);
+        manager->control = at[2];
+        manager->enable = at[3] & 1;
+        manager->usage = at[4];
+        if (manager->usage > DATA_READ)
+            return 4;
+        /* modes 1 and 3 and directions 2 and 3 have no name */
+        if (manager->control & 0x09)
+            unnamed = true;
+    }
+    for (unsigned k = 0; k < device->f; k++) {
+        device->usages[k] = *at++;
+        if (device->usages[k] > 3)
+            return 4;
+    }
+    for (unsigned k = 0; k < device->p; k++) {
+        struct pdo *pdo = &device->pdos[k];
+        if (end - at < 5)
+            return 4;
+        pdo->kind = at[0];
+        pdo->manager = at[1];
+        pdo->index = pair(at + 2);
+        pdo->count = at[4];
+        pdo->lengths = at + 5;
+        if (pdo->kind > EEPROM_WRITE || (pdo->kind != COE_PDO && pdo->count != 2))
+            return 4;
+        if (end - pdo->lengths < pdo->count)
+            return 4;
+        at = pdo->lengths + pdo->count;
+    }
+    if (at != end)
+        return 4;
+    if (unnamed)
+        return 5;
+    device->coe = device->flags & MAILBOX && device->flags & COE && device->send > 0 && has_usage(device, MAILBOX_READ);
+    return 0;
+}
+
+/* ---- the images */
+
+static void put16(uint8_t *at, unsigned value)
+{
+    at[0] = value & 0xff;
+    at[1] = value >> 8 & 0xff;
+}
+
+static void put32(uint8_t *at, uint32_t value)
+{
+    put16(at, value & 0xffff);
+    put16(at + 2, value >> 16);
+}
+
+static void write_channel(uint8_t *image, const struct manager *manager, unsigned size)
+{
+    put16(image, manager->start);
+    put16(image + 2, size);
+    image[4] = manager->control & 0x7f;
+    image[5] = 0;
+    image[6] = manager->enable && size > 0;
+    image[7] = 0;
+}
+
+static bool entry_enabled(const uint8_t *image)
+{
+    return image[12] & 1;
+}
+
+static unsigned entry_length(const uint8_t *image)
+{
+    return image[4] | image[5] << 8;
+}
+
+/* An enabled entry grows, and its reserved bits are written as 0; a disabled one is made. */
+static void write_entry(uint8_t *image, uint32_t offset, unsigned size, uint16_t start, bool write)
+{
+    if (entry_enabled(image)) {
+        put16(image + 4, entry_length(image) + size);
+        image[6] &= 7;
+        image[7] &= 7;
+        image[10] &= 7;
+        image[11] &= 3;
+    } else {
+        put32(image, offset);
+        put16(image + 4, size);
+        image[6] = 0;
+        image[7] = 7;
+        put16(image + 8, start);
+        image[10] = 0;
+        image[11] = write ? 2 : 1;
+    }
+    image[12] = 1;
+    image[13] = image[14] = image[15] = 0;
+}
+
+/* ---- the passes */
+
+static struct config mailbox_pass(const struct device *device, uint8_t *channels)
+{
+    struct config config = {0};
+    if (!(device->flags & MAILBOX))
+        return config;
+    for (unsigned k = 0; k < device->n; k++) {
+        const struct manager *manager = &device->managers[k];
+        if (manager->usage == MAILBOX_WRITE) {
+            write_channel(channels + 8 * k, manager, device->receive);
+            config.write = (struct mailbox){true, manager->start, device->receive, (uint8_t)k};
+        } else if (manager->usage == MAILBOX_READ) {
+            write_channel(channels + 8 * k, manager, device->send);
+            config.read = (struct mailbox){true, manager->start, device->send, (uint8_t)k};
+        }
+    }
+    config.coe = device->coe;
+    config.complete_access = device->flags & COMPLETE_ACCESS;
+    return config;
+}
+
+/* At most 65,535: 255 mappings of 255 bits, or one number of 16. */
+static unsigned pdo_bits(const struct pdo *pdo)
+{
+    if (pdo->kind != COE_PDO)
+        return pair(pdo->lengths);
+    const uint8_t *at = pdo->lengths, *end = at + pdo->count;
+    unsigned bits = 0;
+    while (at < end)
+        bits += *at++;
+    return bits;
+}
+
+static unsigned multiplier(const struct record *table, unsigned records, uint16_t index)
+{
+    for (unsigned k = 0; k < records; k++)
+        if (table[k].index == index)
+            return table[k].multiplier;
+    return 1;
+}
+
+/* Makes a data pass, or answers the number of its refusal with nothing written. */
+static int data_pass(const struct device *device, bool write, uint32_t *offset, uint32_t group, const struct record *table,
+                     unsigned records, struct areas *areas, struct segment *segment)
+{
+    const uint8_t usage = write ? DATA_WRITE : DATA_READ;
+    const uint8_t kind = device->coe ? COE_PDO : write ? EEPROM_WRITE : EEPROM_READ;
+
+    /* the exact bits of a sync manager stay below 2^32: 255 PDOs of 65,535 bits, each 255 times */
+    uint32_t bits[MANAGERS] = {0};
+    for (unsigned k = 0; k < device->p; k++) {
+        const struct pdo *pdo = &device->pdos[k];
+        if (pdo->kind == kind && pdo->manager < device->n && device->managers[pdo->manager].usage == usage)
+            bits[pdo->manager] += pdo_bits(pdo) * multiplier(table, records, pdo->index);
+    }
+
+    bool too_many = false, some = false;
+    uint64_t end = *offset;
+    unsigned sizes[MANAGERS] = {0};
+    for (unsigned k = 0; k < device->n; k++) {
+        too_many |= bits[k] > MOST_BITS;
+        some |= bits[k] > 0;
+        sizes[k] = (bits[k] + 7) / 8;
+        end += sizes[k];
+    }
+    if (too_many)
+        return 6;
+
+    unsigned first = 0;
+    if (device->coe) {
+        while (first < device->f && device->usages[first] != (write ? OUTPUTS : INPUTS))
+            first++;
+        if (some && first == device->f)
+            return 7;
+    }
+
+    uint32_t grown[ENTRIES] = {0};
+    bool too_long = false;
+    for (unsigned k = 0; k < device->n; k++) {
+        if (device->managers[k].usage != usage || (device->coe && bits[k] == 0))
+            continue;
+        unsigned entry = device->coe ? first : k;
+        const uint8_t *image = areas->fmmus + 16 * entry;
+        grown[entry] += sizes[k];
+        too_long |= grown[entry] + (entry_enabled(image) ? entry_length(image) : 0) > MOST_LENGTH;
+    }
+    if (too_long)
+        return 8;
+    if (end > UINT32_MAX)
+        return 9;
+    if (*offset < group)
+        return 10;
+
+    segment->start = *offset - group;
+    for (unsigned k = 0; k < device->n; k++) {
+        const struct manager *manager = &device->managers[k];
+        if (manager->usage != usage)
+            continue;
+        write_channel(areas->channels + 8 * k, manager, sizes[k]);
+        if (!device->coe || bits[k] > 0)
+            write_entry(areas->fmmus + 16 * (device->coe ? first : k), *offset, sizes[k], manager->start, write);
+        *offset += sizes[k];
+    }
+    segment->end = *offset - group;
+    return 0;
+}
+
+/* ---- the answer */
+
+static void say_bytes(const uint8_t *bytes, size_t count)
+{
+    putchar(' ');
+    for (size_t k = 0; k < count; k++)
+        printf("%02x", bytes[k]);
+}
+
+static void say_mailbox(const struct mailbox *mailbox)
+{
+    if (mailbox->exists)
+        printf(" %u/%u/%u", mailbox->address, mailbox->size, mailbox->number);
+    else
+        printf(" none");
+}
+
+static void say_mailboxes(int number, const struct config *config, const struct areas *areas)
+{
+    if (number) {
+        printf("refused %d", number);
+    } else {
+        printf("ok");
+        say_mailbox(&config->read);
+        say_mailbox(&config->write);
+        printf(" %d %d", config->coe, config->complete_access);
+    }
+    say_bytes(areas->channels, sizeof areas->channels);
+    putchar('\n');
+}
+
+static void say_pass(int number, const struct segment *segment, uint32_t next, const struct areas *areas)
+{
+    if (number)
+        printf("refused %d %u", number, next);
+    else
+        printf("ok %u %u %u", segment->start, segment->end, next);
+    say_bytes(areas->fmmus, sizeof areas->fmmus);
+    say_bytes(areas->channels, sizeof areas->channels);
+    putchar('\n');
+}
+
+/* ---- the plan */
+
+static struct input input;
+static struct device device;
+static struct areas areas;
+
+static int read_again(void)
+{
+#ifdef READ_IN_EACH_PASS
+    return read_sheet(input.sheet, input.length, &device);
+#else
+    return 0;
+#endif
+}
+
+/* One plan over areas of zeros; the last one is said. */
+static __attribute__((noinline)) void plan(bool last)
+{
+    memset(&areas, 0, sizeof areas);
+    struct config config = {0};
+    int number = read_sheet(input.sheet, input.length, &device);
+    if (!number)
+        config = mailbox_pass(&device, areas.channels);
+    if (last)
+        say_mailboxes(number, &config, &areas);
+    uint32_t offset = 0;
+    for (int write = 0; write < 2 && !number; write++) {
+        struct segment segment = {0};
+        number = read_again();
+        if (!number)
+            number = data_pass(&device, write, &offset, 0, input.table, input.records, &areas, &segment);
+        if (last)
+            say_pass(number, &segment, offset, &areas);
+    }
+}
+
+/* How often to plan, from the head of the input; the table and the sheet are set. */
+static bool read_input(uint32_t *times)
+{
+    size_t length = fread(input.bytes, 1, sizeof input.bytes, stdin);
+    if (length < 6)
+        return false;
+    *times = (uint32_t)pair(input.bytes) << 16 | pair(input.bytes + 2);
+    input.records = pair(input.bytes + 4);
+    if (input.records > MOST_RECORDS || length - 6 < 3 * input.records)
+        return false;
+    for (unsigned k = 0; k < input.records; k++) {
+        const uint8_t *at = input.bytes + 6 + 3 * k;
+        input.table[k] = (struct record){pair(at), at[2]};
+    }
+    input.sheet = input.bytes + 6 + 3 * input.records;
+    input.length = length - 6 - 3 * input.records;
+    return true;
+}
+
+int main(void)
+{
+    uint32_t times;
+    if (!read_input(&times)) {
+        fprintf(stderr, "plan: the input is cut short, or its table is too long\n");
+        return 2;
+    }
+    while (times-- > 0) {
+        plan(times == 0);
+        /* each plan is made anew: the compiler may keep nothing of the one before */
+        __asm__ volatile("" ::: "memory");
+    }
+    return 0;
+}

@@ -1,0 +1,115 @@
+"""The sheets and tables that bench/count counts, each chosen so that a plan of it is accepted unless its name says not."""
+
+from typing import NamedTuple
+
+MAILBOX_WRITE, MAILBOX_READ, OUTPUTS, INPUTS = 1, 2, 3, 4
+CONTROL = {MAILBOX_WRITE: 0x26, MAILBOX_READ: 0x22, OUTPUTS: 0x64, INPUTS: 0x20}
+COE_FLAGS, NO_MAILBOX = 3, 0
+SAMPLE = bytes.fromhex(
+    "0038 0103 0080 0080 050203 1000260101 1080220102 1100640103 1180200104 1183200104 0102"
+    "00031a00020c05 00041a01020801 000216000110"
+)
+
+
+class Row(NamedTuple):
+    name: str
+    sheet: bytes
+    table: list = []
+
+    def length(self):
+        """L, the bytes that follow it."""
+        return len(self.sheet) - 2
+
+    def pdos(self):
+        return self.sheet[10]
+
+    def input(self, times):
+        records = b"".join(index.to_bytes(2, "big") + bytes([multiplier]) for index, multiplier in self.table)
+        return times.to_bytes(4, "big") + len(self.table).to_bytes(2, "big") + records + self.sheet
+
+
+def sheet(flags, managers, usages, pdos):
+    body = bytes([1, flags, 0, 128, 0, 128, len(managers), len(usages), len(pdos)])
+    for k, usage in enumerate(managers):
+        body += (0x1000 + 0x100 * k).to_bytes(2, "big") + bytes([CONTROL[usage], 1, usage])
+    body += bytes(usages)
+    for kind, manager, index, lengths in pdos:
+        body += bytes([kind, manager]) + index.to_bytes(2, "big") + bytes([len(lengths)]) + bytes(lengths)
+    return len(body).to_bytes(2, "big") + body
+
+
+def managers(count):
+    """Two mailboxes, then outputs and inputs by turns."""
+    return ([MAILBOX_WRITE, MAILBOX_READ] + [OUTPUTS, INPUTS] * 7)[:count]
+
+
+def coe_pdos(count, mappings, manager_count=4, shared=False):
+    """CoE PDOs on the data sync managers by turns, with so many mapping bytes in all, as evenly as can be."""
+    each, more = divmod(mappings, count) if count else (0, 0)
+    pdos = []
+    for k in range(count):
+        manager = 2 + k % (manager_count - 2)
+        index = 0x1A00 if shared else 0x1A00 + k
+        pdos.append((0, manager, index, [1 + i % 6 for i in range(each + (k < more))]))
+    return pdos
+
+
+def eeprom_pdos(count, manager_count=4):
+    data = range(2, manager_count)
+    return [(2 - data[k % len(data)] % 2, data[k % len(data)], 0x1A00 + k, [0, 1 + k % 200]) for k in range(count)]
+
+
+def coe(length, count, usages=(1, 2)):
+    """A sheet on the CoE path of so many bytes and PDOs."""
+    used = 9 + 5 * 4 + len(usages) + 5 * count
+    return sheet(COE_FLAGS, managers(4), usages, coe_pdos(count, length - used))
+
+
+def eeprom(count, manager_count=4, usages=(1,)):
+    return sheet(NO_MAILBOX, managers(manager_count), usages, eeprom_pdos(count, manager_count))
+
+
+def with_length(bytes_):
+    """The same with L as its bytes have it."""
+    return (len(bytes_) - 2).to_bytes(2, "big") + bytes_[2:]
+
+
+def table(records, last=None):
+    """Records of indexes that no sheet here has, but for the last where one is named."""
+    rows = [(0x7000 + k, 3) for k in range(records)]
+    return rows[:-1] + [(last, 2)] if last is not None else rows
+
+
+KIB = 1024
+MANY = 63  # PDOs of the CoE sheets that differ in length alone: 16 KiB can't do with fewer
+# 62 PDOs of one index and one mapping: each can match a table's last record
+ONE_INDEX = sheet(COE_FLAGS, managers(4), (1, 2, 0), coe_pdos(62, 62 * 11, shared=True))
+
+SMALL = [
+    Row("document 01's sample", SAMPLE),
+    Row("no PDO, CoE", coe(31, 0)),
+    Row("no PDO, EEPROM", eeprom(0)),
+    Row("16 sync managers, CoE", sheet(COE_FLAGS, managers(16), (1, 2), coe_pdos(14, 14 * 4, 16))),
+    Row("16 sync managers, EEPROM", eeprom(14, 16)),
+]
+BY_LENGTH = [Row(f"{kib} KiB, CoE", coe(kib * KIB, MANY)) for kib in (1, 4, 16)]
+BY_PDOS = [Row(f"660 mapping bytes, CoE, {count} PDOs", coe(31 + 5 * count + 660, count)) for count in (4, 100, 255)]
+EEPROM = [
+    Row("1 KiB, EEPROM", eeprom(142)),
+    Row("255 PDOs, EEPROM", eeprom(255)),
+    Row("largest of EEPROM PDOs alone", eeprom(255, 16, (0,) * 16)),
+    Row("16 KiB, EEPROM, of CoE PDOs", sheet(NO_MAILBOX, managers(4), (1,), coe_pdos(MANY, 16 * KIB - 30 - 5 * MANY))),
+]
+TABLES = [
+    Row("table of 0", ONE_INDEX),
+    Row("table of 16, no match", ONE_INDEX, table(16)),
+    Row("table of 16, the last matches", ONE_INDEX, table(16, 0x1A00)),
+    Row("table of 256, no match", ONE_INDEX, table(256)),
+    Row("table of 256, the last matches", ONE_INDEX, table(256, 0x1A00)),
+]
+REFUSED = [
+    Row("refused 2: 16 KiB and a byte more", coe(16 * KIB, MANY) + b"\0"),
+    Row("refused 4: 16 KiB, its last byte is missing", with_length(coe(16 * KIB, MANY)[:-1])),
+    Row("refused 7: 16 KiB, no FMMU of the usage", coe(16 * KIB, MANY, usages=(0, 0))),
+]
+ROWS = SMALL + BY_LENGTH + BY_PDOS + EEPROM + TABLES + REFUSED
