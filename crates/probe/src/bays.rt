@@ -3,6 +3,7 @@ use crate::say;
 use counting::Counted;
 use entries::Place;
 use pdi::PdiOffset;
+use pdi::PdiSegment;
 use pdi::Placed;
 use pdo::Oversampling;
 use pdo::PdoDirection;
@@ -292,4 +293,104 @@ pub fn plan(out: &mut [u8], sheet: &[u8]) -> usize {
         Written::Len(length) => length,
         Written::Refused(number) => say::refused(out, 0, number),
     }
+}
+
+// What a whole plan answers: both segments, or the refusal of the first pass refused.
+enum Planned {
+    Nothing,
+    Segments(PdiSegment, PdiSegment),
+    Refused(u8),
+}
+
+// The output pass, from where the input pass ended.
+fn outputs_of(
+    sheet: &[u8],
+    table: [Oversampling; 256],
+    records: usize,
+    fmmus: &mut [u8],
+    channels: &mut [u8],
+    inputs: PdiSegment,
+    offset: PdiOffset,
+) -> Planned {
+    let place = Place { offset, group: 0 };
+    let done = lent::plan(
+        sheet,
+        table,
+        records,
+        fmmus,
+        channels,
+        place,
+        PdoDirection::MasterWrite,
+    );
+    let answer = done.answer;
+    match answer {
+        Placed::Segment(outputs) => Planned::Segments(inputs, outputs),
+        Placed::Refused(number) => Planned::Refused(number),
+    }
+}
+
+// Mailbox, input and output pass over areas of zeros, from offset 0 in group 0.
+fn plan_once(sheet: &[u8], table: [Oversampling; 256], records: usize) -> Planned {
+    let mut fmmus = [0u8; 256];
+    let mut channels = [0u8; 128];
+    if let MailboxRead::Refused(number) = subdevice::configure_mailboxes(sheet, &mut channels) {
+        return Planned::Refused(number);
+    }
+    let place = Place {
+        offset: PdiOffset { start_address: 0 },
+        group: 0,
+    };
+    let done = lent::plan(
+        sheet,
+        table,
+        records,
+        &mut fmmus,
+        &mut channels,
+        place,
+        PdoDirection::MasterRead,
+    );
+    let next = done.next;
+    let answer = done.answer;
+    match answer {
+        Placed::Segment(inputs) => outputs_of(
+            sheet,
+            table,
+            records,
+            &mut fmmus,
+            &mut channels,
+            inputs,
+            next,
+        ),
+        Placed::Refused(number) => Planned::Refused(number),
+    }
+}
+
+fn planned(out: &mut [u8], plan: Planned) -> usize {
+    match plan {
+        Planned::Nothing => say::then_word(out, 0, b"none"),
+        Planned::Segments(inputs, outputs) => {
+            let one = say::then(out, 0, inputs.start as u64);
+            let two = say::then(out, one, inputs.end as u64);
+            let three = say::then(out, two, outputs.start as u64);
+            say::then(out, three, outputs.end as u64)
+        }
+        Planned::Refused(number) => say::refused(out, 0, number),
+    }
+}
+
+// The same plan over and over, for whoever counts its cost.
+pub fn again(
+    out: &mut [u8],
+    sheet: &[u8],
+    table: [Oversampling; 256],
+    records: usize,
+    times: u32,
+) -> usize {
+    let mut last = Planned::Nothing;
+    let mut left = times;
+    while 0 < left {
+        last = plan_once(sheet, table, records);
+        left -= 1;
+    }
+    planned(out, last)
 }

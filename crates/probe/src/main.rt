@@ -170,6 +170,7 @@ fn of_bays(
         b'A' => bays::sides(
             out, sheet, table, records, fmmus, head.a, direction, c,
         ),
+        b'B' => bays::again(out, sheet, table, records, head.a),
         _ => bays::plan(out, sheet),
     }
 }
@@ -190,6 +191,7 @@ fn kind_of(letter: u8) -> u8 {
         b'C' => 2,
         b'A' => 2,
         b'L' => 2,
+        b'B' => 2,
         _ => 0,
     }
 }
