@@ -365,7 +365,7 @@ fn plan_once(sheet: &[u8], table: [Oversampling; 256], records: usize) -> Planne
     }
 }
 
-fn planned(out: &mut [u8], plan: Planned) -> usize {
+fn put_plan(out: &mut [u8], plan: Planned) -> usize {
     match plan {
         Planned::Nothing => say::then_word(out, 0, b"none"),
         Planned::Segments(inputs, outputs) => {
@@ -392,5 +392,5 @@ pub fn again(
         last = plan_once(sheet, table, records);
         left -= 1;
     }
-    planned(out, last)
+    put_plan(out, last)
 }
