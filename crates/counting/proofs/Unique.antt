@@ -26,5 +26,9 @@ counted-determined Nowhere = refl
 counted-determined (In p) = λ i. In (record { «sync_manager» = p .«sync_manager»; byte = p .byte; device = reached-determined (p .device) i })
 counted-determined (Refused n) = refl
 
+-- so what says number and values of the answer leaves one
+pub counted-once : {x y : Counted} {b : Outcome (Option Spot)} → countedOf x ≡ b → countedOf y ≡ b → x ≡ y
+counted-once p q = same-by countedOf counted-back counted-determined p q
+
 pub count-pins : Pins count.Post (λ κs r s. r)
-count-pins κs a x y s t p q = same-by countedOf counted-back counted-determined p q
+count-pins κs a x y s t p q = counted-once p q

@@ -12,7 +12,7 @@ use base.Logic.{ent, sep, ex}
 use base.Fml.{Lft, GName, Fml, fdead, flent}
 use prog.Wp.{Heap}
 use ghost.Atoms.{Atoms, sem}
-use types.Kit.{Given, ‵, some, later, _⊛_, ⋆, _$_, _∵_, !, qed, by, move, drop, use1, use2, split, pick, fsplit, fjoin, feqI, rewrite, await, updating, now, show, done}
+use types.Kit.{Given, ‵, some, later, _⊛_, ⋆, _$_, _∵_, !, qed, by, drop, use1, use2, split, pick, fsplit, fjoin, feqI, rewrite, await, updating, now, show, done}
 use types.SemTy.{cells}
 use types.Share.{arr-parts}
 use types.Tokens.{lent-back}

@@ -1,6 +1,6 @@
 -- Each public function's contract leaves one answer, and one content of each offset and area lent to it.
 -- Assumes nothing.
-use mathlib.Core.Path.{refl}
+use mathlib.Core.Path.{_≡_, refl}
 use mathlib.Core.List.{List}
 use Prim.Native.Nat.{ℕ}
 use denote.Ref.{now}
@@ -12,8 +12,13 @@ use Rattle.pdo.specs.Bits.{multipliersOf}
 use Rattle.oversampling.proofs.Stated.{Saying, States}
 use Rattle.subdevice.specs.Pass.{Passes}
 use Rattle.subdevice.proofs.Unique.{passes-once}
+use Rattle.counting.specs.Count as meaning
+use Rattle.counting.specs.Count.{countedOf}
+use Rattle.counting.proofs.Unique.{counted-once}
 use Rattle.lent.proofs.data_pass.configure_fmmus as configure-fmmus
 use Rattle.lent.proofs.data_pass.plan.Reads as plan
+use Rattle.lent.proofs.counted.count as count
+use Rattle.lent.proofs.counted.locate.Reads as locate
 
 -- what a pass that is lent its offset leaves: the answer, the offset, both areas
 abbrev leaves : Placed → PdiOffset → List ℕ → List ℕ → Placed × PdiOffset × List ℕ × List ℕ
@@ -34,3 +39,15 @@ pub plan-pins : Pins plan.Post (λ κs r s. with-room (with-room r (now (s .1 .1
 plan-pins κs a x y s t p q =
     let e = passes-once _ _ _ _ _ _ _ (x .answer) (y .answer) (x .next) (y .next) _ _ _ _ p q in
     λ i. ((record { answer = e i .0; next = e i .1 }, e i .2), e i .3)
+
+abbrev CountsBy : Saying count.ended
+CountsBy κs a r s = countedOf r ≡ meaning.count (a .1 .1 .1 .0) (a .1 .1 .1 .1 .0) (now (a .0)) (multipliersOf (now (a .1 .0)) (sheetData (now (a .0)) .pdos)) (a .1 .1 .0 .«start_address»)
+
+pub count-states : States count.ended (λ M 𝓤 H. count.clauses 𝓤 H) CountsBy
+count-states M 𝓤 H A mem run κs a r s g = refl
+
+pub count-pins : Pins CountsBy (λ κs r s. r)
+count-pins κs a x y s t p q = counted-once p q
+
+pub locate-pins : Pins locate.Post (λ κs r s. r)
+locate-pins κs a x y s t p q = counted-once p q

@@ -3,7 +3,6 @@ mod bays;
 mod numbers;
 mod records;
 mod say;
-
 use libc::STDIN_FILENO;
 use libc::STDOUT_FILENO;
 use pdo::Oversampling;
