@@ -3,9 +3,10 @@ mod bays;
 mod numbers;
 mod records;
 mod say;
+
+use entries::Place;
 use libc::STDIN_FILENO;
 use libc::STDOUT_FILENO;
-use entries::Place;
 use pdi::PdiOffset;
 use pdo::Oversampling;
 
@@ -167,9 +168,7 @@ fn of_bays(
         ),
         b'T' => bays::translate(out, fmmus, direction, c),
         b'C' => bays::count(out, sheet, table, records, head.a, direction, c),
-        b'A' => bays::sides(
-            out, sheet, table, records, fmmus, head.a, direction, c,
-        ),
+        b'A' => bays::sides(out, sheet, table, records, fmmus, head.a, direction, c),
         b'B' => bays::again(out, sheet, table, records, head.a),
         _ => bays::plan(out, sheet),
     }
