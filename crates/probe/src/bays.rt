@@ -290,7 +290,12 @@ pub fn sides(
 // What lockerplan prints for the sheet, less the last line's end.
 pub fn plan(out: &mut [u8], sheet: &[u8]) -> usize {
     match report::report(sheet, out) {
-        Written::Len(length) => length,
+        Written::Len(length) => {
+            if length == 0 {
+                return 0;
+            }
+            length - 1
+        }
         Written::Refused(number) => say::refused(out, 0, number),
     }
 }
