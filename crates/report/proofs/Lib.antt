@@ -2,3 +2,4 @@
 pub mod Once
 pub mod Passes
 pub mod Fits
+pub mod Unique
