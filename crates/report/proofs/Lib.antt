@@ -2,4 +2,5 @@
 pub mod Once
 pub mod Passes
 pub mod Fits
+pub mod Printed
 pub mod Unique

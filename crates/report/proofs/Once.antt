@@ -14,7 +14,7 @@ use Rattle.sheet.specs.Sheet.{sheetData}
 use Rattle.sheet.specs.declared.SyncManager.{SyncManager}
 use Rattle.pdo.specs.declared.PdoDirection.{PdoDirection}
 use Rattle.pdo.specs.Direction.{usageOf}
-use Rattle.pdo.specs.Bits.{multiplierOf, multipliersOf, pathKind, bitsOf, Piece, piecesFrom, piecesOf}
+use Rattle.pdo.specs.Bits.{multiplierOf, multipliersOf, pathKind, bitsOf, piecesFrom, piecesOf}
 use Rattle.entries.specs.Use.{Use, usesOf, sizeOf}
 use Rattle.entries.specs.Entries.{Planned, plan}
 use Rattle.entries.specs.declared.Configured.{Configured}
