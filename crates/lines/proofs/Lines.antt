@@ -7,7 +7,6 @@ use Prim.Native.Nat.{ℕ, suc, _+_, _<_, _≤_}
 use native.Mathlib.Numerals.{add-one}
 use lib.ListN.{length, getD, drop, drop-of-length-le}
 use lib.Seq.{drop-cons}
-use Rattle.wire.specs.Outcome.{refused, accepted}
 use Rattle.wire.specs.Text.{Page, typedAll, Types}
 use Rattle.wire.proofs.Typing.{typed-append, types}
 use Rattle.sync_manager_channel.specs.declared.SyncManagerChannel.{SyncManagerChannel}

@@ -2,3 +2,5 @@
 pub mod Handed
 pub mod Passes
 pub mod Fits
+pub mod Printed
+pub mod Unique

@@ -1,14 +1,17 @@
 -- Mailbox, input and output pass over areas of zeros: offset and group 0, no oversampling; refused by the first pass that refuses.
 -- Assumes nothing.
-use mathlib.Core.List.{List, []}
+use mathlib.Core.List.{List, [], _∷_, _++_}
 use Prim.Native.Nat.{ℕ}
-use lib.ListN.{replicate}
+use lib.ListN.{take, replicate}
 use Rattle.wire.specs.Outcome.{Outcome, refused, accepted}
 use Rattle.pdi.specs.declared.PdiOffset.{PdiOffset}
 use Rattle.pdi.specs.declared.PdiSegment.{PdiSegment}
 use Rattle.pdi.specs.declared.Placed.{Placed}
 use Rattle.pdi.specs.declared.Placed.the-variants as placed
-use Rattle.sheet.specs.Device.{Data}
+use Rattle.pdi.specs.Segment.{segmentText}
+use Rattle.sync_manager_channel.specs.Image.{channelOf}
+use Rattle.sync_manager_channel.specs.Text.{channelText}
+use Rattle.area.specs.Area.{entriesOf}
 use Rattle.sheet.specs.Sheet.{sheetData, managerCount}
 use Rattle.pdo.specs.declared.PdoDirection.{PdoDirection}
 use Rattle.pdo.specs.declared.PdoDirection.the-variants.{MasterRead, MasterWrite}
@@ -18,7 +21,7 @@ use Rattle.entries.specs.declared.Configured.the-variants as configured
 use Rattle.entries.specs.Entries.{Planned}
 use Rattle.subdevice.specs.declared.MailboxConfig.{MailboxConfig}
 use Rattle.subdevice.specs.Mailbox.{mailboxPass, mailboxArea}
-use Rattle.lines.specs.Text.{refusedText, bayText}
+use Rattle.lines.specs.Text.{line, numbered, inputsFront, outputsFront, lines, enabledLine, refusedText, bayText}
 use Rattle.report.specs.declared.Plan.{Plan}
 use Rattle.report.specs.declared.Plan.the-variants.{Segments, Refused}
 use Rattle.subdevice.specs.Pass.{dataPass, entriesAfter, channelAreaAfter}
@@ -95,6 +98,17 @@ outcomeText n (accepted b) = bayText n (b .inputs) (b .outputs) (b .left .fmmus)
 
 unfoldable pub reportText : List ℕ → List ℕ
 reportText sheet = outcomeText (managerCount sheet) (planBay sheet zeros)
+
+-- the same without a proviso: every image has its line, and the areas are as long as they should be (proved in proofs/Printed.antt)
+abbrev pub channelLineOf : ℕ → List ℕ → List ℕ
+channelLineOf k e = line (numbered (83 ∷ 77 ∷ []) k) (channelText (channelOf e))
+
+unfoldable pub plainText : ℕ → Bay → List ℕ
+plainText n b =
+    line inputsFront (segmentText (b .inputs))
+    ++ line outputsFront (segmentText (b .outputs))
+    ++ lines channelLineOf 0 (take n (entriesOf 8 (b .left .channels)))
+    ++ lines enabledLine 0 (entriesOf 16 (b .left .fmmus))
 
 -- what the cases of `Plan` say, beside the areas that are left
 abbrev pub bayOf : Plan → Areas → Outcome Bay

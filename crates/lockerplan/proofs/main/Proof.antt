@@ -3,7 +3,7 @@
 use mathlib.Core.Path.{sym}
 use native.Mathlib.Omega.{arith}
 use lib.Seq.{length-take-le}
-use Rattle.report.proofs.Shown.{within}
+use Rattle.lines.proofs.Shown.{within}
 use borrow.Author.Needs.{needs}
 use Rattle.lockerplan.proofs.main.Statement.{statement}
 use Rattle.lockerplan.proofs.main.Tie as tie
