@@ -21,7 +21,7 @@ use Rattle.area.proofs.Flat.{length-chunks, rows-chunks, chunks-flat, flat-byte
 use Rattle.pdo.specs.declared.PdoDirection.{PdoDirection}
 use Rattle.channels.specs.Channels.{channelFor, written, channelsAfter}
 use Rattle.channels.proofs.After.{channels-kept}
-use Rattle.entries.specs.Use.{usesOf}
+use Rattle.uses.specs.Use.{usesOf}
 use Rattle.entries.specs.Entries.{Planned, plan}
 use Rattle.entries.proofs.Kept.{plan-length, rows-plan}
 use Rattle.subdevice.specs.declared.MailboxConfig.{MailboxConfig}
