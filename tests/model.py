@@ -111,6 +111,14 @@ def both_answer(q):
     return "same" if translated == counting else f"differ {translated} {counting}"
 
 
+def again_answer(q):
+    """The same plan over and over answers as one does."""
+    if q.a == 0:
+        return "none"
+    inputs, outputs, _, _ = planning.plan(q.sheet, q.table)
+    return listed([*inputs, *outputs])
+
+
 ANSWERS = {
     "r": lambda q: str(reg.round_up(q.wide(q.a))),
     "i": lambda q: str(reg.increment(q.a, q.c % 65_536)),
@@ -134,6 +142,7 @@ ANSWERS = {
     "C": count_answer,
     "A": both_answer,
     "L": lambda q: "\n".join(planning.lockerplan(q.sheet)),
+    "B": again_answer,
 }
 
 

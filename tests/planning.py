@@ -168,13 +168,13 @@ def count(write, offset, data, table, address):
 # ---- the program
 
 
-def plan(data):
+def plan(data, table=()):
     """Mailbox, input and output pass over zero areas: the two segments and both areas."""
     fmmus, channels = bytearray(256), bytearray(128)
     configure_mailboxes(data, channels)
-    start, end, offset = configure_fmmus(False, 0, 0, data, [], fmmus, channels)
+    start, end, offset = configure_fmmus(False, 0, 0, data, table, fmmus, channels)
     inputs = start, end
-    start, end, _ = configure_fmmus(True, offset, 0, data, [], fmmus, channels)
+    start, end, _ = configure_fmmus(True, offset, 0, data, table, fmmus, channels)
     return inputs, (start, end), fmmus, channels
 
 

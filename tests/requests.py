@@ -7,6 +7,7 @@
 """
 
 import sys
+from pathlib import Path
 
 import ask_passes
 import ask_registers
@@ -17,7 +18,7 @@ import model
 from bays import IN, OUT
 from build import SAMPLE, coe, on_coe
 from samples import samples
-from stream import Request
+from stream import Request, requests
 
 # inputs refused with 7, outputs with 6: the first pass refused is named
 SEVEN_THEN_SIX = on_coe(coe(3, IN, 1), *[coe(2, OUT + k, *[255] * 255) for k in range(2)], usages=(1,))
@@ -29,17 +30,27 @@ def programs():
     yield "lockerplan, no bytes", Request("L")
     yield "lockerplan, cut short", Request("L", sheet=SAMPLE[:-1])
     yield "lockerplan, inputs refused with 7 and outputs with 6", Request("L", sheet=SEVEN_THEN_SIX)
+    for times in (0, 1, 3):
+        yield f"the sample planned {times} times", Request("B", a=times, sheet=SAMPLE, table=[(0x1A00, 2)])
+    yield "planned over and over, and refused", Request("B", a=2, sheet=SEVEN_THEN_SIX)
+
+
+def crate():
+    """What the crate itself was asked: its answers stand in tests/oracle.answers."""
+    with open(Path(__file__).parent / "oracle.requests", "rb") as stored:
+        for k, request in enumerate(requests(stored)):
+            yield f"the crate, {k}", request
 
 
 def others():
-    for letter in "aBz\0\xff":
+    for letter in "aDz\0\xff":
         yield "no such letter", Request(letter)
     yield "one answer for several values", Request("d", c=7, times=3, sheet=SAMPLE)
 
 
 def ask():
     """Each request with its name, in the order of the stream."""
-    for part in (ask_registers.ask, ask_sheets.ask, ask_passes.ask, ask_sides.ask, lesson.ask, programs, others):
+    for part in (ask_registers.ask, ask_sheets.ask, ask_passes.ask, ask_sides.ask, lesson.ask, programs, crate, others):
         yield from part()
 
 

@@ -1,0 +1,39 @@
+#!/usr/bin/env python3
+"""Holds the stored answers of the crate itself (tests/oracle.answers, made by oracle/compare --store) to those of crates/probe/stdout,
+which the gate compares with what the probe writes.
+
+    python3 tests/oracle.py
+
+Two lines agree if they are equal, or if the crate fails and the probe refuses with 6 to 10.
+"""
+
+import re
+import sys
+from pathlib import Path
+
+import model
+from requests import ask
+
+HERE = Path(__file__).resolve().parent
+
+
+def main():
+    stdout = (HERE.parent / "crates/probe/stdout").read_text().splitlines()
+    crate = (HERE / "oracle.answers").read_text().splitlines()
+    line, met, failed = 0, 0, 0
+    for name, request in ask():
+        lines = "\n".join(model.answers(request)).count("\n") + 1
+        if name.startswith("the crate, "):
+            answer, stored = stdout[line], crate[met]
+            fails = stored == "fails"
+            if not (re.match(r"refused ([6-9]|10)( |$)", answer) if fails else answer == stored):
+                sys.exit(f"{name}: the crate answered {stored}, stdout has {answer}")
+            met, failed = met + 1, failed + fails
+        line += lines
+    if met != len(crate):
+        sys.exit(f"{met} requests, {len(crate)} answers")
+    print(f"{met} answers of the crate agree, {failed} of them failures that are refused")
+
+
+if __name__ == "__main__":
+    main()
