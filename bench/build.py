@@ -120,13 +120,30 @@ def rust_program(name, checks):
 
 
 def rattle_program():
-    """The program of crates/bench, proved; nothing where there is none."""
-    if not (ROOT / "crates" / "bench").is_dir():
-        return None
+    """The probe, proved."""
     if not shutil.which("rt"):
-        stop("there is no rt to build crates/bench with")
-    run("rt", "check", "bench", cwd=ROOT, stdout=sys.stderr)
-    return ROOT / "target" / "bin" / "bench"
+        stop("there is no rt to build crates/probe with")
+    run("rt", "check", "probe", cwd=ROOT, stdout=sys.stderr)
+    return ROOT / "target" / "bin" / "probe"
+
+
+def probed(data):
+    """The input of C and Rust as a request of the probe (docs/PROBE.md): the letter B plans so many times."""
+    records = int.from_bytes(data[4:6], "big")
+    table, sheet = data[6 : 6 + 3 * records], data[6 + 3 * records :]
+    # one byte past the longest sheet is refused as any longer one is
+    sheet = sheet[:16_387]
+    counts = len(sheet), records, 0, 0
+    head = b"B" + bytes(3) + data[0:4] + bytes(12) + b"".join(count.to_bytes(2, "big") for count in counts)
+    return head + sheet + table
+
+
+def probe_answer(text):
+    """What the probe answers where C says this: both segments, or the refusal."""
+    *_, last = lines = text.splitlines()
+    if last.startswith("refused"):
+        return " ".join(last.split()[:2]) + "\n"
+    return " ".join(" ".join(line.split()[1:3]) for line in lines[1:]) + "\n"
 
 
 def programs(rattle=None):
@@ -145,9 +162,9 @@ def programs(rattle=None):
 
 
 def same(right, text):
-    """Equal; or the crate fails, which has no number, in the pass that is refused."""
+    """Equal; or the crate fails, which has no number, in the pass that is refused; or the probe says the same in short."""
     failed = re.sub(r"refused (6|7|8|9|10) .*\n\Z", "fails\n", right)
-    return text in (right, failed)
+    return text in (right, failed, probe_answer(right))
 
 
 def compilers():
