@@ -2,12 +2,15 @@
 -- the other, and cutting up and joining undo each other. Over any length n.
 -- Assumes nothing.
 use mathlib.Core.Path.{_≡_, refl, sym, _∙_, ap, ap₂, subst}
-use mathlib.Core.List.{List, [], _∷_, _++_}
+use mathlib.Core.Bool.{Bool, true, false, cond}
+use mathlib.Core.List.{List, [], _∷_, _++_, append-assoc}
 use Prim.Native.Nat.{ℕ, zero, suc, _+_, _*_, _<_}
 use native.Mathlib.Nat.{zero-add, zero-mul, suc-mul, suc-add, add-comm, not-suc-le-zero, le-of-suc-le-suc}
 use native.Mathlib.Omega.{arith}
 use lib.ListN.{length, getD, set, take, drop, replicate, length-append, length-drop, length-replicate, List·getD-append, take-append-drop}
-use lib.Seq.{getD-append-add, set-append-left, take-at, drop-at, length-take-le}
+use lib.Seq.{take-append-add, drop-append-add, take-at, drop-at, length-take-le}
+use lib.Dec.{eqb}
+use borrow.Author.Tests.{eqb-true, eq-eqb}
 use mir.Syntax.{w8}
 use mir.Val.{Val}
 use denote.Shadow.{shadow}
@@ -51,26 +54,23 @@ length-flat n (x ∷ xs) h =
 pub flat-bytes : (n m : ℕ) (xs : List (List ℕ)) → (length xs ≡ m) × Rows n xs → length (flat xs) ≡ m * n
 flat-bytes n m xs g = length-flat n xs (g .1) ∙ ap (λ (k : ℕ). k * n) (g .0)
 
--- the place of byte r of entry q + 1, past the first entry
-past : (n q r : ℕ) (x : List ℕ) → length x ≡ n → suc q * n + r ≡ length x + (q * n + r)
-past n q r x e = rw (e, suc-mul) (omega arith)
+-- a row replaced, where all are one after the other
+past : (n k : ℕ) (x : List ℕ) → length x ≡ n → suc k * n ≡ length x + k * n
+past n k x e = rw (e, suc-mul) (omega arith)
 
-pub getD-flat : (n : ℕ) (xs : List (List ℕ)) → Rows n xs → (q r : ℕ) → r < n → getD (flat xs) (q * n + r) 0 ≡ getD (getD xs q []) r 0
+pub flat-set : (n : ℕ) (xs : List (List ℕ)) → Rows n xs → (k : ℕ) (e : List ℕ) → k < length xs → flat (set xs k e) ≡ take (k * n) (flat xs) ++ (e ++ drop (k * n + n) (flat xs))
 unfolding flat
-getD-flat n [] h q r l = refl
-getD-flat n (x ∷ xs) h zero r l = rw (zero-mul, zero-add) (List·getD-append x (flat xs) 0 r (subst (λ (m : ℕ). r < m) (sym (h .0)) l))
-getD-flat n (x ∷ xs) h (suc q) r l = rw (past n q r x (h .0)) (getD-append-add x (flat xs) (q * n + r) 0 ∙ getD-flat n xs (h .1) q r l)
-
-set-append-add : (xs ys : List ℕ) (i v : ℕ) → set (xs ++ ys) (length xs + i) v ≡ xs ++ set ys i v
-set-append-add [] ys i v = rw zero-add refl
-set-append-add (x ∷ xs) ys i v = rw suc-add (ap (λ (t : List ℕ). x ∷ t) (set-append-add xs ys i v))
-
-pub set-flat : (n : ℕ) (xs : List (List ℕ)) → Rows n xs → (q r v : ℕ) → r < n → flat (set xs q (set (getD xs q []) r v)) ≡ set (flat xs) (q * n + r) v
-unfolding flat
-set-flat n [] h q r v l = refl
-set-flat n (x ∷ xs) h zero r v l = rw (zero-mul, zero-add) (sym (set-append-left x (flat xs) r v (subst (λ (m : ℕ). r < m) (sym (h .0)) l)))
-set-flat n (x ∷ xs) h (suc q) r v l =
-    rw (past n q r x (h .0)) (ap (λ (t : List ℕ). x ++ t) (set-flat n xs (h .1) q r v l) ∙ sym (set-append-add x (flat xs) (q * n + r) v))
+flat-set n [] h k e l = absurd (not-suc-le-zero l)
+flat-set n (x ∷ xs) h zero e l = rw (zero-mul, zero-add) (ap (λ (t : List ℕ). e ++ t) (sym (drop-at x (flat xs) n (h .0))))
+flat-set n (x ∷ xs) h (suc k) e l =
+    let f = flat xs in
+    let p = past n k x (h .0) in
+    let q : length x + (k * n + n) ≡ suc k * n + n = omega arith in
+    ap (λ (t : List ℕ). x ++ t) (flat-set n xs (h .1) k e (le-of-suc-le-suc l))
+    ∙ sym (append-assoc x (take (k * n) f) (e ++ drop (k * n + n) f))
+    ∙ ap₂ (λ (a b : List ℕ). a ++ (e ++ b))
+    (sym (take-append-add x f (k * n)) ∙ ap (λ (i : ℕ). take i (x ++ f)) (sym p))
+    (sym (drop-append-add x f (k * n + n)) ∙ ap (λ (i : ℕ). drop i (x ++ f)) q)
 
 -- cutting what was joined
 pub chunks-flat : (n : ℕ) (xs : List (List ℕ)) → Rows n xs → chunks n (length xs) (flat xs) ≡ xs
@@ -94,11 +94,15 @@ length-chunks n (suc m) l = ap suc (length-chunks n m (drop n l))
 
 -- an area of the full length is itself
 pub padded-same : (n : ℕ) (l : List ℕ) → length l ≡ n → padded n l ≡ l
-padded-same n l e = take-at l (replicate n 0) n e
+padded-same n l e = rw (eq-eqb (length l) n e) refl
 
 -- however long the area is
 pub length-padded : (n : ℕ) (l : List ℕ) → length (padded n l) ≡ n
-length-padded n l = length-take-le n (l ++ replicate n 0) (rw (length-append, length-replicate) (omega arith))
+length-padded n l = go (eqb (length l) n) refl
+  where
+    go : (b : Bool) → eqb (length l) n ≡ b → length (cond b l (replicate n 0)) ≡ n
+    go true e = eqb-true (length l) n e
+    go false e = length-replicate n 0
 
 -- what was cut are m entries of n bytes
 pub rows-chunks : (n m : ℕ) (l : List ℕ) → length l ≡ m * n → Rows n (chunks n m l)

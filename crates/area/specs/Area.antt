@@ -1,22 +1,30 @@
 -- A register area: sixteen entries of n bytes, one after the other.
 -- Assumes nothing.
-use mathlib.Core.Bool.{Bool, not}
+use mathlib.Core.Bool.{Bool, not, cond}
 use mathlib.Core.List.{List, [], _∷_, _++_}
-use Prim.Native.Nat.{ℕ, zero, suc}
-use lib.ListN.{length, take, drop, replicate}
-use lib.Dec.{eqb}
+use Prim.Native.Nat.{ℕ, zero, suc, _+_, _*_}
+use lib.ListN.{length, getD, take, drop, replicate}
+use lib.Dec.{eqb, leb}
 
 -- m entries of n bytes from the front
 unfoldable pub chunks : ℕ → ℕ → List ℕ → List (List ℕ)
 chunks n zero l = []
 chunks n (suc m) l = take n l ∷ chunks n m (drop n l)
 
--- an area of n bytes is itself; a shorter one counts as filled up with 0, of a longer one the front counts
+-- an area of n bytes is itself; one of another length counts as n times 0
 abbrev pub padded : ℕ → List ℕ → List ℕ
-padded n l = take n (l ++ replicate n 0)
+padded n l = cond (eqb (length l) n) l (replicate n 0)
 
 abbrev pub entriesOf : ℕ → List ℕ → List (List ℕ)
 entriesOf n area = chunks n 16 area
+
+-- the entry with a number; past the last it is 0
+abbrev pub entryAt : ℕ → List ℕ → ℕ → List ℕ
+entryAt n area k = getD (entriesOf n (padded (16 * n) area)) k (replicate n 0)
+
+-- bytes stored in an area from a place on; where they have no room there, it stays
+abbrev pub storedAt : ℕ → List ℕ → List ℕ → List ℕ
+storedAt at e area = cond (leb (at + length e) (length area)) (take at area ++ (e ++ drop (at + length e) area)) area
 
 -- and back
 unfoldable pub flat : List (List ℕ) → List ℕ

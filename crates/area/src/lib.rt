@@ -1,56 +1,47 @@
-// A register area, sixteen entries one after the other, taken into an array of entries and written back.
+// A register area, sixteen entries one after the other: an entry read out, and bytes stored in place.
 ghost use mathlib.Core.Path.{_≡_};
-ghost use Rattle.wire.specs.Room.{over};
-ghost use Rattle.area.specs.Area.{padded, entriesOf, flat};
+ghost use Rattle.area.specs.Area.{entryAt, storedAt};
 
-// The sixteen FMMU entries of an area.
-pub fn load16(area: &[u8]) -> [[u8; 16]; 16]
-    ensures { λ r. ⌜ r ≡ entriesOf 16 (padded 256 (now (area .entry))) ⌝ }
+// The FMMU entry with a number; 0 where the area isn't 256 bytes, or the number is past the last.
+pub fn fmmu_at(area: &[u8], k: usize) -> [u8; 16]
+    ensures { λ r. ⌜ r ≡ entryAt 16 (now (area .entry)) k ⌝ }
 {
-    let mut out = [[0u8; 16]; 16];
-    let n = wire::least(area.len(), 256);
-    let mut i = 0;
-    while i < n {
-        out[i / 16][i % 16] = area[i];
-        i += 1;
+    let mut out = [0u8; 16];
+    if area.len() != 256 {
+        return out;
     }
+    if 15 < k {
+        return out;
+    }
+    wire::copy(&area[16 * k..16 * k + 16], &mut out);
     out
 }
 
-// The sixteen sync manager entries of an area.
-pub fn load8(area: &[u8]) -> [[u8; 8]; 16]
-    ensures { λ r. ⌜ r ≡ entriesOf 8 (padded 128 (now (area .entry))) ⌝ }
+// The sync manager's entry with a number; 0 where the area isn't 128 bytes, or the number is past the last.
+pub fn channel_at(area: &[u8], k: usize) -> [u8; 8]
+    ensures { λ r. ⌜ r ≡ entryAt 8 (now (area .entry)) k ⌝ }
 {
-    let mut out = [[0u8; 8]; 16];
-    let n = wire::least(area.len(), 128);
-    let mut i = 0;
-    while i < n {
-        out[i / 8][i % 8] = area[i];
-        i += 1;
+    let mut out = [0u8; 8];
+    if area.len() != 128 {
+        return out;
     }
+    if 15 < k {
+        return out;
+    }
+    wire::copy(&area[8 * k..8 * k + 8], &mut out);
     out
 }
 
-// Writes FMMU entries over an area, as far as both go.
-pub fn store16(entries: [[u8; 16]; 16], area: &mut [u8])
-    ensures { λ r. ⌜ now (area .exit) ≡ over (flat entries) (now (area .entry)) ⌝ }
+// Stores an entry from a place on; where it has no room there, the area stays.
+pub fn store(entry: &[u8], area: &mut [u8], at: usize)
+    ensures { λ r. ⌜ now (area .exit) ≡ storedAt at (now (entry .entry)) (now (area .entry)) ⌝ }
 {
-    let n = wire::least(area.len(), 256);
-    let mut i = 0;
-    while i < n {
-        area[i] = entries[i / 16][i % 16];
-        i += 1;
+    if area.len() < at {
+        return;
     }
-}
-
-// Writes sync manager entries over an area, as far as both go.
-pub fn store8(entries: [[u8; 8]; 16], area: &mut [u8])
-    ensures { λ r. ⌜ now (area .exit) ≡ over (flat entries) (now (area .entry)) ⌝ }
-{
-    let n = wire::least(area.len(), 128);
-    let mut i = 0;
-    while i < n {
-        area[i] = entries[i / 8][i % 8];
-        i += 1;
+    if area.len() - at < entry.len() {
+        return;
     }
+    let end = at + entry.len();
+    wire::copy(entry, &mut area[at..end]);
 }

@@ -4,58 +4,74 @@ use mathlib.Core.Path.{_≡_, refl, sym, _∙_, ap, subst}
 use mathlib.Core.Bool.{Bool, true, false, cond}
 use mathlib.Core.List.{List, [], _∷_}
 use mathlib.Core.Option.{Option, none, some}
-use Prim.Native.Nat.{ℕ, suc, _+_, _<_, _≤_, min}
+use Prim.Native.Nat.{ℕ, suc, _+_, _*_, _<_, _≤_, min}
 use native.Mathlib.Nat.{zero-add, add-zero, zero-lt-suc}
 use native.Mathlib.Numerals.{add-one}
 use native.Mathlib.Omega.{arith}
-use lib.ListN.{length, getD, take, drop, set, length-set, length-take, drop-of-length-le}
-use lib.Seq.{drop-cons, getD-take, set-getD}
+use lib.ListN.{length, getD, set, take, drop, length-set, length-take, drop-of-length-le}
+use lib.Seq.{drop-cons, getD-take}
+use borrow.Author.Tests.{eq-eqb, ne-eqb}
 use Rattle.sheet.specs.declared.SyncManager.{SyncManager}
 use Rattle.sync_manager_channel.specs.Image.{imageOf}
 use Rattle.sync_manager_channel.proofs.RoundTrip.{image-length}
-use Rattle.area.specs.Area.{padded, entriesOf, flat}
-use Rattle.area.proofs.Flat.{Rows, rows-set, flat-bytes, length-chunks, rows-chunks, length-padded, padded-same}
-use Rattle.wire.specs.Room.{over}
-use Rattle.wire.proofs.Copied.{over-same}
+use Rattle.area.specs.Area.{entriesOf, storedAt, flat}
+use Rattle.area.proofs.Entry.{length-stored, stored-entry}
+use Rattle.area.proofs.Flat.{Rows, rows-set, flat-chunks}
 use Rattle.channels.specs.declared.Wish.{Wish}
-use Rattle.channels.specs.Channels.{channelFor, written, channelsAfter, noWish, wishOf, wished, imageFor, channelArea}
+use Rattle.channels.specs.Channels.{channelFor, written, channelsAfter, noWish, wishOf, wished, channelArea}
 
--- an entry's new image stored is the entry written
-image-written : (k : ℕ) (m : SyncManager) (w : Wish) (area : List (List ℕ)) → set area k (imageFor (getD area k []) m w) ≡ written k m (wishOf w) area
-image-written k m w area = go (w .on)
-  where
-    new : List ℕ
-    new = imageOf (channelFor m (w .size .0))
+-- a sync manager's image stored at its place, and one that isn't wished
+module _ (k : ℕ) (m : SyncManager) (w : Wish) (area : List ℕ) (long : length area ≡ 128) where
+  abbrev Writes : List ℕ → Type 0
+  Writes after = (length after ≡ 128) × (entriesOf 8 after ≡ written k m (wishOf w) (entriesOf 8 area))
 
-    go : (on : Bool) → set area k (cond on new (getD area k [])) ≡ written k m (cond on (some (w .size .0)) none) area
-    go true = refl
-    go false = set-getD area k []
+  pub channel-stored : (at : ℕ) (image after : List ℕ) → k < 16 → at ≡ k * 8 → w .on ≡ true → image ≡ imageOf (channelFor m (w .size .0)) → after ≡ storedAt at image area → Writes after
+  channel-stored at image after h q on is e =
+      let size = ap length is ∙ image-length (channelFor m (w .size .0)) in (
+        ap length e ∙ length-stored at image area ∙ long,
+        ap (entriesOf 8) e
+            ∙ stored-entry 8 16 area image k at long size h q (omega arith)
+            ∙ ap (set (entriesOf 8 area) k) is
+            ∙ ap (λ (b : Bool). written k m (cond b (some (w .size .0)) none) (entriesOf 8 area)) (sym on),
+      )
 
--- the loop over the first n sync managers: a turn, and what stands in the end in the room that the images were taken from
-module _ (ws : List Wish) (managers : List SyncManager) (n k : ℕ) (area : List (List ℕ)) where
+  pub channel-left : w .on ≡ false → Writes area
+  channel-left off = (long, ap (λ (b : Bool). written k m (cond b (some (w .size .0)) none) (entriesOf 8 area)) (sym off))
+
+-- the loop over the first n sync managers: a turn, and what stands in the end in the area of 128 bytes
+module _ (ws : List Wish) (managers : List SyncManager) (n k : ℕ) (entries : List (List ℕ)) where
   pub after-turn :
-      (d : SyncManager) (image : List ℕ) → k < n → k < length managers → image ≡ imageFor (getD area k []) (getD managers k d) (getD ws k noWish)
-      → channelsAfter (wished ws) (k + 1) (drop (k + 1) (take n managers)) (set area k image) ≡ channelsAfter (wished ws) k (drop k (take n managers)) area
+      (d : SyncManager) (next : List (List ℕ)) → k < n → k < length managers → next ≡ written k (getD managers k d) (wishOf (getD ws k noWish)) entries
+      → channelsAfter (wished ws) (k + 1) (drop (k + 1) (take n managers)) next ≡ channelsAfter (wished ws) k (drop k (take n managers)) entries
   unfolding channelsAfter
-  after-turn d image hn hk g =
+  after-turn d next hn hk g =
       let m = getD managers k d in
       let ms = take n managers in
       let h : k < length ms = rw length-take (omega arith) in
-      let a : set area k image ≡ written k m (wished ws k m) area = ap (set area k) g ∙ image-written k m (getD ws k noWish) area in
       let e : m ∷ drop (suc k) ms ≡ drop k ms = ap (λ (x : SyncManager). x ∷ drop (suc k) ms) (sym (getD-take n managers k d hn)) ∙ sym (drop-cons ms k d h) in
-      rw add-one (ap (channelsAfter (wished ws) (suc k) (drop (suc k) ms)) a ∙ ap (λ (l : List SyncManager). channelsAfter (wished ws) k l area) e)
+      rw add-one (ap (channelsAfter (wished ws) (suc k) (drop (suc k) ms)) g ∙ ap (λ (l : List SyncManager). channelsAfter (wished ws) k l entries) e)
 
-  after-end : min n (length managers) ≤ k → channelsAfter (wished ws) k (drop k (take n managers)) area ≡ area
+  after-end : min n (length managers) ≤ k → channelsAfter (wished ws) k (drop k (take n managers)) entries ≡ entries
   unfolding channelsAfter
   after-end h = let e : length (take n managers) ≤ k = rw length-take h in rw (drop-of-length-le (take n managers) e) refl
 
-  pub after-all :
-      (area₀ : List (List ℕ)) (room : List ℕ) → min n (length managers) ≤ k → area₀ ≡ entriesOf 8 (padded 128 room)
-      → channelsAfter (wished ws) k (drop k (take n managers)) area ≡ channelsAfter (wished ws) 0 (take n managers) area₀
-      → over (flat area) room ≡ channelArea (take n managers) ws room
-  unfolding channelArea
-  after-all area₀ room h e inv =
-      ap (λ (l : List (List ℕ)). over (flat l) room) (sym (after-end h) ∙ inv ∙ ap (channelsAfter (wished ws) 0 (take n managers)) e)
+-- an area of 128 bytes is all entries; any other stays
+pub channel-area-whole : (ms : List SyncManager) (ws : List Wish) (area : List ℕ) → length area ≡ 128 → channelArea ms ws area ≡ flat (channelsAfter (wished ws) 0 ms (entriesOf 8 area))
+unfolding channelArea
+channel-area-whole ms ws area h = rw (eq-eqb (length area) 128 h) refl
+
+pub channel-area-other : (ms : List SyncManager) (ws : List Wish) (area : List ℕ) → (length area ≡ 128 → ⊥) → area ≡ channelArea ms ws area
+unfolding channelArea
+channel-area-other ms ws area h = rw (ne-eqb (length area) 128 h) refl
+
+pub after-all :
+    (ws : List Wish) (managers : List SyncManager) (n k : ℕ) (room area : List ℕ) → min n (length managers) ≤ k → length room ≡ 128 → length area ≡ 128
+    → channelsAfter (wished ws) k (drop k (take n managers)) (entriesOf 8 area) ≡ channelsAfter (wished ws) 0 (take n managers) (entriesOf 8 room)
+    → area ≡ channelArea (take n managers) ws room
+after-all ws managers n k room area h whole long inv =
+    sym (flat-chunks 8 16 area long)
+    ∙ ap flat (sym (after-end ws managers n k (entriesOf 8 area) h) ∙ inv)
+    ∙ sym (channel-area-whole (take n managers) ws room whole)
 
 -- two ways to say who gets which size, which agree at each sync manager there is
 next : (k i : ℕ) → k + suc i ≡ suc k + i
@@ -84,18 +100,3 @@ module _ (f : ℕ → SyncManager → Option ℕ) where
   unfolding channelsAfter
   channels-kept k [] n area h = h
   channels-kept k (m ∷ ms) n area h = channels-kept (suc k) ms n (written k m (f k m) area) (written-kept k m (f k m) n area h)
-
-  -- of an area: sixteen entries of eight bytes, 128 bytes in all
-  pub channels-rows : (k : ℕ) (ms : List SyncManager) (area : List ℕ) → (length (channelsAfter f k ms (entriesOf 8 (padded 128 area))) ≡ 16) × Rows 8 (channelsAfter f k ms (entriesOf 8 (padded 128 area)))
-  channels-rows k ms area =
-      channels-kept k ms 16 (entriesOf 8 (padded 128 area)) (length-chunks 8 16 (padded 128 area), rows-chunks 8 16 (padded 128 area) (length-padded 128 area))
-
-  pub channels-bytes : (k : ℕ) (ms : List SyncManager) (area : List ℕ) → length (flat (channelsAfter f k ms (entriesOf 8 (padded 128 area)))) ≡ 128
-  channels-bytes k ms area = flat-bytes 8 16 (channelsAfter f k ms (entriesOf 8 (padded 128 area))) (channels-rows k ms area)
-
--- an area of 128 bytes is all entries
-pub channel-area-whole : (ms : List SyncManager) (ws : List Wish) (area : List ℕ) → length area ≡ 128 → channelArea ms ws area ≡ flat (channelsAfter (wished ws) 0 ms (entriesOf 8 area))
-unfolding channelArea
-channel-area-whole ms ws area h =
-    over-same (flat (channelsAfter (wished ws) 0 ms (entriesOf 8 (padded 128 area)))) area (channels-bytes (wished ws) 0 ms area ∙ sym h)
-    ∙ ap (λ (l : List ℕ). flat (channelsAfter (wished ws) 0 ms (entriesOf 8 l))) (padded-same 128 area h)

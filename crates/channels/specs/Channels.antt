@@ -10,8 +10,7 @@ use Rattle.sync_manager_channel.specs.declared.SyncManagerChannel.{SyncManagerC
 use Rattle.sync_manager_channel.specs.declared.Enable.{Enable}
 use Rattle.sync_manager_channel.specs.Image.{imageOf, statusAt}
 use Rattle.sheet.specs.declared.SyncManager.{SyncManager}
-use Rattle.wire.specs.Room.{over}
-use Rattle.area.specs.Area.{padded, entriesOf, flat}
+use Rattle.area.specs.Area.{entriesOf, flat, notChannels}
 use Rattle.channels.specs.declared.Wish.{Wish}
 
 abbrev pub enabled : Bool → Enable
@@ -55,10 +54,6 @@ wishOf w = cond (w .on) (some (w .size .0)) none
 abbrev pub wished : List Wish → ℕ → SyncManager → Option ℕ
 wished ws k m = wishOf (getD ws k noWish)
 
--- what one entry becomes
-abbrev pub imageFor : List ℕ → SyncManager → Wish → List ℕ
-imageFor before m w = cond (w .on) (imageOf (channelFor m (w .size .0))) before
-
--- the area after the wishes are written
+-- the area after the wishes are written; one that isn't 128 bytes stays
 unfoldable pub channelArea : List SyncManager → List Wish → List ℕ → List ℕ
-channelArea ms ws area = over (flat (channelsAfter (wished ws) 0 ms (entriesOf 8 (padded 128 area)))) area
+channelArea ms ws area = cond (notChannels area) area (flat (channelsAfter (wished ws) 0 ms (entriesOf 8 area)))

@@ -1,8 +1,9 @@
 // The images of the sync managers: `write_sm_config` of configuration.rs, over a whole area.
 ghost use mathlib.Core.Path.{_≡_};
-ghost use lib.ListN.{take};
-ghost use Rattle.sync_manager_channel.specs.Image.{imageOf};
-ghost use Rattle.channels.specs.Channels.{channelFor, channelArea, imageFor};
+ghost use Prim.Native.Nat.{_<_};
+ghost use lib.ListN.{length, take};
+ghost use Rattle.area.specs.Area.{entriesOf};
+ghost use Rattle.channels.specs.Channels.{channelFor, written, wishOf, channelArea};
 use pdi::ByteLen;
 use sheet::SyncManager;
 use sync_manager_channel::BufferState;
@@ -44,27 +45,29 @@ pub fn sm_config(manager: SyncManager, size: ByteLen) -> SyncManagerChannel
     }
 }
 
-// An entry after a wish: written, or as it was.
-fn image_for(before: [u8; 8], manager: SyncManager, wish: Wish) -> [u8; 8]
-    ensures { λ r. ⌜ r ≡ imageFor before manager wish ⌝ }
+// Writes a sync manager's image into its entry, if that is wished.
+fn write_channel(area: &mut [u8], k: usize, manager: SyncManager, wish: Wish)
+    requires { ⌜ (length (now area) ≡ 128) × (k < 16) ⌝ }
+    ensures { λ _. ⌜ (length (now (area .exit)) ≡ 128) × (entriesOf 8 (now (area .exit)) ≡ written k manager (wishOf wish) (entriesOf 8 (now (area .entry)))) ⌝ }
 {
     if wish.on {
         let size = wish.size;
-        return sm_config(manager, size).pack();
+        let image = sm_config(manager, size).pack();
+        area::store(&image, area, 8 * k);
     }
-    before
 }
 
 // Writes the wished sync managers' images into a lent area, in rising number; all other bytes stay.
 pub fn write_channels(area: &mut [u8], managers: [SyncManager; 16], n: usize, wishes: [Wish; 16])
     ensures { λ r. ⌜ now (area .exit) ≡ channelArea (take n managers) wishes (now (area .entry)) ⌝ }
 {
-    let mut images = area::load8(area);
+    if area.len() != 128 {
+        return;
+    }
     let count = wire::least(n, 16);
     let mut k = 0;
     while k < count {
-        images[k] = image_for(images[k], managers[k], wishes[k]);
+        write_channel(area, k, managers[k], wishes[k]);
         k += 1;
     }
-    area::store8(images, area);
 }

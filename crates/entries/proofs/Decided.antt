@@ -1,26 +1,25 @@
 -- The refusals that look at the entries and the offset, decided one after the other; and what is written where none holds.
 -- Assumes nothing.
 use mathlib.Core.Path.{_≡_, refl, sym, _∙_, ap, ap₂}
-use mathlib.Core.Bool.{Bool, true, false, cond, _||_}
+use mathlib.Core.Bool.{Bool, true, false, cond, not, _||_}
 use mathlib.Core.List.{List, [], _∷_}
 use Prim.Native.Nat.{ℕ, _+_, _-_, _≤_}
 use native.Mathlib.Omega.{arith}
+use lib.ListN.{length}
 use lib.Dec.{ltb}
-use borrow.Author.Tests.{ltb-false, le-ltb}
+use borrow.Author.Tests.{ltb-false, le-ltb, eq-eqb, ne-eqb}
 use Rattle.wire.specs.Outcome.{Outcome, refused, accepted, Refusal, when, first, decide}
-use Rattle.wire.specs.Room.{over}
 use Rattle.wire.proofs.Order.{passed, passed-answer, stopped}
 use Rattle.pdi.specs.Offset.{pastEnd, incremented}
 use Rattle.pdi.specs.Segment.{segment, belowGroup, lessGroup}
 use Rattle.pdi.specs.declared.PdiSegment.{PdiSegment}
-use Rattle.pdi.specs.declared.Moved.{Moved}
 use Rattle.area.specs.Area.{padded, entriesOf, flat}
+use Rattle.area.proofs.Flat.{flat-chunks, padded-same}
 use Rattle.pdo.specs.declared.PdoDirection.{PdoDirection}
 use Rattle.entries.specs.declared.Configured.the-variants.{Mapped, Refused}
 use Rattle.uses.specs.Use.{Use, total}
 use Rattle.uses.specs.Length.{tooLong}
-use Rattle.entries.specs.Entries.{plan, Lays, Planned, planned, entriesOutcome, entryArea, WritesEntries}
-use Rattle.entries.proofs.Laying.{stepped}
+use Rattle.entries.specs.Entries.{plan, Planned, planned, entriesOutcome, entryArea, WritesEntries}
 
 -- the offset alone decides whether a segment that starts there is below the group start
 pub start-decides : (offset next group : ℕ) → offset ≤ next → belowGroup (segment offset next) group ≡ ltb offset group
@@ -30,15 +29,15 @@ start-decides offset next group h = go (ltb offset group) refl
     go true e = refl
     go false e = let g = ltb-false offset group e in le-ltb next group (omega arith)
 
--- the uses and entries that code holds, and whether one would be too long
-pub record Looked (us : List Use) (area : List ℕ) (uses : List Use) (entries : List (List ℕ)) (long : Bool) : Type 0 where
+-- an area of 256 bytes, the uses that code holds, and whether one would be too long
+pub record Looked (us : List Use) (area : List ℕ) (uses : List Use) (long : Bool) : Type 0 where
+  pub whole : length area ≡ 256
   pub same : uses ≡ us
-  pub from : entries ≡ entriesOf 16 (padded 256 area)
-  pub is : tooLong uses entries ≡ long
+  pub is : tooLong uses (entriesOf 16 (padded 256 area)) ≡ long
 
 module _ (us : List Use) (area : List ℕ) (r : PdoDirection) (offset group : ℕ) where
   abbrev outcome : Outcome Planned
-  outcome = entriesOutcome us offset group (entriesOf 16 (padded 256 area))
+  outcome = entriesOutcome us offset group area
 
   abbrev nine : List Refusal
   nine = when 9 (pastEnd (offset + total us)) ∷ []
@@ -49,17 +48,25 @@ module _ (us : List Use) (area : List ℕ) (r : PdoDirection) (offset group : �
   abbrev last : Outcome Planned
   last = decide ten (planned offset group (total us))
 
-  decided : {uses : List Use} {entries : List (List ℕ)} {b : Bool} → Looked us area uses entries b → outcome ≡ cond b (refused 8) (first nine last)
-  decided k = ap (λ (b : Bool). cond b (refused 8) (first nine last)) (sym (ap₂ tooLong (k .same) (k .from)) ∙ k .is)
+  decided : {uses : List Use} {b : Bool} → Looked us area uses b → outcome ≡ cond b (refused 8) (first nine last)
+  decided k =
+      let one = ap not (eq-eqb (length area) 256 (k .whole)) in
+      let eight = sym (ap₂ (λ (u : List Use) (l : List ℕ). tooLong u (entriesOf 16 l)) (k .same) (padded-same 256 area (k .whole))) ∙ k .is in
+      ap₂ (λ (a b : Bool). cond a (refused 1) (cond b (refused 8) (first nine last))) one eight
 
   refuses : (n : ℕ) → outcome ≡ refused n → WritesEntries us r offset group area (Refused n) area
   refuses n e = record { says = sym e; holds = ap (λ (o : Outcome Planned). entryArea o r offset us area) (sym e) }
 
+  -- 1
+  pub wrong-area-refused : (length area ≡ 256 → ⊥) → WritesEntries us r offset group area (Refused 1) area
+  wrong-area-refused h =
+      refuses 1 (ap (λ (a : Bool). cond (not a) (refused 1) (cond (tooLong us (entriesOf 16 area)) (refused 8) (first nine last))) (ne-eqb (length area) 256 h))
+
   -- 8
-  pub too-long-refused : {uses : List Use} {entries : List (List ℕ)} → Looked us area uses entries true → WritesEntries us r offset group area (Refused 8) area
+  pub too-long-refused : {uses : List Use} → Looked us area uses true → WritesEntries us r offset group area (Refused 8) area
   too-long-refused k = refuses 8 (decided k)
 
-  module _ {uses : List Use} {entries : List (List ℕ)} (k : Looked us area uses entries false) where
+  module _ {uses : List Use} (k : Looked us area uses false) where
     moves : {o : Outcome ℕ} → o ≡ incremented offset (total uses) → o ≡ incremented offset (total us)
     moves e = e ∙ ap (λ (x : List Use). incremented offset (total x)) (k .same)
 
@@ -85,16 +92,17 @@ module _ (us : List Use) (area : List ℕ) (r : PdoDirection) (offset group : �
 
       -- none
       pub entries-written :
-          {answer : Moved} (s : PdiSegment) (after : List ℕ) (laid : List (List ℕ)) → accepted s ≡ lessGroup (segment offset next) group → Lays uses r offset entries answer laid
-          → after ≡ over (flat laid) area → WritesEntries us r offset group area (Mapped s (record { «start_address» = next })) after
-      entries-written s after laid e l a =
+          (s : PdiSegment) (after : List ℕ) → accepted s ≡ lessGroup (segment offset next) group → length after ≡ 256 → entriesOf 16 after ≡ plan r offset uses (entriesOf 16 area)
+          → WritesEntries us r offset group area (Mapped s (record { «start_address» = next })) after
+      entries-written s after e long laid =
           let size = total us in
           let p : s ≡ segment (offset - group) (offset + size - group) =
           passed-answer ten (segment (offset - group) (next - group)) s (left e) ∙ ap (λ (x : ℕ). segment (offset - group) (x - group)) there in
           let o : outcome ≡ accepted (planned offset group size) = reached ∙ passed ten (segment (offset - group) (next - group)) s (accepted (planned offset group size)) (left e) in
-          let b = stepped offset (total uses) next moved in
-          let f = l .holds (le-ltb 4294967295 (offset + total uses) (omega arith)) ∙ ap₂ (plan r offset) (k .same) (k .from) in
           record {
             says = (λ i. accepted (record { segment = p i; next = there i })) ∙ sym o;
-            holds = a ∙ ap (λ (x : List (List ℕ)). over (flat x) area) f ∙ ap (λ (x : Outcome Planned). entryArea x r offset us area) (sym o);
+            holds =
+                sym (flat-chunks 16 16 after long)
+                ∙ ap flat (laid ∙ ap (λ (u : List Use). plan r offset u (entriesOf 16 area)) (k .same))
+                ∙ ap (λ (x : Outcome Planned). entryArea x r offset us area) (sym o);
           }

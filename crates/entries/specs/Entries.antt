@@ -7,12 +7,10 @@ use Prim.Native.Nat.{ℕ, _+_, _-_}
 use lib.ListN.{getD, set}
 use lib.Dec.{ltb}
 use Rattle.wire.specs.Outcome.{Outcome, refused, accepted, Refusal, when, decide}
-use Rattle.wire.specs.Room.{over}
-use Rattle.pdi.specs.Offset.{pastEnd, incremented, movedOf}
-use Rattle.pdi.specs.declared.Moved.{Moved}
+use Rattle.pdi.specs.Offset.{pastEnd}
 use Rattle.pdi.specs.Segment.{segment}
 use Rattle.pdi.specs.declared.PdiSegment.{PdiSegment}
-use Rattle.area.specs.Area.{padded, entriesOf, flat}
+use Rattle.area.specs.Area.{entriesOf, flat, notEntries}
 use Rattle.fmmu.specs.declared.Fmmu.{Fmmu}
 use Rattle.fmmu.specs.Image.{fieldsOf, imageOf}
 use Rattle.pdo.specs.declared.PdoDirection.{PdoDirection}
@@ -67,11 +65,6 @@ plan r offset [] area = area
 plan r offset (u ∷ us) area =
     plan r (offset + u .size) us (withUse r offset u area)
 
--- the promise of laying uses that are not too long: the next offset and the entries, or 9
-pub record Lays (us : List Use) (r : PdoDirection) (offset : ℕ) (entries : List (List ℕ)) (answer : Moved) (after : List (List ℕ)) : Type 0 where
-  pub says : movedOf answer ≡ incremented offset (total us)
-  pub holds : pastEnd (offset + total us) ≡ false → after ≡ plan r offset us entries
-
 -- an accepted pass: the segment, start to end less the group start, and the next offset
 pub record Planned : Type 0 where
   pub segment : PdiSegment
@@ -90,15 +83,17 @@ abbrev pub entryRefusals : List Use → ℕ → ℕ → ℕ → List (List ℕ) 
 entryRefusals us size offset group entries =
     when 8 (tooLong us entries) ∷ when 9 (pastEnd (offset + size)) ∷ when 10 (ltb offset group) ∷ []
 
-abbrev pub entriesOutcome : List Use → ℕ → ℕ → List (List ℕ) → Outcome Planned
-entriesOutcome us offset group entries = decide (entryRefusals us (total us) offset group entries) (planned offset group (total us))
+-- 1 comes before them
+abbrev pub entriesOutcome : List Use → ℕ → ℕ → List ℕ → Outcome Planned
+entriesOutcome us offset group area =
+    decide (when 1 (notEntries area) ∷ entryRefusals us (total us) offset group (entriesOf 16 area)) (planned offset group (total us))
 
 -- what the area then holds: a refusal writes nothing
 abbrev pub entryArea : Outcome Planned → PdoDirection → ℕ → List Use → List ℕ → List ℕ
 entryArea (refused n) r offset us area = area
-entryArea (accepted p) r offset us area = over (flat (plan r offset us (entriesOf 16 (padded 256 area)))) area
+entryArea (accepted p) r offset us area = flat (plan r offset us (entriesOf 16 area))
 
 -- the promise of writing the entries
 pub record WritesEntries (us : List Use) (r : PdoDirection) (offset group : ℕ) (area : List ℕ) (answer : Configured) (after : List ℕ) : Type 0 where
-  pub says : configuredOf answer ≡ entriesOutcome us offset group (entriesOf 16 (padded 256 area))
-  pub holds : after ≡ entryArea (entriesOutcome us offset group (entriesOf 16 (padded 256 area))) r offset us area
+  pub says : configuredOf answer ≡ entriesOutcome us offset group area
+  pub holds : after ≡ entryArea (entriesOutcome us offset group area) r offset us area

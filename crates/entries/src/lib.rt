@@ -5,9 +5,11 @@ ghost use mathlib.Core.Bool.{false};
 ghost use mathlib.Core.List.{[]};
 ghost use Prim.Native.Nat.{_+_, _<_, _≤_};
 ghost use Rattle.pdo.specs.Direction.{isRead};
-ghost use Rattle.uses.specs.Use.{usesFrom, useFrom, mappedUses};
+ghost use Rattle.pdi.specs.Offset.{incremented, movedOf};
+ghost use Rattle.area.specs.Area.{entriesOf};
+ghost use Rattle.uses.specs.Use.{usesFrom, useFrom, mappedUses, total};
 ghost use Rattle.uses.specs.Length.{lengthOf, lengthNow, tooLong};
-ghost use Rattle.entries.specs.Entries.{laid, withUse, Lays, WritesEntries};
+ghost use Rattle.entries.specs.Entries.{laid, withUse, plan, WritesEntries};
 use channels::Wish;
 use fmmu::Fmmu;
 use pdi::ByteLen;
@@ -45,22 +47,42 @@ pub fn write_entries(
 ) -> Configured
     ensures { λ r. ⌜ WritesEntries (usesFrom route wishes 0 (take n managers)) direction (place .offset .«start_address») (place .group) (now (area .entry)) r (now (area .exit)) ⌝ }
 {
-    let mut entries = area::load16(area);
+    if area.len() != 256 {
+        return Configured::Refused(1);
+    }
     let mappings = uses::mappings_of(managers, n, wishes, route);
-    if uses::too_long(&entries, mappings) {
+    if uses::too_long(area, mappings) {
         return Configured::Refused(8);
     }
     let offset = place.offset;
-    match lay(&mut entries, mappings, offset, direction) {
+    match end_of(mappings, offset) {
         Moved::To(next) => match offset.up_to(next).less(place.group) {
             Placed::Segment(segment) => {
-                area::store16(entries, area);
+                lay(area, mappings, offset, direction);
                 Configured::Mapped(segment, next)
             }
             Placed::Refused(number) => Configured::Refused(number),
         },
         Moved::Refused(number) => Configured::Refused(number),
     }
+}
+
+// Where they end, laid one after another from the offset on; or 9.
+fn end_of(mappings: Mappings, offset: PdiOffset) -> Moved
+    requires { ⌜ (mappings .count ≤ 16) × (length (mappings .list) ≡ 16) ⌝ }
+    ensures { λ r. ⌜ movedOf r ≡ incremented (offset .«start_address») (total (mappedUses mappings)) ⌝ }
+{
+    let mut next = offset;
+    let mut j = 0;
+    while j < mappings.count {
+        let m = mappings.list[j];
+        match next.increment(m.size) {
+            Moved::To(o) => next = o,
+            Moved::Refused(number) => return Moved::Refused(number),
+        }
+        j += 1;
+    }
+    Moved::To(next)
 }
 
 // Whether the direction is the reading one.
@@ -99,44 +121,33 @@ fn laid_entry(before: Fmmu, mapping: Mapping, offset: PdiOffset, direction: PdoD
 }
 
 // Lays one sync manager into its entry; a number past the last one is no entry.
-fn lay_one(
-    entries: &mut [[u8; 16]; 16],
-    mapping: Mapping,
-    offset: PdiOffset,
-    direction: PdoDirection,
-)
-    requires { ⌜ (length (now entries) ≡ 16) × (mapping .entry < 16 → lengthNow (getD (now entries) (mapping .entry) []) + mapping .size .0 ≤ 65535) ⌝ }
-    ensures { λ _. ⌜ now (entries .exit) ≡ withUse direction (offset .«start_address») (useFrom mapping) (now (entries .entry)) ⌝ }
+fn lay_one(area: &mut [u8], mapping: Mapping, offset: PdiOffset, direction: PdoDirection)
+    requires { ⌜ (length (now area) ≡ 256) × (mapping .entry < 16 → lengthNow (getD (entriesOf 16 (now area)) (mapping .entry) []) + mapping .size .0 ≤ 65535) ⌝ }
+    ensures { λ _. ⌜ (length (now (area .exit)) ≡ 256) × (entriesOf 16 (now (area .exit)) ≡ withUse direction (offset .«start_address») (useFrom mapping) (entriesOf 16 (now (area .entry)))) ⌝ }
 {
     let e = mapping.entry;
     if e < 16 {
-        let image = entries[e];
+        let image = area::fmmu_at(area, e);
         let before = Fmmu::unpack(image);
-        let after = laid_entry(before, mapping, offset, direction);
-        entries[e] = after.pack();
+        let after = laid_entry(before, mapping, offset, direction).pack();
+        area::store(&after, area, 16 * e);
     }
 }
 
 // Lays the sync managers one after another into the entries, from the offset on.
-fn lay(
-    entries: &mut [[u8; 16]; 16],
-    mappings: Mappings,
-    offset: PdiOffset,
-    direction: PdoDirection,
-) -> Moved
-    requires { ⌜ (mappings .count ≤ 16) × (length (mappings .list) ≡ 16) × (length (now entries) ≡ 16) × (tooLong (mappedUses mappings) (now entries) ≡ false) ⌝ }
-    ensures { λ r. ⌜ Lays (mappedUses mappings) direction (offset .«start_address») (now (entries .entry)) r (now (entries .exit)) ⌝ }
+fn lay(area: &mut [u8], mappings: Mappings, offset: PdiOffset, direction: PdoDirection)
+    requires { ⌜ (mappings .count ≤ 16) × (length (mappings .list) ≡ 16) × (length (now area) ≡ 256) × (tooLong (mappedUses mappings) (entriesOf 16 (now area)) ≡ false) × (offset .«start_address» + total (mappedUses mappings) ≤ 4294967295) ⌝ }
+    ensures { λ _. ⌜ (length (now (area .exit)) ≡ 256) × (entriesOf 16 (now (area .exit)) ≡ plan direction (offset .«start_address») (mappedUses mappings) (entriesOf 16 (now (area .entry)))) ⌝ }
 {
-    let mut next = offset;
+    let mut next = offset.start_address;
     let mut j = 0;
     while j < mappings.count {
         let m = mappings.list[j];
-        lay_one(entries, m, next, direction);
-        match next.increment(m.size) {
-            Moved::To(o) => next = o,
-            Moved::Refused(number) => return Moved::Refused(number),
-        }
+        let here = PdiOffset {
+            start_address: next,
+        };
+        lay_one(area, m, here, direction);
+        next = next + (m.size.0 as u32);
         j += 1;
     }
-    Moved::To(next)
 }

@@ -1,81 +1,91 @@
 -- `entries::lay`: each turn lays one use and moves the offset on.
 -- Assumes nothing.
-use mathlib.Core.Path.{sym, _∙_, ap}
+use mathlib.Core.Path.{_≡_, refl}
 use Prim.Native.Nat.{_-_, _≤_}
 use native.Mathlib.Omega.{arith}
 use denote.Ref.{now}
-use lib.ListN.{drop}
-use borrow.Author.Needs.{needs}
-use Rattle.pdi.specs.Offset.{movedOf}
+use lib.ListN.{length, drop}
+use Rattle.area.specs.Area.{entriesOf}
+use Rattle.area.proofs.Flat.{length-chunks}
 use Rattle.uses.specs.Use.{mappedUses}
 use Rattle.uses.proofs.Held.{uses-next, uses-end}
-use Rattle.entries.proofs.Laying.{Laying, laying-starts, laying-fits, laying-turns, laying-halts, laying-ends}
+use Rattle.entries.proofs.Laying.{Laying, laying-starts, laying-fits, laying-reaches, laying-turns, laying-ends}
 use Rattle.entries.proofs.lay.Statement.{statement}
 use Rattle.entries.proofs.lay.Tie as tie
+use Rattle.entries.proofs.lay.Reads as reads
+use Rattle.entries.proofs.lay.Lts as lts
+use Rattle.entries.proofs.lay_one.Reads as lay-one-reads
 
 abbrev Inv-loop : tie.InvT-loop
-Inv-loop entries₀ direction mappings next₀ j₀ entries next j =
+Inv-loop area₀ direction mappings next₀ j₀ area next j =
     (j ≤ mappings .count)
-    × Laying (mappedUses mappings) direction (next₀ .«start_address») entries₀ (drop j (mappedUses mappings)) (next .«start_address») entries
+    × (length area ≡ 256)
+    × Laying (mappedUses mappings) direction next₀ (entriesOf 16 area₀) (drop j (mappedUses mappings)) next (entriesOf 16 area)
 
 abbrev μ-loop : tie.MeasureT-loop
-μ-loop entries₀ direction mappings next₀ j₀ entries next j = mappings .count - j
+μ-loop area₀ direction mappings next₀ j₀ area next j = mappings .count - j
 
+-- src/lib.rt:144:5
 loop-holds : tie.Need-loop-holds Inv-loop μ-loop
 loop-holds c =
-    let a = c .args in
-    (omega arith, laying-starts (mappedUses (a .t2)) (a .direction) (a .offset .«start_address») (now (a .entries)) (c .pre .2) (omega arith) (c .pre .3))
+    let s = c .before in
+    let a = s .args in
+    (omega arith, s .pre .2, laying-starts (mappedUses (a .t2)) (a .direction) (a .offset .«start_address») (entriesOf 16 (now (a .area))) (s .pre .3))
 
+-- src/lib.rt:145:17
 mul-m : tie.Need-mul-m Inv-loop μ-loop
 mul-m c = omega arith
 
+-- src/lib.rt:145:17
 element-copy-out-m : tie.Need-element-copy-out-m Inv-loop μ-loop
 element-copy-out-m c = omega arith
 
+-- src/lib.rt:149:9
 lay-one-requires : tie.Need-lay-one-requires Inv-loop μ-loop
 lay-one-requires c κs =
-    let a = c .before .before .before .before .args in
     let l = c .before .before .before .loop in
-    let p = c .before .before .before .before .pre in
-    (l .inv .1 .many, λ h. laying-fits (l .inv .1) (uses-next (a .t2) (l .j) (p .1) (omega arith)) h)
+    let s = c .before .before .before .before .before in
+    (l .inv .1, λ h. laying-fits (l .inv .2) (uses-next (s .args .t2) (l .j) (s .pre .1) (omega arith)) h)
 
-increment-requires : tie.Need-increment-requires Inv-loop μ-loop
-increment-requires c κs = tt
+-- src/lib.rt:150:24
+cast-next : tie.Need-cast-next Inv-loop μ-loop
+cast-next c = omega arith
 
-enum-known-o : tie.Need-enum-known-o Inv-loop μ-loop
-enum-known-o c = search needs
+-- src/lib.rt:150:16
+add-next : tie.Need-add-next Inv-loop μ-loop
+add-next c =
+    let l = c .before .before .before .before .before .before .before .loop in
+    let s = c .before .before .before .before .before .before .before .before .before in
+    let h = laying-reaches (l .inv .2) (uses-next (s .args .t2) (l .j) (s .pre .1) (omega arith)) (s .pre .4) in
+    omega arith
 
-enum-known-number : tie.Need-enum-known-number Inv-loop μ-loop
-enum-known-number c = search needs
-
-returns : tie.Need-returns Inv-loop μ-loop
-returns c =
-    let a = c .before .before .before .before .before .before .before .before .before .args in
-    let l = c .before .before .before .before .before .before .before .before .loop in
-    let p = c .before .before .before .before .before .before .before .before .before .pre in
-    laying-halts (c .before .before .before .before .lay-one .last .0) (l .inv .1) (uses-next (a .t2) (l .j) (p .1) (omega arith))
-    (sym (ap movedOf (c .before .number .given .1)) ∙ c .before .before .before .increment .ensures)
-
+-- src/lib.rt:151:9
 add-j : tie.Need-add-j Inv-loop μ-loop
 add-j c = omega arith
 
+-- src/lib.rt:144:5
 loop-less : tie.Need-loop-less Inv-loop μ-loop
 loop-less c = omega arith
 
+-- src/lib.rt:144:5
 loop-again : tie.Need-loop-again Inv-loop μ-loop
 loop-again c =
-    let a = c .before .before .before .before .before .before .before .before .before .args in
-    let l = c .before .before .before .before .before .before .before .before .loop in
-    let p = c .before .before .before .before .before .before .before .before .before .pre in
-    let e = sym (ap movedOf (c .before .o .given .1)) ∙ c .before .before .before .increment .ensures in
-    (omega arith, laying-turns (l .inv .1) (uses-next (a .t2) (l .j) (p .1) (omega arith)) (c .before .before .before .before .lay-one .ensures) e)
+    let l = c .before .before .before .before .before .before .before .loop in
+    let s = c .before .before .before .before .before .before .before .before .before in
+    let one = c .before .before .before .lay-one .ensures in
+    let many = length-chunks 16 16 (l .area) in
+    (omega arith, one .0, laying-turns (l .inv .2) (uses-next (s .args .t2) (l .j) (s .pre .1) (omega arith)) many (one .1) refl)
 
-returns-2 : tie.Need-returns-2 Inv-loop μ-loop
-returns-2 c =
-    let a = c .before .before .args in
+-- src/lib.rt:138:1
+same-length : tie.Need-same-length Inv-loop μ-loop
+same-length c = omega arith
+
+-- src/lib.rt:138:1
+returns : tie.Need-returns Inv-loop μ-loop
+returns c =
     let l = c .before .loop in
-    let p = c .before .before .pre in
-    laying-ends (l .next .«start_address») (l .inv .1) (uses-end (a .t2) (l .j) (p .1) (omega arith))
+    let s = c .before .before .before in
+    (l .inv .1, laying-ends (l .inv .2) (uses-end (s .args .t2) (l .j) (s .pre .1) (omega arith)))
 
 pub lay-spec : {M : Type 1} → statement M
 lay-spec =
@@ -87,11 +97,10 @@ lay-spec =
     mul-m
     element-copy-out-m
     lay-one-requires
-    increment-requires
-    enum-known-o
-    enum-known-number
-    returns
+    cast-next
+    add-next
     add-j
     loop-less
     loop-again
-    returns-2)
+    same-length
+    returns)
