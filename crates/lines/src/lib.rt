@@ -77,12 +77,12 @@ fn put_entry(room: &mut [u8], from: usize, k: u16, image: [u8; 16]) -> usize
 fn put_channels(room: &mut [u8], from: usize, channels: &[u8], n: u8) -> usize
     ensures { λ r. ⌜ Types (page (now (room .entry)) from) (page (now (room .exit)) r) (lines imageLine 0 (take n (entriesOf 8 (padded 128 (now (channels .entry)))))) ⌝ }
 {
-    let images = area::load8(channels);
     let count = wire::least(n as usize, 16);
     let mut at = from;
     let mut k = 0;
     while k < count {
-        at = put_channel(room, at, k as u16, images[k]);
+        let image = area::channel_at(channels, k);
+        at = put_channel(room, at, k as u16, image);
         k += 1;
     }
     at
@@ -92,11 +92,11 @@ fn put_channels(room: &mut [u8], from: usize, channels: &[u8], n: u8) -> usize
 fn put_entries(room: &mut [u8], from: usize, fmmus: &[u8]) -> usize
     ensures { λ r. ⌜ Types (page (now (room .entry)) from) (page (now (room .exit)) r) (lines enabledLine 0 (entriesOf 16 (padded 256 (now (fmmus .entry))))) ⌝ }
 {
-    let images = area::load16(fmmus);
     let mut at = from;
     let mut k = 0;
     while k < 16 {
-        at = put_entry(room, at, k as u16, images[k]);
+        let image = area::fmmu_at(fmmus, k);
+        at = put_entry(room, at, k as u16, image);
         k += 1;
     }
     at

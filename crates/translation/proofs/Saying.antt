@@ -1,11 +1,12 @@
 -- What one entry says, and the first of several.
 -- Assumes nothing.
-use mathlib.Core.Path.{_≡_, refl, sym, _∙_, ap}
+use mathlib.Core.Path.{_≡_, refl, sym, _∙_, ap, ap₂}
 use mathlib.Core.Bool.{Bool, true, false, not, _&&_}
 use mathlib.Core.List.{List, [], _∷_, map}
 use mathlib.Core.Option.{Option, none, some}
 use Prim.Native.Nat.{ℕ, _+_, _-_, _≤_, _<_}
 use native.Mathlib.Numerals.{add-one}
+use native.Mathlib.Omega.{arith}
 use lib.ListN.{length, getD, drop, drop-of-length-le}
 use lib.Seq.{drop-cons}
 use borrow.Author.Tests.{eq-eqb, ne-eqb}
@@ -15,8 +16,9 @@ use Rattle.fmmu.specs.Image.{fieldsOf}
 use Rattle.pdo.specs.declared.PdoDirection.{PdoDirection}
 use Rattle.pdo.specs.declared.PdoDirection.the-variants.{MasterRead, MasterWrite}
 use Rattle.pdo.specs.Bits.{someOf}
-use Rattle.area.specs.Area.{entriesOf, padded}
-use Rattle.area.proofs.Flat.{padded-same}
+use Rattle.area.specs.Area.{entriesOf, padded, entryAt}
+use Rattle.area.proofs.Flat.{length-chunks, padded-same}
+use Rattle.area.proofs.Entry.{entry-any}
 use Rattle.translation.specs.Translate.{named, within, carries, wholeBytes, odd, says, firstSaid, orNone, translate}
 
 -- a disabled entry carries nothing
@@ -58,12 +60,17 @@ module _ (r : PdoDirection) (e : List ℕ) (f : Fmmu) (is : f ≡ fieldsOf e) wh
       let g : carries r (fieldsOf e) && within (fieldsOf e .«logical_start_address») (fieldsOf e .«length_bytes» .0) a ≡ true = rw (sym is) h in
       rw g (rw (sym is))
 
--- the next of several, and none left
-pub next : (l : List (List ℕ)) (k : ℕ) → k < length l → drop k l ≡ getD l k [] ∷ drop (k + 1) l
-next l k h = drop-cons l k [] h ∙ ap (λ (j : ℕ). getD l k [] ∷ drop j l) (sym (add-one k))
+-- the entries that are looked at: the next one, as it was read, and none left
+abbrev pub entries : List ℕ → List (List ℕ)
+entries area = entriesOf 16 (padded 256 area)
 
-pub none-left : (l : List (List ℕ)) (k : ℕ) → length l ≤ k → drop k l ≡ []
-none-left l k h = drop-of-length-le l h
+pub next : (area : List ℕ) (k : ℕ) (image : List ℕ) → k < 16 → image ≡ entryAt 16 area k → drop k (entries area) ≡ image ∷ drop (k + 1) (entries area)
+next area k image h e =
+    drop-cons (entries area) k [] (let many = length-chunks 16 16 (padded 256 area) in omega arith)
+    ∙ ap₂ (λ (x : List ℕ) (j : ℕ). x ∷ drop j (entries area)) (sym (e ∙ entry-any 16 area k [] h)) (sym (add-one k))
+
+pub none-left : (area : List ℕ) (k : ℕ) → 16 ≤ k → drop k (entries area) ≡ []
+none-left area k h = drop-of-length-le (entries area) {i = k} (let many = length-chunks 16 16 (padded 256 area) in omega arith)
 
 -- the first of several: one more that says something, and one that doesn't
 module _ (f : List ℕ → Option (Option ℕ)) (x : List ℕ) (xs l : List (List ℕ)) (e : l ≡ x ∷ xs) where
@@ -79,21 +86,21 @@ pub said-nowhere : (f : List ℕ → Option (Option ℕ)) (l : List (List ℕ)) 
 unfolding firstSaid
 said-nowhere f l e = rw e
 
--- the whole call, from the area's length and the entries that were loaded
+-- the whole call
 module _ (r : PdoDirection) (area : List ℕ) (a : ℕ) where
   pub one : (length area ≡ 256 → ⊥) → refused 1 ≡ translate r area a
   unfolding translate
   one h = rw (ne-eqb (length area) 256 h)
 
-  module _ (long : length area ≡ 256) (es : List (List ℕ)) (is : es ≡ entriesOf 16 (padded 256 area)) where
-    whole : es ≡ entriesOf 16 area
-    whole = is ∙ ap (entriesOf 16) (padded-same 256 area long)
+  module _ (long : length area ≡ 256) where
+    whole : entries area ≡ entriesOf 16 area
+    whole = ap (entriesOf 16) (padded-same 256 area long)
 
-    pub eleven : someOf (odd r) es ≡ true → refused 11 ≡ translate r area a
+    pub eleven : someOf (odd r) (entries area) ≡ true → refused 11 ≡ translate r area a
     unfolding translate
     eleven h = let t : someOf (odd r) (entriesOf 16 area) ≡ true = ap (someOf (odd r)) (sym whole) ∙ h in rw (eq-eqb (length area) 256 long, t)
 
-    pub answers : (x : Option ℕ) → someOf (odd r) es ≡ false → x ≡ orNone (firstSaid (map (says r a) es)) → accepted x ≡ translate r area a
+    pub answers : (x : Option ℕ) → someOf (odd r) (entries area) ≡ false → x ≡ orNone (firstSaid (map (says r a) (entries area))) → accepted x ≡ translate r area a
     unfolding translate
     answers x h e =
         let t : someOf (odd r) (entriesOf 16 area) ≡ false = ap (someOf (odd r)) (sym whole) ∙ h in

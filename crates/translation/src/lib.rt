@@ -1,7 +1,7 @@
 // Translation through the FMMU bytes: from a logical address to a device address. Added by design; the crate has none.
 ghost use mathlib.Core.Path.{_≡_};
 ghost use mathlib.Core.List.{map};
-ghost use lib.ListN.{length};
+ghost use Rattle.area.specs.Area.{padded, entriesOf};
 ghost use Rattle.pdo.specs.Bits.{someOf};
 ghost use Rattle.translation.specs.Translate as meaning;
 ghost use Rattle.translation.specs.Translate.{reachedOf, saidOf, translatedOf, firstSaid, orNone};
@@ -79,13 +79,12 @@ fn odd(direction: PdoDirection, image: [u8; 16]) -> bool
 }
 
 // Whether one of the entries is such.
-fn some_odd(entries: &[[u8; 16]; 16], direction: PdoDirection) -> bool
-    requires { ⌜ length (now entries) ≡ 16 ⌝ }
-    ensures { λ r. ⌜ r ≡ someOf (meaning.odd direction) (now (entries .entry)) ⌝ }
+fn some_odd(fmmus: &[u8], direction: PdoDirection) -> bool
+    ensures { λ r. ⌜ r ≡ someOf (meaning.odd direction) (entriesOf 16 (padded 256 (now (fmmus .entry)))) ⌝ }
 {
     let mut k = 0;
     while k < 16 {
-        if odd(direction, entries[k]) {
+        if odd(direction, area::fmmu_at(fmmus, k)) {
             return true;
         }
         k += 1;
@@ -110,13 +109,12 @@ fn says(direction: PdoDirection, address: u32, image: [u8; 16]) -> Said
 }
 
 // What the first entry that holds the address says.
-fn first_said(entries: &[[u8; 16]; 16], direction: PdoDirection, address: u32) -> Reached
-    requires { ⌜ length (now entries) ≡ 16 ⌝ }
-    ensures { λ r. ⌜ reachedOf r ≡ orNone (firstSaid (map (meaning.says direction address) (now (entries .entry)))) ⌝ }
+fn first_said(fmmus: &[u8], direction: PdoDirection, address: u32) -> Reached
+    ensures { λ r. ⌜ reachedOf r ≡ orNone (firstSaid (map (meaning.says direction address) (entriesOf 16 (padded 256 (now (fmmus .entry)))))) ⌝ }
 {
     let mut k = 0;
     while k < 16 {
-        if let Said::That(reached) = says(direction, address, entries[k]) {
+        if let Said::That(reached) = says(direction, address, area::fmmu_at(fmmus, k)) {
             return reached;
         }
         k += 1;
@@ -131,9 +129,8 @@ pub fn translate(fmmus: &[u8], direction: PdoDirection, address: u32) -> Transla
     if fmmus.len() != 256 {
         return Translated::Refused(1);
     }
-    let entries = area::load16(fmmus);
-    if some_odd(&entries, direction) {
+    if some_odd(fmmus, direction) {
         return Translated::Refused(11);
     }
-    Translated::To(first_said(&entries, direction, address))
+    Translated::To(first_said(fmmus, direction, address))
 }

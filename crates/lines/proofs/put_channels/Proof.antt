@@ -9,44 +9,39 @@ use denote.Ref.{now}
 use lib.ListN.{length, getD, take, drop, length-take}
 use lib.Seq.{getD-take}
 use Rattle.wire.specs.Text.{page, typedAll}
-use Rattle.area.specs.Area.{padded}
+use Rattle.area.specs.Area.{padded, entriesOf}
 use Rattle.area.proofs.Flat.{length-chunks}
+use Rattle.area.proofs.Entry.{entry-any}
 use Rattle.lines.specs.Text.{lines, imageLine}
 use Rattle.lines.proofs.Lines.{lines-turn, lines-end}
 use Rattle.lines.proofs.put_channels.Statement.{statement}
 use Rattle.lines.proofs.put_channels.Tie as tie
 
 abbrev Inv-loop : tie.InvT-loop
-Inv-loop room₀ from channels n images count at₀ k₀ room at k =
-    (k ≤ count) × (count ≤ n) × (count ≤ 16) × (count ≡ length (take n images)) × (length room ≡ length room₀)
-    × (typedAll (page room at) (lines imageLine k (drop k (take n images))) ≡ typedAll (page room₀ from) (lines imageLine 0 (take n images)))
+Inv-loop room₀ from channels n count at₀ k₀ room at k =
+    (k ≤ count) × (count ≤ n) × (count ≤ 16) × (count ≡ length (take n (entriesOf 8 (padded 128 channels)))) × (length room ≡ length room₀)
+    × (typedAll (page room at) (lines imageLine k (drop k (take n (entriesOf 8 (padded 128 channels))))) ≡ typedAll (page room₀ from) (lines imageLine 0 (take n (entriesOf 8 (padded 128 channels)))))
 
 abbrev μ-loop : tie.MeasureT-loop
-μ-loop room₀ from channels n images count at₀ k₀ room at k = count - k
-
-load8-requires : tie.Need-load8-requires Inv-loop μ-loop
-load8-requires c κs = tt
+μ-loop room₀ from channels n count at₀ k₀ room at k = count - k
 
 least-requires : tie.Need-least-requires Inv-loop μ-loop
 least-requires c κs = tt
 
 loop-holds : tie.Need-loop-holds Inv-loop μ-loop
 loop-holds c =
-    let a = c .before .before .before .before .args in
-    let sixteen : length (c .before .load8 .result) ≡ 16 = ap length (c .before .load8 .ensures) ∙ length-chunks 8 16 (padded 128 (now (a .channels))) in
-    let all = c .least .ensures ∙ sym (length-take (a .n) (c .before .load8 .result) ∙ ap (min (a .n)) sixteen) in
+    let a = c .before .before .before .args in
+    let images = entriesOf 8 (padded 128 (now (a .channels))) in
+    let all = c .least .ensures ∙ sym (length-take (a .n) images ∙ ap (min (a .n)) (length-chunks 8 16 (padded 128 (now (a .channels))))) in
     let few = min-le-left (a .n) 16 in
     let most = min-le-right (a .n) 16 in
     (omega arith, omega arith, omega arith, all, refl, refl)
 
+channel-at-requires : tie.Need-channel-at-requires Inv-loop μ-loop
+channel-at-requires c κs = tt
+
 cast-put-channel : tie.Need-cast-put-channel Inv-loop μ-loop
 cast-put-channel c = omega arith
-
-mul-put-channel : tie.Need-mul-put-channel Inv-loop μ-loop
-mul-put-channel c = omega arith
-
-array-copy-out-put-channel : tie.Need-array-copy-out-put-channel Inv-loop μ-loop
-array-copy-out-put-channel c = omega arith
 
 put-channel-requires : tie.Need-put-channel-requires Inv-loop μ-loop
 put-channel-requires c κs = tt
@@ -61,15 +56,17 @@ loop-again : tie.Need-loop-again Inv-loop μ-loop
 loop-again c =
     let l = c .before .before .before .before .before .before .loop in
     let put = c .before .before .put-channel in
-    let a = c .before .before .before .before .before .before .before .before .before .before .before .args in
-    let images = c .before .before .before .before .before .before .before .before .load8 .result in
-    let here : l .k < a .n = omega arith in (
+    let a = c .before .before .before .before .before .before .before .before .before .before .args in
+    let images = entriesOf 8 (padded 128 (now (a .channels))) in
+    let read = c .before .before .before .before .channel-at in
+    let here : l .k < a .n = omega arith in
+    let is = getD-take (a .n) images (l .k) [] here ∙ sym (read .ensures ∙ entry-any 8 (now (a .channels)) (l .k) [] (omega arith)) in (
       omega arith,
       l .inv .1,
       l .inv .2,
       l .inv .3,
       put .kept .0 ∙ l .inv .4,
-      lines-turn imageLine (take (a .n) images) (l .k) (getD images (l .k) []) (omega arith) (getD-take (a .n) images (l .k) [] here) (put .ensures) ∙ l .inv .5,
+      lines-turn imageLine (take (a .n) images) (l .k) (read .result) (omega arith) is (put .ensures) ∙ l .inv .5,
     )
 
 same-length : tie.Need-same-length Inv-loop μ-loop
@@ -78,14 +75,8 @@ same-length c = omega arith
 returns : tie.Need-returns Inv-loop μ-loop
 returns c =
     let l = c .before .loop in
-    let a = c .before .before .before .before .before .before .args in
-    let load = c .before .before .before .load8 in
-    record {
-      is =
-          sym (lines-end imageLine (take (a .n) (load .result)) (l .k) {p = page (l .room) (l .at)} (omega arith))
-          ∙ l .inv .5
-          ∙ ap (λ (es : List (List ℕ)). typedAll (page (now (a .room)) (a .from)) (lines imageLine 0 (take (a .n) es))) (load .ensures);
-    }
+    let a = c .before .before .before .before .before .args in
+    record { is = sym (lines-end imageLine (take (a .n) (entriesOf 8 (padded 128 (now (a .channels))))) (l .k) {p = page (l .room) (l .at)} (omega arith)) ∙ l .inv .5 }
 
 pub put-channels-spec : {M : Type 1} → statement M
 put-channels-spec =
@@ -93,12 +84,10 @@ put-channels-spec =
     (tie.spec
     Inv-loop
     μ-loop
-    load8-requires
     least-requires
     loop-holds
+    channel-at-requires
     cast-put-channel
-    mul-put-channel
-    array-copy-out-put-channel
     put-channel-requires
     add-k
     loop-less

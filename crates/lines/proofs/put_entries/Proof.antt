@@ -7,38 +7,30 @@ use native.Mathlib.Omega.{arith}
 use denote.Ref.{now}
 use lib.ListN.{length, getD, drop}
 use Rattle.wire.specs.Text.{page, typedAll}
-use Rattle.area.specs.Area.{padded}
+use Rattle.area.specs.Area.{padded, entriesOf}
 use Rattle.area.proofs.Flat.{length-chunks}
+use Rattle.area.proofs.Entry.{entry-any}
 use Rattle.lines.specs.Text.{lines, enabledLine}
 use Rattle.lines.proofs.Lines.{lines-turn, lines-end}
 use Rattle.lines.proofs.put_entries.Statement.{statement}
 use Rattle.lines.proofs.put_entries.Tie as tie
 
 abbrev Inv-loop : tie.InvT-loop
-Inv-loop room₀ from fmmus images at₀ k₀ room at k =
-    (k ≤ 16) × (length images ≡ 16) × (length room ≡ length room₀)
-    × (typedAll (page room at) (lines enabledLine k (drop k images)) ≡ typedAll (page room₀ from) (lines enabledLine 0 images))
+Inv-loop room₀ from fmmus at₀ k₀ room at k =
+    (k ≤ 16) × (length room ≡ length room₀)
+    × (typedAll (page room at) (lines enabledLine k (drop k (entriesOf 16 (padded 256 fmmus)))) ≡ typedAll (page room₀ from) (lines enabledLine 0 (entriesOf 16 (padded 256 fmmus))))
 
 abbrev μ-loop : tie.MeasureT-loop
-μ-loop room₀ from fmmus images at₀ k₀ room at k = 16 - k
-
-load16-requires : tie.Need-load16-requires Inv-loop μ-loop
-load16-requires c κs = tt
+μ-loop room₀ from fmmus at₀ k₀ room at k = 16 - k
 
 loop-holds : tie.Need-loop-holds Inv-loop μ-loop
-loop-holds c =
-    let a = c .before .before .before .args in
-    let sixteen : length (c .load16 .result) ≡ 16 = ap length (c .load16 .ensures) ∙ length-chunks 16 16 (padded 256 (now (a .fmmus))) in
-    (omega arith, sixteen, refl, refl)
+loop-holds c = (omega arith, refl, refl)
+
+fmmu-at-requires : tie.Need-fmmu-at-requires Inv-loop μ-loop
+fmmu-at-requires c κs = tt
 
 cast-put-entry : tie.Need-cast-put-entry Inv-loop μ-loop
 cast-put-entry c = omega arith
-
-mul-put-entry : tie.Need-mul-put-entry Inv-loop μ-loop
-mul-put-entry c = omega arith
-
-array-copy-out-put-entry : tie.Need-array-copy-out-put-entry Inv-loop μ-loop
-array-copy-out-put-entry c = omega arith
 
 put-entry-requires : tie.Need-put-entry-requires Inv-loop μ-loop
 put-entry-requires c κs = tt
@@ -53,11 +45,14 @@ loop-again : tie.Need-loop-again Inv-loop μ-loop
 loop-again c =
     let l = c .before .before .before .before .before .before .loop in
     let put = c .before .before .put-entry in
-    let images = c .before .before .before .before .before .before .before .load16 .result in (
+    let a = c .before .before .before .before .before .before .before .before .before .args in
+    let images = entriesOf 16 (padded 256 (now (a .fmmus))) in
+    let many = length-chunks 16 16 (padded 256 (now (a .fmmus))) in
+    let read = c .before .before .before .before .fmmu-at in
+    let is = sym (read .ensures ∙ entry-any 16 (now (a .fmmus)) (l .k) [] (omega arith)) in (
       omega arith,
-      l .inv .1,
-      put .kept .0 ∙ l .inv .2,
-      lines-turn enabledLine images (l .k) (getD images (l .k) []) (omega arith) refl (put .ensures) ∙ l .inv .3,
+      put .kept .0 ∙ l .inv .1,
+      lines-turn enabledLine images (l .k) (read .result) (omega arith) is (put .ensures) ∙ l .inv .2,
     )
 
 same-length : tie.Need-same-length Inv-loop μ-loop
@@ -66,14 +61,9 @@ same-length c = omega arith
 returns : tie.Need-returns Inv-loop μ-loop
 returns c =
     let l = c .before .loop in
-    let a = c .before .before .before .before .before .args in
-    let load = c .before .before .load16 in
-    record {
-      is =
-          sym (lines-end enabledLine (load .result) (l .k) {p = page (l .room) (l .at)} (omega arith))
-          ∙ l .inv .3
-          ∙ ap (λ (es : List (List ℕ)). typedAll (page (now (a .room)) (a .from)) (lines enabledLine 0 es)) (load .ensures);
-    }
+    let a = c .before .before .before .before .args in
+    let many = length-chunks 16 16 (padded 256 (now (a .fmmus))) in
+    record { is = sym (lines-end enabledLine (entriesOf 16 (padded 256 (now (a .fmmus)))) (l .k) {p = page (l .room) (l .at)} (omega arith)) ∙ l .inv .2 }
 
 pub put-entries-spec : {M : Type 1} → statement M
 put-entries-spec =
@@ -81,11 +71,9 @@ put-entries-spec =
     (tie.spec
     Inv-loop
     μ-loop
-    load16-requires
     loop-holds
+    fmmu-at-requires
     cast-put-entry
-    mul-put-entry
-    array-copy-out-put-entry
     put-entry-requires
     add-k
     loop-less

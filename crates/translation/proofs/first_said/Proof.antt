@@ -8,25 +8,22 @@ use denote.Ref.{now}
 use borrow.Author.Needs.{needs}
 use lib.ListN.{length, getD, drop}
 use Rattle.translation.specs.Translate.{says, firstSaid, orNone, reachedOf, saidOf}
-use Rattle.translation.proofs.Saying.{next, none-left, said-here, said-later, said-nowhere}
+use Rattle.translation.proofs.Saying.{entries, next, none-left, said-here, said-later, said-nowhere}
 use Rattle.translation.proofs.first_said.Statement.{statement}
 use Rattle.translation.proofs.first_said.Tie as tie
 
 abbrev Inv-loop : tie.InvT-loop
-Inv-loop entries direction address k₀ k =
-    (k ≤ 16) × (length entries ≡ 16) × (orNone (firstSaid (map (says direction address) (drop k entries))) ≡ orNone (firstSaid (map (says direction address) entries)))
+Inv-loop fmmus direction address k₀ k =
+    (k ≤ 16) × (orNone (firstSaid (map (says direction address) (drop k (entries fmmus)))) ≡ orNone (firstSaid (map (says direction address) (entries fmmus))))
 
 abbrev μ-loop : tie.MeasureT-loop
-μ-loop entries direction address k₀ k = 16 - k
+μ-loop fmmus direction address k₀ k = 16 - k
 
 loop-holds : tie.Need-loop-holds Inv-loop μ-loop
-loop-holds c = (omega arith, c .pre, refl)
+loop-holds c = (omega arith, refl)
 
-mul-says : tie.Need-mul-says Inv-loop μ-loop
-mul-says c = omega arith
-
-element-copy-out-says : tie.Need-element-copy-out-says Inv-loop μ-loop
-element-copy-out-says c = omega arith
+fmmu-at-requires : tie.Need-fmmu-at-requires Inv-loop μ-loop
+fmmu-at-requires c κs = tt
 
 says-requires : tie.Need-says-requires Inv-loop μ-loop
 says-requires c κs = tt
@@ -37,11 +34,12 @@ enum-known-reached c = search needs
 returns : tie.Need-returns Inv-loop μ-loop
 returns c =
     let s = c .before .before .before in
-    let l = s .before .before .before .loop in
-    let a = s .before .before .before .before .args in
+    let e = s .before in
+    let l = e .before .before .loop in
+    let a = e .before .before .before .before .args in
     let g = c .before .reached .given in
-    said-here (says (a .direction) (a .address)) (getD (now (a .entries)) (l .k) []) (drop (l .k + 1) (now (a .entries))) (drop (l .k) (now (a .entries)))
-    (next (now (a .entries)) (l .k) (omega arith)) (reachedOf (g .0 .0)) (sym (s .says .ensures) ∙ ap saidOf (g .1)) ∙ l .inv .2
+    said-here (says (a .direction) (a .address)) (e .fmmu-at .result) (drop (l .k + 1) (entries (now (a .fmmus)))) (drop (l .k) (entries (now (a .fmmus))))
+    (next (now (a .fmmus)) (l .k) (e .fmmu-at .result) (omega arith) (e .fmmu-at .ensures)) (reachedOf (g .0 .0)) (sym (s .says .ensures) ∙ ap saidOf (g .1)) ∙ l .inv .1
 
 enum-told : tie.Need-enum-told Inv-loop μ-loop
 enum-told c = search needs
@@ -55,19 +53,19 @@ loop-less c = omega arith
 loop-again : tie.Need-loop-again Inv-loop μ-loop
 loop-again c =
     let s = c .before .before in
-    let l = s .before .before .before .loop in
-    let a = s .before .before .before .before .args in (
+    let e = s .before in
+    let l = e .before .before .loop in
+    let a = e .before .before .before .before .args in (
       omega arith,
-      l .inv .1,
-      said-later (says (a .direction) (a .address)) (getD (now (a .entries)) (l .k) []) (drop (l .k + 1) (now (a .entries))) (drop (l .k) (now (a .entries)))
-          (next (now (a .entries)) (l .k) (omega arith)) (sym (s .says .ensures) ∙ ap saidOf (c .enum-told .given .1)) ∙ l .inv .2,
+      said-later (says (a .direction) (a .address)) (e .fmmu-at .result) (drop (l .k + 1) (entries (now (a .fmmus)))) (drop (l .k) (entries (now (a .fmmus))))
+          (next (now (a .fmmus)) (l .k) (e .fmmu-at .result) (omega arith) (e .fmmu-at .ensures)) (sym (s .says .ensures) ∙ ap saidOf (c .enum-told .given .1)) ∙ l .inv .1,
     )
 
 returns-2 : tie.Need-returns-2 Inv-loop μ-loop
 returns-2 c =
     let l = c .before .loop in
-    let a = c .before .before .args in
-    said-nowhere (says (a .direction) (a .address)) (drop (l .k) (now (a .entries))) (none-left (now (a .entries)) (l .k) (omega arith)) ∙ l .inv .2
+    let a = c .before .before .before .args in
+    said-nowhere (says (a .direction) (a .address)) (drop (l .k) (entries (now (a .fmmus)))) (none-left (now (a .fmmus)) (l .k) (omega arith)) ∙ l .inv .1
 
 pub first-said-spec : {M : Type 1} → statement M
 first-said-spec =
@@ -76,8 +74,7 @@ first-said-spec =
     Inv-loop
     μ-loop
     loop-holds
-    mul-says
-    element-copy-out-says
+    fmmu-at-requires
     says-requires
     enum-known-reached
     returns

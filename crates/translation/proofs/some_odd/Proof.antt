@@ -9,34 +9,32 @@ use lib.ListN.{length, getD, drop}
 use Rattle.pdo.specs.Bits.{someOf}
 use Rattle.pdo.proofs.Some.{some-here, some-not-here}
 use Rattle.translation.specs.Translate.{odd}
-use Rattle.translation.proofs.Saying.{next, none-left}
+use Rattle.translation.proofs.Saying.{entries, next, none-left}
 use Rattle.translation.proofs.some_odd.Statement.{statement}
 use Rattle.translation.proofs.some_odd.Tie as tie
 
 abbrev Inv-loop : tie.InvT-loop
-Inv-loop entries direction k₀ k = (k ≤ 16) × (length entries ≡ 16) × (someOf (odd direction) (drop k entries) ≡ someOf (odd direction) entries)
+Inv-loop fmmus direction k₀ k = (k ≤ 16) × (someOf (odd direction) (drop k (entries fmmus)) ≡ someOf (odd direction) (entries fmmus))
 
 abbrev μ-loop : tie.MeasureT-loop
-μ-loop entries direction k₀ k = 16 - k
+μ-loop fmmus direction k₀ k = 16 - k
 
 loop-holds : tie.Need-loop-holds Inv-loop μ-loop
-loop-holds c = (omega arith, c .pre, refl)
+loop-holds c = (omega arith, refl)
 
-mul-odd : tie.Need-mul-odd Inv-loop μ-loop
-mul-odd c = omega arith
-
-element-copy-out-odd : tie.Need-element-copy-out-odd Inv-loop μ-loop
-element-copy-out-odd c = omega arith
+fmmu-at-requires : tie.Need-fmmu-at-requires Inv-loop μ-loop
+fmmu-at-requires c κs = tt
 
 odd-requires : tie.Need-odd-requires Inv-loop μ-loop
 odd-requires c κs = tt
 
 returns : tie.Need-returns Inv-loop μ-loop
 returns c =
-    let l = c .before .before .before .before .loop in
-    let a = c .before .before .before .before .before .args in
-    sym (some-here (odd (a .direction)) (getD (now (a .entries)) (l .k) []) (drop (l .k + 1) (now (a .entries))) (drop (l .k) (now (a .entries)))
-    (next (now (a .entries)) (l .k) (omega arith)) (sym (c .before .odd .ensures) ∙ c .if1 .taken)) ∙ l .inv .2
+    let e = c .before .before in
+    let l = e .before .before .loop in
+    let a = e .before .before .before .before .args in
+    sym (some-here (odd (a .direction)) (e .fmmu-at .result) (drop (l .k + 1) (entries (now (a .fmmus)))) (drop (l .k) (entries (now (a .fmmus))))
+    (next (now (a .fmmus)) (l .k) (e .fmmu-at .result) (omega arith) (e .fmmu-at .ensures)) (sym (c .before .odd .ensures) ∙ c .if1 .taken)) ∙ l .inv .1
 
 add-k : tie.Need-add-k Inv-loop μ-loop
 add-k c = omega arith
@@ -46,19 +44,19 @@ loop-less c = omega arith
 
 loop-again : tie.Need-loop-again Inv-loop μ-loop
 loop-again c =
-    let l = c .before .before .before .before .loop in
-    let a = c .before .before .before .before .before .args in (
+    let e = c .before .before in
+    let l = e .before .before .loop in
+    let a = e .before .before .before .before .args in (
       omega arith,
-      l .inv .1,
-      some-not-here (odd (a .direction)) (getD (now (a .entries)) (l .k) []) (drop (l .k + 1) (now (a .entries))) (drop (l .k) (now (a .entries)))
-          (next (now (a .entries)) (l .k) (omega arith)) (sym (c .before .odd .ensures) ∙ c .if1 .left) ∙ l .inv .2,
+      some-not-here (odd (a .direction)) (e .fmmu-at .result) (drop (l .k + 1) (entries (now (a .fmmus)))) (drop (l .k) (entries (now (a .fmmus))))
+          (next (now (a .fmmus)) (l .k) (e .fmmu-at .result) (omega arith) (e .fmmu-at .ensures)) (sym (c .before .odd .ensures) ∙ c .if1 .left) ∙ l .inv .1,
     )
 
 returns-2 : tie.Need-returns-2 Inv-loop μ-loop
 returns-2 c =
     let l = c .before .loop in
-    let a = c .before .before .args in
-    sym (ap (someOf (odd (a .direction))) (none-left (now (a .entries)) (l .k) (omega arith))) ∙ l .inv .2
+    let a = c .before .before .before .args in
+    sym (ap (someOf (odd (a .direction))) (none-left (now (a .fmmus)) (l .k) (omega arith))) ∙ l .inv .1
 
 pub some-odd-spec : {M : Type 1} → statement M
 some-odd-spec =
@@ -67,8 +65,7 @@ some-odd-spec =
     Inv-loop
     μ-loop
     loop-holds
-    mul-odd
-    element-copy-out-odd
+    fmmu-at-requires
     odd-requires
     returns
     add-k

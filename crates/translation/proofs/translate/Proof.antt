@@ -11,28 +11,24 @@ use Rattle.translation.proofs.translate.Tie as tie
 returns : tie.Need-returns
 returns c = let a = c .before .before .args in one (a .direction) (now (a .fmmus)) (a .address) (c .if1 .taken)
 
-load16-requires : tie.Need-load16-requires
-load16-requires c κs = search needs
-
 some-odd-requires : tie.Need-some-odd-requires
 some-odd-requires c κs = search needs
 
 returns-2 : tie.Need-returns-2
 returns-2 c =
-    let l = c .before .before .before in
-    let a = l .before .before .before .args in
-    eleven (a .direction) (now (a .fmmus)) (a .address) (l .before .if1 .left) (l .load16 .result) (l .load16 .ensures) (sym (c .before .some-odd .ensures) ∙ c .if2 .taken)
+    let e = c .before .before in
+    let a = e .before .before .args in
+    eleven (a .direction) (now (a .fmmus)) (a .address) (e .if1 .left) (sym (c .before .some-odd .ensures) ∙ c .if2 .taken)
 
 first-said-requires : tie.Need-first-said-requires
 first-said-requires c κs = search needs
 
 returns-3 : tie.Need-returns-3
 returns-3 c =
-    let e = c .before .before in
-    let l = e .before .before .before in
-    let a = l .before .before .before .args in
-    answers (a .direction) (now (a .fmmus)) (a .address) (l .before .if1 .left) (l .load16 .result) (l .load16 .ensures) (reachedOf (c .first-said .result))
-    (sym (e .before .some-odd .ensures) ∙ e .if2 .left) (c .first-said .ensures)
+    let o = c .before .before in
+    let e = o .before in
+    let a = e .before .before .args in
+    answers (a .direction) (now (a .fmmus)) (a .address) (e .if1 .left) (reachedOf (c .first-said .result)) (sym (o .some-odd .ensures) ∙ c .before .if2 .left) (c .first-said .ensures)
 
 pub translate-spec : {M : Type 1} → statement M
-translate-spec = tie.close (tie.spec returns load16-requires some-odd-requires returns-2 first-said-requires returns-3)
+translate-spec = tie.close (tie.spec returns some-odd-requires returns-2 first-said-requires returns-3)
