@@ -14,7 +14,7 @@ use borrow.Author.Tests.{ltb-true, ltb-false}
 use Rattle.wire.specs.Outcome.{Outcome, accepted}
 use Rattle.wire.proofs.Below.{all, below}
 use Rattle.pdi.specs.Segment.{segment}
-use Rattle.sync_manager_channel.specs.Image.{controlAt, unnamed}
+use Rattle.channel_bytes.specs.Bytes.{controlAt, unnamed}
 use Rattle.fmmu.specs.Image.{fieldsOf, imageOf}
 use Rattle.grammar.specs.Lists.{listOf, someBelow}
 use Rattle.sheet.specs.Device.{pdosFrom}

@@ -11,7 +11,8 @@ use Rattle.wire.specs.Outcome.{Outcome, refused, accepted}
 use Rattle.wire.proofs.Order.{never}
 use Rattle.pdi.specs.Segment.{segmentText}
 use Rattle.sync_manager_channel.specs.declared.SyncManagerChannel.{SyncManagerChannel}
-use Rattle.sync_manager_channel.specs.Image.{unnamed, imageOf}
+use Rattle.channel_bytes.specs.Bytes.{unnamed}
+use Rattle.sync_manager_channel.specs.Image.{imageOf}
 use Rattle.sync_manager_channel.proofs.RoundTrip.{written-named}
 use Rattle.sheet.specs.Sound.{Each}
 use Rattle.sheet.specs.Sheet.{sheetData, managerCount}
