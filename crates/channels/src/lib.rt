@@ -1,7 +1,6 @@
 // The images of the sync managers: `write_sm_config` of configuration.rs, over a whole area.
 ghost use mathlib.Core.Path.{_≡_};
 ghost use lib.ListN.{take};
-ghost use Rattle.sync_manager_channel.specs.Image.{imageOf};
 ghost use Rattle.channels.specs.Channels.{channelFor, channelArea, imageFor};
 use pdi::ByteLen;
 use sheet::SyncManager;

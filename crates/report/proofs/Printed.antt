@@ -25,8 +25,8 @@ use Rattle.channels.proofs.After.{channels-kept}
 use Rattle.uses.specs.Use.{usesOf}
 use Rattle.entries.specs.Entries.{Planned, plan}
 use Rattle.entries.proofs.Kept.{plan-length, rows-plan}
-use Rattle.subdevice.specs.declared.MailboxConfig.{MailboxConfig}
-use Rattle.subdevice.specs.Mailbox.{mailboxPass, mailboxSize, mailboxChannels}
+use Rattle.mailboxes.specs.declared.MailboxConfig.{MailboxConfig}
+use Rattle.mailboxes.specs.Mailbox.{mailboxPass, mailboxSize, mailboxChannels}
 use Rattle.subdevice.specs.Pass.{dataSize}
 use Rattle.lines.specs.Text.{line, inputsFront, outputsFront, channelLine, imageLine, enabledLine, lines, bayText}
 use Rattle.report.specs.Plan.{andThen, Areas, Bay, once, pass, passLeaves, withOutputs, withInputs, mailboxLeaves, planBay, zeros, outcomeText, reportText, channelLineOf, plainText}

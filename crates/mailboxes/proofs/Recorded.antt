@@ -5,8 +5,8 @@ use mathlib.Core.List.{List, [], _∷_}
 use Prim.Native.Nat.{ℕ, _+_}
 use native.Mathlib.Numerals.{add-one}
 use Rattle.sheet.specs.declared.SyncManager.{SyncManager}
-use Rattle.subdevice.specs.declared.Slot.{Slot}
-use Rattle.subdevice.specs.Mailbox.{laterOf, lastOf}
+use Rattle.mailboxes.specs.declared.Slot.{Slot}
+use Rattle.mailboxes.specs.Mailbox.{laterOf, lastOf}
 
 -- what is recorded after one more
 pub last-turn : (usage size k : ℕ) (before after : Slot) (m : SyncManager) (ms l : List SyncManager) → l ≡ m ∷ ms → after ≡ laterOf usage size before k m → lastOf usage size after (k + 1) ms ≡ lastOf usage size before k l

@@ -3,9 +3,9 @@
 use borrow.Author.Needs.{needs}
 use borrow.Author.Tests.{not-true, not-false}
 use denote.Ref.{now}
-use Rattle.subdevice.proofs.Mailboxes.{wrong-area, wrong-sheet, without-mailboxes, with-mailboxes}
-use Rattle.subdevice.proofs.configure_mailboxes.Statement.{statement}
-use Rattle.subdevice.proofs.configure_mailboxes.Tie as tie
+use Rattle.mailboxes.proofs.Mailboxes.{wrong-area, wrong-sheet, without-mailboxes, with-mailboxes}
+use Rattle.mailboxes.proofs.configure_mailboxes.Statement.{statement}
+use Rattle.mailboxes.proofs.configure_mailboxes.Tie as tie
 
 returns : tie.Need-returns
 returns c = let a = c .before .before .before .args in wrong-area (now (a .sheet)) (now (a .channels)) (c .if1 .taken)

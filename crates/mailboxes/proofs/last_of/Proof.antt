@@ -5,12 +5,12 @@ use Prim.Native.Nat.{_+_, _-_, _≤_, _<_, min}
 use native.Mathlib.Nat.{min-le-right}
 use native.Mathlib.Omega.{arith}
 use lib.ListN.{length, getD, take, drop}
-use Rattle.subdevice.specs.declared.Slot.the-variants.{None}
-use Rattle.subdevice.specs.Mailbox.{lastOf}
+use Rattle.mailboxes.specs.declared.Slot.the-variants.{None}
+use Rattle.mailboxes.specs.Mailbox.{lastOf}
 use Rattle.wanted.proofs.Turns.{blank, turn, over}
-use Rattle.subdevice.proofs.Recorded.{last-turn, last-end}
-use Rattle.subdevice.proofs.last_of.Statement.{statement}
-use Rattle.subdevice.proofs.last_of.Tie as tie
+use Rattle.mailboxes.proofs.Recorded.{last-turn, last-end}
+use Rattle.mailboxes.proofs.last_of.Statement.{statement}
+use Rattle.mailboxes.proofs.last_of.Tie as tie
 
 abbrev Inv-loop : tie.InvT-loop
 Inv-loop n usage size managers found₀ count k₀ found k =

@@ -22,12 +22,12 @@ use Rattle.channels.specs.declared.Wish.{Wish}
 use Rattle.channels.specs.Channels.{noWish, wishOf, wished, channelsAfter, channelArea}
 use Rattle.channels.proofs.After.{channels-same, channel-area-whole}
 use Rattle.pdo.specs.Bits.{byCoe}
-use Rattle.subdevice.specs.declared.MailboxConfig.{MailboxConfig}
-use Rattle.subdevice.specs.declared.MailboxRead.the-variants.{Config, Refused}
-use Rattle.subdevice.specs.declared.Slot.the-variants.{None}
-use Rattle.subdevice.specs.Mailbox.{mailboxSize, lastOf, configOf, noMailboxes, mailboxPass, mailboxChannels, mailboxArea, ConfiguresMailboxes}
+use Rattle.mailboxes.specs.declared.MailboxConfig.{MailboxConfig}
+use Rattle.mailboxes.specs.declared.MailboxRead.the-variants.{Config, Refused}
+use Rattle.mailboxes.specs.declared.Slot.the-variants.{None}
+use Rattle.mailboxes.specs.Mailbox.{mailboxSize, lastOf, configOf, noMailboxes, mailboxPass, mailboxChannels, mailboxArea, ConfiguresMailboxes}
 use Rattle.wanted.specs.Wishes.{wish}
-use Rattle.subdevice.specs.MailboxWishes.{mailboxWish, mailboxWishes}
+use Rattle.mailboxes.specs.MailboxWishes.{mailboxWish, mailboxWishes}
 
 -- a wish says the size
 wish-size : (d : Data) (k : ℕ) (m : SyncManager) → wishOf (mailboxWish (m .«usage_type») (d .receive) (d .send)) ≡ mailboxSize d k m

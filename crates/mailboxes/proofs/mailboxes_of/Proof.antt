@@ -5,9 +5,9 @@ use borrow.Author.Needs.{needs}
 use denote.Ref.{now}
 use Rattle.sheet.specs.Device.{dataOf}
 use Rattle.pdo.specs.Bits.{byCoe}
-use Rattle.subdevice.proofs.Mailboxes.{mailboxes-written, config-with}
-use Rattle.subdevice.proofs.mailboxes_of.Statement.{statement}
-use Rattle.subdevice.proofs.mailboxes_of.Tie as tie
+use Rattle.mailboxes.proofs.Mailboxes.{mailboxes-written, config-with}
+use Rattle.mailboxes.proofs.mailboxes_of.Statement.{statement}
+use Rattle.mailboxes.proofs.mailboxes_of.Tie as tie
 
 mailbox-wishes-requires : tie.Need-mailbox-wishes-requires
 mailbox-wishes-requires c κs = search needs

@@ -1,21 +1,20 @@
 -- The mailbox pass.
 -- Assumes nothing.
 use mathlib.Core.Path.{_≡_}
-use mathlib.Core.Bool.{Bool, false, cond, not}
+use mathlib.Core.Bool.{false, cond}
 use mathlib.Core.List.{List, [], _∷_}
 use mathlib.Core.Option.{Option, none, some}
 use Prim.Native.Nat.{ℕ, suc}
-use lib.ListN.{length}
 use lib.Dec.{eqb}
 use Rattle.wire.specs.Outcome.{Outcome, refused, accepted, Refusal, when, decide}
 use Rattle.sheet.specs.Device.{Data}
 use Rattle.sheet.specs.Sheet.{sheetRefusals, sheetData}
 use Rattle.sheet.specs.declared.SyncManager.{SyncManager}
-use Rattle.subdevice.specs.declared.Slot.{Slot}
-use Rattle.subdevice.specs.declared.Slot.the-variants.{None, At}
-use Rattle.subdevice.specs.declared.MailboxConfig.{MailboxConfig}
-use Rattle.subdevice.specs.declared.MailboxRead.{MailboxRead}
-use Rattle.subdevice.specs.declared.MailboxRead.the-variants.{Config, Refused}
+use Rattle.mailboxes.specs.declared.Slot.{Slot}
+use Rattle.mailboxes.specs.declared.Slot.the-variants.{None, At}
+use Rattle.mailboxes.specs.declared.MailboxConfig.{MailboxConfig}
+use Rattle.mailboxes.specs.declared.MailboxRead.{MailboxRead}
+use Rattle.mailboxes.specs.declared.MailboxRead.the-variants.{Config, Refused}
 use Rattle.pdo.specs.Bits.{byCoe}
 use Rattle.area.specs.Area.{entriesOf, flat, notChannels}
 use Rattle.channels.specs.Channels.{channelsAfter}

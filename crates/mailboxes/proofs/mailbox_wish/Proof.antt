@@ -1,8 +1,8 @@
 -- `subdevice::mailbox_wish`: the tests that led to each return say which wish it is.
 -- Assumes nothing.
 use borrow.Author.Tests.{eq-eqb, ne-eqb}
-use Rattle.subdevice.proofs.mailbox_wish.Statement.{statement}
-use Rattle.subdevice.proofs.mailbox_wish.Tie as tie
+use Rattle.mailboxes.proofs.mailbox_wish.Statement.{statement}
+use Rattle.mailboxes.proofs.mailbox_wish.Tie as tie
 
 returns : tie.Need-returns
 returns c = search (eq-eqb, ne-eqb)

@@ -2,7 +2,7 @@
 -- Assumes nothing.
 use mathlib.Core.Path.{_≡_, sym, _∙_, ap}
 use mathlib.Core.List.{List, _++_}
-use Prim.Native.Nat.{ℕ, _+_, _-_, _≤_, _<_, min}
+use Prim.Native.Nat.{ℕ, _-_, _≤_, _<_, min}
 use native.Mathlib.Nat.{min-le-right}
 use native.Mathlib.Omega.{arith}
 use lib.ListN.{length, getD, take, set, replicate}
@@ -13,10 +13,10 @@ use Rattle.sheet.specs.declared.SyncManager.{SyncManager}
 use Rattle.grammar.proofs.Lists as lists
 use Rattle.channels.specs.declared.Wish.{Wish}
 use Rattle.channels.specs.Channels.{noWish}
-use Rattle.subdevice.specs.MailboxWishes.{mailboxWish, mailboxWishes}
+use Rattle.mailboxes.specs.MailboxWishes.{mailboxWish, mailboxWishes}
 use Rattle.wanted.proofs.Turns.{blank, used, taken-at, none-yet}
-use Rattle.subdevice.proofs.mailbox_wishes.Statement.{statement}
-use Rattle.subdevice.proofs.mailbox_wishes.Tie as tie
+use Rattle.mailboxes.proofs.mailbox_wishes.Statement.{statement}
+use Rattle.mailboxes.proofs.mailbox_wishes.Tie as tie
 
 -- the wish of a number
 abbrev wishAt : ByteLen → ByteLen → ℕ → List SyncManager → ℕ → Wish

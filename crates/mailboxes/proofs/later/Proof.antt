@@ -1,8 +1,8 @@
 -- `subdevice::later`: the test says whether it is recorded.
 -- Assumes nothing.
 use borrow.Author.Tests.{eq-eqb, ne-eqb}
-use Rattle.subdevice.proofs.later.Statement.{statement}
-use Rattle.subdevice.proofs.later.Tie as tie
+use Rattle.mailboxes.proofs.later.Statement.{statement}
+use Rattle.mailboxes.proofs.later.Tie as tie
 
 returns : tie.Need-returns
 returns c = search (eq-eqb, ne-eqb)
