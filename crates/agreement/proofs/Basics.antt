@@ -1,7 +1,7 @@
 -- Laws of the questions over lists, of a decision that came out accepted, and of ranges.
 -- Assumes nothing.
 use mathlib.Core.Path.{_≡_, refl, sym, _∙_, ap}
-use mathlib.Core.Bool.{Bool, true, false, cond, _&&_, _||_, true≢false}
+use mathlib.Core.Bool.{Bool, true, false, cond, _||_, true≢false}
 use mathlib.Core.List.{List, [], _∷_, map}
 use mathlib.Core.Logic.{_⊎_, inl, inr}
 use mathlib.Core.Option.{Option, none, some}
@@ -11,14 +11,14 @@ use native.Mathlib.Decide.{ℕ-discrete}
 use native.Mathlib.Omega.{arith}
 use lib.Arith.{lt-of-le-ne}
 use lib.ListN.{length, getD, set}
-use lib.Dec.{leb, ltb}
-use borrow.Author.Tests.{le-leb, lt-ltb, lt-leb, le-ltb, ltb-true, ltb-false}
+use lib.Dec.{ltb}
+use borrow.Author.Tests.{ltb-true, ltb-false}
 use Rattle.wire.specs.Outcome.{refused, accepted, Refusal, decide}
 use Rattle.wire.proofs.Order.{never}
 use Rattle.sheet.specs.Sound.{Each}
 use Rattle.grammar.specs.Lists.{someBelow}
 use Rattle.pdo.specs.Bits.{someOf}
-use Rattle.translation.specs.Translate.{within, firstSaid}
+use Rattle.translation.specs.Translate.{firstSaid}
 
 pub either : (b : Bool) → (b ≡ true) ⊎ (b ≡ false)
 either true = inl refl

@@ -6,7 +6,7 @@ use mathlib.Core.List.{List, [], _∷_}
 use Prim.Native.Nat.{ℕ}
 use lib.Dec.{T, eqb, eqb→eq}
 use Rattle.wire.specs.Outcome.{Outcome, refused, accepted}
-use Rattle.sync_manager_channel.specs.Image.{controlAt, unnamed, controlByte}
+use Rattle.channel_bytes.specs.Bytes.{controlAt, unnamed, controlByte}
 use Rattle.fmmu.specs.Image.{fieldsOf, imageOf}
 use Rattle.grammar.specs.Lists.{listOf, someBelow}
 use Rattle.sheet.specs.Device.{pdosFrom}

@@ -6,8 +6,8 @@ use lib.ListN.{getD, set, replicate}
 use Rattle.wire.specs.Outcome.{Outcome, refused, accepted}
 use Rattle.pdi.specs.Unit.{roundedUp}
 use Rattle.pdi.specs.Offset.{incremented, incrementedByteAligned}
-use Rattle.sync_manager_channel.specs.declared.Control.{Control}
-use Rattle.sync_manager_channel.specs.Image.{modeNumber, controlByte, readControl}
+use Rattle.channel_bytes.specs.declared.Control.{Control}
+use Rattle.channel_bytes.specs.Bytes.{modeNumber, controlByte, readControl}
 use Rattle.sheet.specs.Sheet.{sheetData}
 use Rattle.pdo.specs.declared.PdoDirection.the-variants.{MasterRead}
 use Rattle.pdo.specs.Bits.{multipliersOf}

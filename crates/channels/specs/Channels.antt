@@ -7,8 +7,9 @@ use Prim.Native.Nat.{ℕ, suc}
 use lib.ListN.{getD, set}
 use lib.Dec.{ltb}
 use Rattle.sync_manager_channel.specs.declared.SyncManagerChannel.{SyncManagerChannel}
-use Rattle.sync_manager_channel.specs.declared.Enable.{Enable}
-use Rattle.sync_manager_channel.specs.Image.{imageOf, statusAt}
+use Rattle.channel_bytes.specs.declared.Enable.{Enable}
+use Rattle.channel_bytes.specs.Bytes.{statusAt}
+use Rattle.sync_manager_channel.specs.Image.{imageOf}
 use Rattle.sheet.specs.declared.SyncManager.{SyncManager}
 use Rattle.area.specs.Area.{entriesOf, flat, notChannels}
 use Rattle.channels.specs.declared.Wish.{Wish}

@@ -1,6 +1,6 @@
 -- Counting as code goes: from the wishes to the pieces, a turn of the loop that lays them, and what each way through the call answers.
 -- Assumes nothing.
-use mathlib.Core.Path.{_≡_, refl, sym, _∙_, ap, ap₂, subst}
+use mathlib.Core.Path.{_≡_, refl, sym, _∙_, ap, subst}
 use mathlib.Core.Bool.{Bool, true, false, cond, _&&_}
 use mathlib.Core.List.{List, [], _∷_}
 use mathlib.Core.Option.{Option, none, some}
@@ -11,7 +11,7 @@ use native.Mathlib.Omega.{arith}
 use lib.ListN.{length, getD}
 use lib.Dec.{eqb, ltb}
 use borrow.Author.Tests.{lt-ltb, le-ltb}
-use Rattle.wire.specs.Outcome.{Outcome, refused, accepted, when, decide, first}
+use Rattle.wire.specs.Outcome.{refused, accepted, when, decide}
 use Rattle.wire.proofs.Order.{never, passed, passed-answer, stopped}
 use Rattle.pdi.specs.Unit.{bytesOf}
 use Rattle.pdi.specs.Offset.{pastEnd}
@@ -27,13 +27,13 @@ use Rattle.pdo.specs.Bits.{Piece, pathKind, bitsOf, piecesFrom, piecesOf}
 use Rattle.uses.specs.Use.{own, total, sizeOf}
 use Rattle.uses.proofs.Pieces.{wishFor}
 use Rattle.wanted.specs.declared.Wanted.{Wanted}
-use Rattle.wanted.specs.Wanted.{someTooMany, noEntry, wantedRefusals, wishesOf, wantedFrom, Wants}
+use Rattle.wanted.specs.Wanted.{wantedRefusals, wishesOf, Wants}
 use Rattle.wanted.proofs.Wanting.{wish-at, wanted-refused, wanted-accepted}
 use Rattle.translation.specs.declared.Reached.{Reached}
 use Rattle.translation.specs.Translate.{within, named, reachedOf}
 use Rattle.counting.specs.declared.Counted.{Counted}
 use Rattle.counting.specs.declared.Counted.the-variants.{Nowhere, In, Refused}
-use Rattle.counting.specs.Count.{Spot, spotAt, spotIn, spotOf, countedOf, after, endFrom, spotBy, orNext, earlierOf, foundFrom, dataRefusals, countData, count}
+use Rattle.counting.specs.Count.{Spot, spotAt, spotIn, spotOf, countedOf, after, endFrom, spotBy, orNext, earlierOf, foundFrom, countData, count}
 
 -- the first of two positions
 pub earlier-is : (x y : Counted) (s t : Option Spot) → countedOf x ≡ accepted s → countedOf y ≡ accepted t → countedOf (earlierOf x y) ≡ accepted (orNext s t)

@@ -1,10 +1,9 @@
 -- Each public function's contract leaves one answer.
 -- Assumes nothing.
-use mathlib.Core.Path.{_≡_, refl, ap}
+use mathlib.Core.Path.{_≡_, refl}
 use mathlib.Core.Option.{Option, none, some}
 use Rattle.wire.specs.Outcome.{Outcome, refused, accepted}
 use Rattle.wire.proofs.Pins.{Pins, same-by}
-use Rattle.translation.specs.declared.Reached.{Reached}
 use Rattle.translation.proofs.Unique.{reached-back, reached-determined}
 use Rattle.counting.specs.declared.Position.{Position}
 use Rattle.counting.specs.declared.Counted.{Counted}

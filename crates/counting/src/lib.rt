@@ -6,7 +6,7 @@ ghost use Rattle.wire.specs.Outcome.{accepted};
 ghost use Rattle.sheet.specs.Device.{dataOf};
 ghost use Rattle.sheet.specs.Sheet.{pdoCount};
 ghost use Rattle.counting.specs.Count as meaning;
-ghost use Rattle.counting.specs.Count.{countedOf, spotBy, orNext, after, endFrom, foundFrom, countData};
+ghost use Rattle.counting.specs.Count.{countedOf, spotBy, after, endFrom, foundFrom, countData};
 use channels::Wish;
 use pdi::PdiOffset;
 use pdo::PdoDirection;

@@ -1,6 +1,5 @@
 // src/pdi.rs: offsets and segments of the process data image, and the two units that they are counted in.
 ghost use mathlib.Core.Path.{_≡_};
-ghost use Prim.Native.Nat.{_+_, _≤_};
 ghost use Rattle.wire.specs.Room.{InRoom, textIn};
 ghost use Rattle.wire.specs.Text.{page, Types};
 ghost use Rattle.pdi.specs.Unit.{roundedUp, roundedOf};

@@ -2,6 +2,9 @@
 use crate::say;
 use counting::Counted;
 use entries::Place;
+use mailboxes::MailboxConfig;
+use mailboxes::MailboxRead;
+use mailboxes::Slot;
 use pdi::PdiOffset;
 use pdi::PdiSegment;
 use pdi::Placed;
@@ -10,10 +13,7 @@ use pdo::PdoDirection;
 use sheet::Answer;
 use sheet::Device;
 use sheet::SyncManager;
-use subdevice::MailboxConfig;
-use subdevice::MailboxRead;
 use subdevice::Passed;
-use subdevice::Slot;
 use translation::Reached;
 use translation::Translated;
 use wire::Written;
@@ -117,7 +117,7 @@ fn recorded(out: &mut [u8], answer: MailboxRead) -> usize {
 }
 
 pub fn mailboxes(out: &mut [u8], sheet: &[u8], channels: &mut [u8]) -> usize {
-    let answer = subdevice::configure_mailboxes(sheet, channels);
+    let answer = mailboxes::configure_mailboxes(sheet, channels);
     let next = recorded(out, answer);
     say::then_bytes(out, next, channels)
 }
@@ -338,7 +338,7 @@ fn outputs_of(
 fn plan_once(sheet: &[u8], table: [Oversampling; 256], records: usize) -> Planned {
     let mut fmmus = [0u8; 256];
     let mut channels = [0u8; 128];
-    if let MailboxRead::Refused(number) = subdevice::configure_mailboxes(sheet, &mut channels) {
+    if let MailboxRead::Refused(number) = mailboxes::configure_mailboxes(sheet, &mut channels) {
         return Planned::Refused(number);
     }
     let place = Place {

@@ -1,6 +1,6 @@
 -- A pass's answer with its offset beside it promises what the pass promises.
 -- Assumes nothing.
-use mathlib.Core.Path.{_≡_, refl, sym, _∙_, ap}
+use mathlib.Core.Path.{_≡_, sym, _∙_, ap}
 use mathlib.Core.List.{List, []}
 use Prim.Native.Nat.{ℕ}
 use Rattle.wire.specs.Outcome.{Outcome, refused, accepted}

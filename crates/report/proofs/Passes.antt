@@ -12,10 +12,10 @@ use Rattle.pdo.specs.declared.PdoDirection.the-variants.{MasterRead, MasterWrit
 use Rattle.entries.specs.Entries.{Planned, configuredOf}
 use Rattle.entries.specs.declared.Configured.{Configured}
 use Rattle.entries.specs.declared.Configured.the-variants as configured
-use Rattle.subdevice.specs.declared.MailboxConfig.{MailboxConfig}
-use Rattle.subdevice.specs.declared.MailboxRead.{MailboxRead}
-use Rattle.subdevice.specs.declared.MailboxRead.the-variants as mailbox
-use Rattle.subdevice.specs.Mailbox.{mailboxPass, mailboxArea, mailboxOf, ConfiguresMailboxes}
+use Rattle.mailboxes.specs.declared.MailboxConfig.{MailboxConfig}
+use Rattle.mailboxes.specs.declared.MailboxRead.{MailboxRead}
+use Rattle.mailboxes.specs.declared.MailboxRead.the-variants as mailbox
+use Rattle.mailboxes.specs.Mailbox.{mailboxPass, mailboxArea, mailboxOf, ConfiguresMailboxes}
 use Rattle.subdevice.specs.Pass.{entriesAfter, channelAreaAfter, Configures}
 use Rattle.lines.specs.Text.{refusedText, bayText}
 use Rattle.report.specs.declared.Plan.{Plan}

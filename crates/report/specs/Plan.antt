@@ -19,8 +19,8 @@ use Rattle.pdo.specs.Bits.{multipliersOf}
 use Rattle.entries.specs.declared.Configured.{Configured}
 use Rattle.entries.specs.declared.Configured.the-variants as configured
 use Rattle.entries.specs.Entries.{Planned}
-use Rattle.subdevice.specs.declared.MailboxConfig.{MailboxConfig}
-use Rattle.subdevice.specs.Mailbox.{mailboxPass, mailboxArea}
+use Rattle.mailboxes.specs.declared.MailboxConfig.{MailboxConfig}
+use Rattle.mailboxes.specs.Mailbox.{mailboxPass, mailboxArea}
 use Rattle.lines.specs.Text.{line, numbered, inputsFront, outputsFront, lines, enabledLine, refusedText, bayText}
 use Rattle.report.specs.declared.Plan.{Plan}
 use Rattle.report.specs.declared.Plan.the-variants.{Segments, Refused}

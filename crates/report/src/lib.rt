@@ -6,12 +6,12 @@ ghost use Rattle.subdevice.specs.Pass.{Configures};
 ghost use Rattle.report.specs.Plan.{areas, once, configuredWith, planBay, bayOf, reportText};
 use entries::Configured;
 use entries::Place;
+use mailboxes::MailboxRead;
 use pdi::PdiOffset;
 use pdi::PdiSegment;
 use pdi::Placed;
 use pdo::Oversampling;
 use pdo::PdoDirection;
-use subdevice::MailboxRead;
 use subdevice::Passed;
 use wire::Written;
 
@@ -64,7 +64,7 @@ fn data_pass(
 fn plan_bay(sheet: &[u8], fmmus: &mut [u8], channels: &mut [u8]) -> Plan
     ensures { λ r. ⌜ bayOf r (areas (now (fmmus .exit)) (now (channels .exit))) ≡ planBay (now (sheet .entry)) (areas (now (fmmus .entry)) (now (channels .entry))) ⌝ }
 {
-    if let MailboxRead::Refused(number) = subdevice::configure_mailboxes(sheet, channels) {
+    if let MailboxRead::Refused(number) = mailboxes::configure_mailboxes(sheet, channels) {
         return Plan::Refused(number);
     }
     let start = PdiOffset { start_address: 0 };

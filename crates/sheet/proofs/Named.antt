@@ -7,8 +7,8 @@ use Prim.Native.Nat.{ℕ, _+_, _<_}
 use lib.ListN.{getD, set}
 use Rattle.wire.specs.Outcome.{Refusal, refused, accepted, when, decide}
 use Rattle.wire.proofs.Order.{never, passed, passed-answer, stopped}
-use Rattle.sync_manager_channel.specs.declared.Control.{Control}
-use Rattle.sync_manager_channel.specs.Image.{controlAt, unnamed, readControl}
+use Rattle.channel_bytes.specs.declared.Control.{Control}
+use Rattle.channel_bytes.specs.Bytes.{controlAt, unnamed, readControl}
 use Rattle.sheet.specs.declared.SyncManager.{SyncManager}
 use Rattle.grammar.specs.Lists.{someBelow}
 use Rattle.sheet.specs.Sheet.{managerAt, managerPlace, noManager, unnamedAt, managersOf, readManager}

@@ -8,7 +8,7 @@ use lib.ListN.{getD, replicate}
 use Rattle.wire.specs.Outcome.{Outcome, refused, accepted, Refusal, when, decide}
 use Rattle.wire.specs.Field.{flagAt}
 use Rattle.wire.specs.Number.{bigAt}
-use Rattle.sync_manager_channel.specs.Image.{controlAt, unnamed}
+use Rattle.channel_bytes.specs.Bytes.{controlAt, unnamed}
 use Rattle.grammar.specs.Lists.{listOf, someBelow}
 pub use Rattle.grammar.specs.Grammar.{managerCount, usageCount, pdoCount, managerPlace, usagesPlace, pdosPlace, wrongVersion}
 unfoldable pub use Rattle.grammar.specs.Grammar.{wrongLength, kindFits, pdosFit, someManagerWrong, someUsageWrong, broken}

@@ -9,11 +9,11 @@ ghost use lib.ListN.{length};
 ghost use Rattle.grammar.specs.Lists.{someBelow};
 ghost use Rattle.grammar.specs.Grammar.{broken};
 ghost use Rattle.sheet.specs.Sheet.{unnamedAt, someUnnamed, managersOf, usagesOf, deviceOf, readManager, managerReadOf, answerOf, sheetReadOf, ReadsAs};
+use channel_bytes::Control;
+use channel_bytes::ControlRead;
+use channel_bytes::Direction;
+use channel_bytes::OperationMode;
 use pdi::ByteLen;
-use sync_manager_channel::Control;
-use sync_manager_channel::ControlRead;
-use sync_manager_channel::Direction;
-use sync_manager_channel::OperationMode;
 
 // A sync manager as the sheet has it.
 pub struct SyncManager {

@@ -18,7 +18,6 @@ use Rattle.sheet.specs.Sheet.{noManager}
 use Rattle.sheet.specs.declared.Answer.the-variants as answer
 use Rattle.area.specs.Area.{padded, entriesOf, flat}
 use Rattle.area.proofs.Flat.{length-chunks, rows-chunks, flat-bytes, padded-same}
-use Rattle.channels.specs.declared.Wish.{Wish}
 use Rattle.channels.specs.Channels.{noWish, wishOf, wished, channelsAfter, channelArea}
 use Rattle.channels.proofs.After.{channel-area-whole, channels-same}
 use Rattle.pdo.specs.declared.PdoDirection.{PdoDirection}
@@ -29,10 +28,10 @@ use Rattle.entries.specs.declared.Configured.the-variants.{Mapped, Refused}
 use Rattle.uses.specs.declared.Route.{Route}
 use Rattle.uses.specs.Use.{coeEntry, total, usesOf, usesFrom, sizeOf}
 use Rattle.entries.specs.Entries.{plan, Planned, planned, configuredOf, entryRefusals, entriesOutcome, entryArea, WritesEntries}
-use Rattle.uses.proofs.Pieces.{byRoute, uses-are, route-total}
+use Rattle.uses.proofs.Pieces.{uses-are, route-total}
 use Rattle.entries.proofs.Kept.{plan-length, rows-plan}
 use Rattle.wanted.specs.declared.Wanted.{Wanted}
-use Rattle.wanted.specs.Wanted.{someTooMany, noEntry, wantedRefusals, wishesOf, wantedFrom, Wants}
+use Rattle.wanted.specs.Wanted.{wantedRefusals, wishesOf, wantedFrom, Wants}
 use Rattle.wanted.proofs.Wanting.{wish-at, wanted-refused, wanted-accepted}
 use Rattle.subdevice.specs.Pass.{planOutcome, plannedOf, dataSize, entriesAfter, channelAreaAfter, Plans}
 

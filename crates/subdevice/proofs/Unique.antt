@@ -1,10 +1,9 @@
--- Each public function's contract leaves one answer, and one content of each area lent to it.
+-- The pass's contract leaves one answer, and one content of each area lent to it.
 -- Assumes nothing.
-use mathlib.Core.Path.{_≡_, refl}
+use mathlib.Core.Path.{_≡_}
 use mathlib.Core.List.{List}
 use Prim.Native.Nat.{ℕ}
 use denote.Ref.{now}
-use Rattle.wire.specs.Outcome.{Outcome, refused, accepted}
 use Rattle.wire.proofs.Pins.{Pins, with-room, same, same-by}
 use Rattle.pdi.specs.declared.PdiOffset.{PdiOffset}
 use Rattle.pdi.specs.declared.Placed.{Placed}
@@ -12,26 +11,7 @@ use Rattle.pdi.specs.Segment.{placedOf}
 use Rattle.pdi.proofs.Unique.{placed-back, placed-determined}
 use Rattle.pdo.specs.declared.PdoDirection.{PdoDirection}
 use Rattle.subdevice.specs.Pass.{Passes}
-use Rattle.subdevice.specs.Mailbox.{mailboxOf}
-use Rattle.subdevice.specs.declared.MailboxConfig.{MailboxConfig}
-use Rattle.subdevice.specs.declared.MailboxRead.{MailboxRead}
-use Rattle.subdevice.specs.declared.MailboxRead.the-variants.{Config, Refused}
 use Rattle.subdevice.proofs.pass.Reads as pass
-use Rattle.subdevice.proofs.configure_mailboxes.Reads as configure-mailboxes
-
--- number and values determine the answer
-abbrev mailbox-back : Outcome MailboxConfig → MailboxRead
-mailbox-back (refused n) = Refused n
-mailbox-back (accepted c) = Config c
-
-pub mailbox-determined : (x : MailboxRead) → mailbox-back (mailboxOf x) ≡ x
-mailbox-determined (Config c) = refl
-mailbox-determined (Refused n) = refl
-
-pub configure-mailboxes-pins : Pins configure-mailboxes.Post (λ κs r s. with-room r (now (s .1 .0)))
-configure-mailboxes-pins κs a x y s t p q =
-    let r : x ≡ y = same-by mailboxOf mailbox-back mailbox-determined (p .says) (q .says) in
-    λ i. (r i, same (p .holds) (q .holds) i)
 
 -- two promises of a pass: the same answer, the same offset, the same areas
 pub passes-once :

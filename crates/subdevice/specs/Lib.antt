@@ -1,4 +1,2 @@
--- The meaning of the passes (document 01, 'The passes'): functions of device data alone, whatever it was read from.
-pub mod Mailbox
+-- The meaning of a data pass (document 01, 'The passes'): a function of device data alone, whatever it was read from.
 pub mod Pass
-pub mod MailboxWishes

@@ -1,21 +1,20 @@
 -- A data pass of either direction.
 -- Assumes nothing.
 use mathlib.Core.Path.{_≡_}
-use mathlib.Core.Bool.{Bool, true, false, cond, not, _&&_, _||_}
-use mathlib.Core.List.{List, [], _∷_, _++_}
+use mathlib.Core.Bool.{Bool, cond, _||_}
+use mathlib.Core.List.{List, _∷_, _++_}
 use mathlib.Core.Option.{Option, none, some}
 use Prim.Native.Nat.{ℕ}
-use lib.ListN.{length}
-use lib.Dec.{eqb, ltb}
+use lib.Dec.{eqb}
 use Rattle.wire.specs.Outcome.{Outcome, refused, accepted, Refusal, when, decide}
-use Rattle.pdi.specs.Unit.{bytesOf, tooManyBits}
+use Rattle.pdi.specs.Unit.{bytesOf}
 use Rattle.sheet.specs.Device.{Data}
 use Rattle.sheet.specs.Sheet.{sheetRefusals, sheetData}
 use Rattle.sheet.specs.declared.SyncManager.{SyncManager}
 use Rattle.pdo.specs.declared.PdoDirection.{PdoDirection}
 use Rattle.pdo.specs.Direction.{usageOf}
-use Rattle.pdo.specs.Bits.{someOf, Piece, byCoe, pathKind, bitsOf, piecesOf}
-use Rattle.uses.specs.Use.{coeEntry, usesOf, sizeOf}
+use Rattle.pdo.specs.Bits.{pathKind, bitsOf}
+use Rattle.uses.specs.Use.{usesOf, sizeOf}
 use Rattle.area.specs.Area.{entriesOf, flat, notEntries, notChannels}
 use Rattle.channels.specs.Channels.{channelsAfter}
 use Rattle.entries.specs.Entries.{plan, Planned, planned, configuredOf, entryRefusals}

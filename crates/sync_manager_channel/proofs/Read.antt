@@ -7,9 +7,10 @@ use lib.ListN.{length, getD}
 use borrow.Author.Tests.{eq-eqb}
 use Rattle.wire.specs.Outcome.{Refusal, refused, accepted, when, decide}
 use Rattle.wire.proofs.Order.{passed, passed-answer, stopped}
-use Rattle.sync_manager_channel.specs.declared.Control.{Control}
+use Rattle.channel_bytes.specs.declared.Control.{Control}
+use Rattle.channel_bytes.specs.Bytes.{controlAt, unnamed, readControl}
 use Rattle.sync_manager_channel.specs.declared.SyncManagerChannel.{SyncManagerChannel}
-use Rattle.sync_manager_channel.specs.Image.{controlAt, unnamed, channelOf, readControl, readChannel}
+use Rattle.sync_manager_channel.specs.Image.{channelOf, readChannel}
 
 abbrev five : List ℕ → List Refusal
 five l = when 5 (unnamed (getD l 4 0)) ∷ []

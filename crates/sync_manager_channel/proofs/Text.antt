@@ -6,10 +6,10 @@ use native.Mathlib.Omega.{arith}
 use lib.ListN.{length, length-append}
 use Rattle.wire.specs.Text.{enabledText}
 use Rattle.wire.proofs.Digits.{digits-length, decimal-length}
-use Rattle.sync_manager_channel.specs.declared.OperationMode.{OperationMode}
-use Rattle.sync_manager_channel.specs.declared.OperationMode.the-variants.{Normal, Mailbox}
-use Rattle.sync_manager_channel.specs.declared.Direction.{Direction}
-use Rattle.sync_manager_channel.specs.declared.Direction.the-variants.{MasterRead, MasterWrite}
+use Rattle.channel_bytes.specs.declared.OperationMode.{OperationMode}
+use Rattle.channel_bytes.specs.declared.OperationMode.the-variants.{Normal, Mailbox}
+use Rattle.channel_bytes.specs.declared.Direction.{Direction}
+use Rattle.channel_bytes.specs.declared.Direction.the-variants.{MasterRead, MasterWrite}
 use Rattle.sync_manager_channel.specs.declared.SyncManagerChannel.{SyncManagerChannel}
 use Rattle.sync_manager_channel.specs.Text.{areaText, directionText, modeText, stateText, channelText}
 

@@ -3,10 +3,10 @@
 use mathlib.Core.List.{List, [], _∷_, _++_}
 use Prim.Native.Nat.{ℕ}
 use Rattle.wire.specs.Text.{hexOf, decimalOf, enabledText}
-use Rattle.sync_manager_channel.specs.declared.OperationMode.{OperationMode}
-use Rattle.sync_manager_channel.specs.declared.OperationMode.the-variants.{Normal, Mailbox}
-use Rattle.sync_manager_channel.specs.declared.Direction.{Direction}
-use Rattle.sync_manager_channel.specs.declared.Direction.the-variants.{MasterRead, MasterWrite}
+use Rattle.channel_bytes.specs.declared.OperationMode.{OperationMode}
+use Rattle.channel_bytes.specs.declared.OperationMode.the-variants.{Normal, Mailbox}
+use Rattle.channel_bytes.specs.declared.Direction.{Direction}
+use Rattle.channel_bytes.specs.declared.Direction.the-variants.{MasterRead, MasterWrite}
 use Rattle.sync_manager_channel.specs.declared.SyncManagerChannel.{SyncManagerChannel}
 
 -- start 0x1000, size 0x0080 (128)

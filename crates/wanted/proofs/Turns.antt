@@ -18,8 +18,8 @@ use Rattle.grammar.specs.Lists.{listOf}
 use Rattle.sheet.specs.declared.SyncManager.{SyncManager}
 use Rattle.pdo.specs.Bits.{someOf, Piece, piecesFrom}
 use Rattle.uses.specs.Use.{firstWith}
-use Rattle.sync_manager_channel.specs.declared.OperationMode.the-variants.{Normal}
-use Rattle.sync_manager_channel.specs.declared.Direction.the-variants.{MasterRead}
+use Rattle.channel_bytes.specs.declared.OperationMode.the-variants.{Normal}
+use Rattle.channel_bytes.specs.declared.Direction.the-variants.{MasterRead}
 
 -- what stands in an array of sync managers before anything is written there
 abbrev pub blank : SyncManager

@@ -1,7 +1,7 @@
 -- `channels::sm_config`: a sync manager is enabled where the sheet says so and its size is above 0.
 -- Assumes nothing.
 use mathlib.Core.Path.{refl}
-use Rattle.sync_manager_channel.specs.Image.{statusAt}
+use Rattle.channel_bytes.specs.Bytes.{statusAt}
 use Rattle.channels.proofs.sm_config.Statement.{statement}
 use Rattle.channels.proofs.sm_config.Tie as tie
 

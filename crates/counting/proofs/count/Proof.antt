@@ -1,7 +1,6 @@
 -- `counting::count`: as many multipliers count as byte 10 says.
 -- Assumes nothing.
 use mathlib.Core.Path.{sym, _∙_, ap}
-use mathlib.Core.List.{List}
 use Prim.Native.Nat.{ℕ}
 use denote.Ref.{now}
 use lib.ListN.{take}

@@ -1,6 +1,5 @@
 -- `counting::count_data`: what the pass wants decides 6 and 7; the sizes laid decide 9 and the position.
 -- Assumes nothing.
-use mathlib.Core.Path.{_≡_}
 use denote.Ref.{now}
 use borrow.Author.Needs.{needs}
 use Rattle.sheet.specs.Device.{Data, dataOf}

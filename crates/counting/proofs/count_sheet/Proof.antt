@@ -1,6 +1,6 @@
 -- `counting::count_sheet`: what reading answers, then what counting its data answers.
 -- Assumes nothing.
-use mathlib.Core.Path.{_≡_, sym, _∙_, ap}
+use mathlib.Core.Path.{sym, _∙_, ap}
 use denote.Ref.{now}
 use borrow.Author.Needs.{needs}
 use Rattle.sheet.specs.Device.{dataOf}

@@ -1,15 +1,12 @@
 -- `counting::lay_out`: what is found and where the rest ends are what all find and where all end.
 -- Assumes nothing.
 use mathlib.Core.Path.{_≡_, refl, sym, _∙_, ap}
-use mathlib.Core.List.{List, [], _∷_}
-use mathlib.Core.Option.{none}
 use Prim.Native.Nat.{_+_, _-_, _*_, _≤_, _<_, min}
 use native.Mathlib.Nat.{min-le-right}
 use native.Mathlib.Omega.{arith}
 use lib.ListN.{length, getD, take, drop}
-use Rattle.channels.specs.Channels.{noWish}
 use Rattle.wanted.proofs.Turns.{blank, turn, over}
-use Rattle.counting.specs.Count.{spotBy, endFrom, foundFrom}
+use Rattle.counting.specs.Count.{endFrom, foundFrom}
 use Rattle.counting.proofs.Counting.{Kept, nothing-yet, kept-turn, kept-end, end-turn, end-end}
 use Rattle.counting.proofs.lay_out.Statement.{statement}
 use Rattle.counting.proofs.lay_out.Tie as tie

@@ -6,7 +6,7 @@ use native.Mathlib.Omega.{arith}
 use denote.Ref.{now}
 use lib.ListN.{getD}
 use Rattle.wire.specs.Outcome.{refused, accepted}
-use Rattle.sync_manager_channel.specs.Image.{readControl, controlReadOf}
+use Rattle.channel_bytes.specs.Bytes.{readControl, controlReadOf}
 use Rattle.sheet.proofs.Named.{manager-control, manager-read, manager-refused}
 use borrow.Author.Needs.{needs}
 use Rattle.sheet.proofs.manager_at.Statement.{statement}

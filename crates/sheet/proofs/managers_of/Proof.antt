@@ -6,7 +6,7 @@ use Prim.Native.Nat.{_-_, _≤_}
 use native.Mathlib.Omega.{arith}
 use denote.Ref.{now}
 use Rattle.wire.specs.Outcome.{accepted}
-use Rattle.sync_manager_channel.specs.Image.{controlAt}
+use Rattle.channel_bytes.specs.Bytes.{controlAt}
 use Rattle.grammar.specs.Lists.{listOf, someBelow}
 use Rattle.sheet.specs.Sheet.{managerPlace, unnamedAt, managersOf, readManager, managerReadOf}
 use Rattle.sheet.proofs.Named.{managers-on, managers-named, managers-stop, managers-end}

@@ -1,7 +1,7 @@
 -- `sheet::refused`: nothing beside a refusal.
 -- Assumes nothing.
 use mathlib.Core.Path.{refl}
-use Rattle.sync_manager_channel.specs.Image.{controlAt}
+use Rattle.channel_bytes.specs.Bytes.{controlAt}
 use Rattle.sheet.proofs.refused.Statement.{statement}
 use Rattle.sheet.proofs.refused.Tie as tie
 

@@ -1,6 +1,5 @@
 -- `subdevice::plan_data`: what the pass wants decides 6 and 7, then the entries decide; the images are written last.
 -- Assumes nothing.
-use mathlib.Core.Path.{_≡_}
 use denote.Ref.{now}
 use Rattle.sheet.specs.Device.{Data, dataOf}
 use Rattle.subdevice.proofs.Planning.{unwanted-plans, mapped-plans, refused-plans}

@@ -1,6 +1,6 @@
 -- `translation::translate`: 1, then 11, then the first entry that holds the address.
 -- Assumes nothing.
-use mathlib.Core.Path.{_≡_, sym, _∙_}
+use mathlib.Core.Path.{sym, _∙_}
 use denote.Ref.{now}
 use borrow.Author.Needs.{needs}
 use Rattle.translation.specs.Translate.{reachedOf}

@@ -7,7 +7,7 @@ use native.Mathlib.Omega.{arith}
 use lib.ListN.{length, length-take, getD, take}
 use lib.Seq.{getD-take}
 use Rattle.channels.specs.Channels.{noWish}
-use Rattle.sync_manager_channel.specs.Image.{controlAt}
+use Rattle.channel_bytes.specs.Bytes.{controlAt}
 use Rattle.sheet.specs.declared.SyncManager.{SyncManager}
 use Rattle.sheet.specs.Sheet.{noManager}
 use Rattle.uses.proofs.Held.{Collecting, collecting-starts, collecting-at, collecting-takes, collecting-skips, collecting-ends}

@@ -2,8 +2,6 @@ use borrow.Author.Tests.{lt-ltb, le-ltb}
 use borrow.Author.Needs.{needs}
 use Rattle.pdi.proofs.BitLen.round_up.Statement.{statement}
 use Rattle.pdi.proofs.BitLen.round_up.Tie as tie
-use Rattle.pdi.proofs.BitLen.round_up.Reads as reads
-use Rattle.pdi.proofs.BitLen.round_up.Lts as lts
 
 -- src/lib.rt:30:13
 returns : tie.Need-returns

@@ -2,8 +2,6 @@ use borrow.Author.Tests.{lt-ltb, le-ltb}
 use borrow.Author.Needs.{needs}
 use Rattle.pdi.proofs.PdiOffset.increment.Statement.{statement}
 use Rattle.pdi.proofs.PdiOffset.increment.Tie as tie
-use Rattle.pdi.proofs.PdiOffset.increment.Reads as reads
-use Rattle.pdi.proofs.PdiOffset.increment.Lts as lts
 
 -- src/lib.rt:62:20
 cast-end : tie.Need-cast-end

@@ -1,8 +1,6 @@
 use borrow.Author.Tests.{lt-ltb, le-ltb}
 use Rattle.pdi.proofs.PdiSegment.less.Statement.{statement}
 use Rattle.pdi.proofs.PdiSegment.less.Tie as tie
-use Rattle.pdi.proofs.PdiSegment.less.Reads as reads
-use Rattle.pdi.proofs.PdiSegment.less.Lts as lts
 
 -- src/lib.rt:114:13
 returns : tie.Need-returns

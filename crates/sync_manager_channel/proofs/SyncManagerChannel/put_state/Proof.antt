@@ -12,8 +12,8 @@ slice-aggregate-put-bytes c = search needs
 put-bytes-requires : tie.Need-put-bytes-requires
 put-bytes-requires c κs = search needs
 
-fmt-requires : tie.Need-fmt-requires
-fmt-requires c κs = search needs
+put-direction-requires : tie.Need-put-direction-requires
+put-direction-requires c κs = search needs
 
 slice-aggregate-put-bytes-2 : tie.Need-slice-aggregate-put-bytes-2
 slice-aggregate-put-bytes-2 c = search needs
@@ -21,8 +21,8 @@ slice-aggregate-put-bytes-2 c = search needs
 put-bytes-requires-2 : tie.Need-put-bytes-requires-2
 put-bytes-requires-2 c κs = search needs
 
-fmt-requires-2 : tie.Need-fmt-requires-2
-fmt-requires-2 c κs = search needs
+put-mode-requires : tie.Need-put-mode-requires
+put-mode-requires c κs = search needs
 
 slice-aggregate-put-bytes-3 : tie.Need-slice-aggregate-put-bytes-3
 slice-aggregate-put-bytes-3 c = search needs
@@ -53,7 +53,7 @@ returns c =
     let first = direction .before .before .before .before in
     then
     (then
-    (then (then (then (first .put-bytes .ensures) (direction .fmt .ensures)) (named .put-bytes2 .ensures)) (mode .fmt2 .ensures))
+    (then (then (then (first .put-bytes .ensures) (direction .put-direction .ensures)) (named .put-bytes2 .ensures)) (mode .put-mode .ensures))
     (comma .put-bytes3 .ensures))
     (enabled .put-either .ensures)
 
@@ -63,10 +63,10 @@ put-state-spec =
     (tie.spec
     slice-aggregate-put-bytes
     put-bytes-requires
-    fmt-requires
+    put-direction-requires
     slice-aggregate-put-bytes-2
     put-bytes-requires-2
-    fmt-requires-2
+    put-mode-requires
     slice-aggregate-put-bytes-3
     put-bytes-requires-3
     slice-aggregate-put-either

@@ -4,7 +4,8 @@ use mathlib.Core.Path.{_≡_, sym, _∙_, ap}
 use native.Mathlib.Omega.{arith}
 use lib.ListN.{getD}
 use Rattle.wire.specs.Outcome.{refused, accepted}
-use Rattle.sync_manager_channel.specs.Image.{channelOf, readControl, controlReadOf}
+use Rattle.channel_bytes.specs.Bytes.{readControl, controlReadOf}
+use Rattle.sync_manager_channel.specs.Image.{channelOf}
 use Rattle.sync_manager_channel.proofs.Read.{control-read, channel-read, channel-refused}
 use borrow.Author.Needs.{needs}
 use Rattle.sync_manager_channel.proofs.SyncManagerChannel.unpack.Statement.{statement}

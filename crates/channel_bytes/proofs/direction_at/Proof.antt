@@ -1,0 +1,14 @@
+-- `direction_at`: the test says which case of `directionAt` holds.
+-- Assumes nothing.
+use borrow.Author.Tests.{eq-eqb, ne-eqb}
+use Rattle.channel_bytes.proofs.direction_at.Statement.{statement}
+use Rattle.channel_bytes.proofs.direction_at.Tie as tie
+
+returns : tie.Need-returns
+returns c = search eq-eqb
+
+returns-2 : tie.Need-returns-2
+returns-2 c = search ne-eqb
+
+pub direction-at-spec : {M : Type 1} → statement M
+direction-at-spec = tie.close (tie.spec returns returns-2)

@@ -1,0 +1,14 @@
+-- `mode_at`: the test says which case of `modeAt` holds.
+-- Assumes nothing.
+use borrow.Author.Tests.{eq-eqb, ne-eqb}
+use Rattle.channel_bytes.proofs.mode_at.Statement.{statement}
+use Rattle.channel_bytes.proofs.mode_at.Tie as tie
+
+returns : tie.Need-returns
+returns c = search eq-eqb
+
+returns-2 : tie.Need-returns-2
+returns-2 c = search ne-eqb
+
+pub mode-at-spec : {M : Type 1} → statement M
+mode-at-spec = tie.close (tie.spec returns returns-2)

@@ -1,0 +1,4 @@
+-- Laws that belong to no one function.
+pub mod Recorded
+pub mod Mailboxes
+pub mod Unique
