@@ -1,14 +1,14 @@
 -- Planning as code goes: from what the pass wants to its promise.
 -- Assumes nothing.
 use mathlib.Core.Path.{_≡_, refl, sym, _∙_, ap}
-use mathlib.Core.Bool.{Bool, true, false, cond}
+use mathlib.Core.Bool.{Bool, true, false, cond, not}
 use mathlib.Core.List.{List, _∷_}
 use mathlib.Core.Option.{none, some}
 use Prim.Native.Nat.{ℕ, _<_}
 use lib.ListN.{length, getD}
 use lib.Dec.{eqb}
+use borrow.Author.Tests.{eq-eqb}
 use Rattle.wire.specs.Outcome.{Outcome, refused, accepted, when, decide}
-use Rattle.wire.proofs.Copied.{over-same}
 use Rattle.wire.proofs.Order.{stopped}
 use Rattle.pdi.specs.Unit.{bytesOf}
 use Rattle.pdi.specs.declared.PdiOffset.{PdiOffset}
@@ -16,8 +16,7 @@ use Rattle.pdi.specs.declared.PdiSegment.{PdiSegment}
 use Rattle.sheet.specs.Device.{Data}
 use Rattle.sheet.specs.Sheet.{noManager}
 use Rattle.sheet.specs.declared.Answer.the-variants as answer
-use Rattle.area.specs.Area.{padded, entriesOf, flat}
-use Rattle.area.proofs.Flat.{length-chunks, rows-chunks, flat-bytes, padded-same}
+use Rattle.area.specs.Area.{entriesOf, flat}
 use Rattle.channels.specs.Channels.{noWish, wishOf, wished, channelsAfter, channelArea}
 use Rattle.channels.proofs.After.{channel-area-whole, channels-same}
 use Rattle.pdo.specs.declared.PdoDirection.{PdoDirection}
@@ -27,9 +26,8 @@ use Rattle.entries.specs.declared.Configured.{Configured}
 use Rattle.entries.specs.declared.Configured.the-variants.{Mapped, Refused}
 use Rattle.uses.specs.declared.Route.{Route}
 use Rattle.uses.specs.Use.{coeEntry, total, usesOf, usesFrom, sizeOf}
-use Rattle.entries.specs.Entries.{plan, Planned, planned, configuredOf, entryRefusals, entriesOutcome, entryArea, WritesEntries}
+use Rattle.entries.specs.Entries.{Planned, planned, configuredOf, entryRefusals, entriesOutcome, entryArea, WritesEntries}
 use Rattle.uses.proofs.Pieces.{uses-are, route-total}
-use Rattle.entries.proofs.Kept.{plan-length, rows-plan}
 use Rattle.wanted.specs.declared.Wanted.{Wanted}
 use Rattle.wanted.specs.Wanted.{wantedRefusals, wishesOf, wantedFrom, Wants}
 use Rattle.wanted.proofs.Wanting.{wish-at, wanted-refused, wanted-accepted}
@@ -40,17 +38,10 @@ wish-size : (b : Bool) (size : ℕ) → wishOf (cond b (record { on = true; size
 wish-size true size = refl
 wish-size false size = refl
 
--- an area of 256 bytes is all entries
-entries-whole : (o : Outcome Planned) (d : Data) (ws : List ℕ) (r : PdoDirection) (offset : ℕ) (area : List ℕ) → length area ≡ 256 → entryArea o r offset (usesOf d ws r) area ≡ entriesAfter o d ws r offset area
-entries-whole (refused n) d ws r offset area h = refl
-entries-whole (accepted p) d ws r offset area h =
-    let es = entriesOf 16 (padded 256 area) in
-    let whole = padded-same 256 area h in
-    let us = usesOf d ws r in
-    let rows = rows-plan r offset us es (rows-chunks 16 16 (padded 256 area) (ap length whole ∙ h)) in
-    let many = plan-length r offset us es ∙ length-chunks 16 16 (padded 256 area) in
-    over-same (flat (plan r offset us es)) area (flat-bytes 16 16 (plan r offset us es) (many, rows) ∙ sym h)
-    ∙ ap (λ (l : List ℕ). flat (plan r offset us (entriesOf 16 l))) whole
+-- what the entries become, said of the uses and of the pass
+entries-same : (o : Outcome Planned) (d : Data) (ws : List ℕ) (r : PdoDirection) (offset : ℕ) (area : List ℕ) → entryArea o r offset (usesOf d ws r) area ≡ entriesAfter o d ws r offset area
+entries-same (refused n) d ws r offset area = refl
+entries-same (accepted p) d ws r offset area = refl
 
 module _ (d : Data) (ws : List ℕ) (r : PdoDirection) where
   -- what the wishes say is what the pass writes, and uses
@@ -108,16 +99,16 @@ module _ (d : Data) (ws : List ℕ) (r : PdoDirection) where
         size-then : total (usesFrom (x .route) (x .wishes) 0 (d .managers)) ≡ sizeOf d ws r
         size-then = ap (λ (y : Wanted). total (usesFrom (y .route) (y .wishes) 0 (d .managers))) all ∙ size
 
-        decided : entriesOutcome (usesFrom (x .route) (x .wishes) 0 (d .managers)) offset group (entriesOf 16 (padded 256 fmmus)) ≡ outcome
+        decided : entriesOutcome (usesFrom (x .route) (x .wishes) 0 (d .managers)) offset group fmmus ≡ outcome
         unfolding planOutcome
         decided =
             let six = wanted-accepted d ws r x h e .0 in
             let seven = wanted-accepted d ws r x h e .1 in
-            (λ i. decide (entryRefusals (uses-then i) (size-then i) offset group (entriesOf 16 (padded-same 256 fmmus long i))) (planned offset group (size-then i)))
+            (λ i. decide (when 1 (not (eq-eqb (length fmmus) 256 long i)) ∷ entryRefusals (uses-then i) (size-then i) offset group (entriesOf 16 fmmus)) (planned offset group (size-then i)))
             ∙ (λ i. decide (when 6 (sym six i) ∷ when 7 (sym seven i) ∷ entryRefusals (usesOf d ws r) (sizeOf d ws r) offset group (entriesOf 16 fmmus)) (planned offset group (sizeOf d ws r)))
 
         entries-then : fmmusThen ≡ entriesAfter outcome d ws r offset fmmus
-        entries-then = w .holds ∙ (λ i. entryArea (decided i) r offset (uses-then i) fmmus) ∙ entries-whole outcome d ws r offset fmmus long
+        entries-then = w .holds ∙ (λ i. entryArea (decided i) r offset (uses-then i) fmmus) ∙ entries-same outcome d ws r offset fmmus
 
         pub mapped-plans :
             (s : PdiSegment) (o : PdiOffset) (channelsThen : List ℕ) → length channels ≡ 128 → said ≡ Mapped s o → channelsThen ≡ channelArea (d .managers) (x .wishes) channels
