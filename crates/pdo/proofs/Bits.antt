@@ -12,21 +12,21 @@ use Rattle.sheet.specs.Sound.{Each, sum}
 use Rattle.sheet.specs.Device.{Pdo}
 use Rattle.grammar.proofs.Lists.{length-listOf, getD-listOf}
 use Rattle.pdo.specs.declared.Oversampling.{Oversampling}
-use Rattle.pdo.specs.Bits.{multiplierOf, multipliersOf, firstOf, othersOf, bitsOf, sumsOf}
+use Rattle.pdo.specs.Bits.{multiplierOf, multipliersOf, firstOf, othersOf, bitsOf, askedFor, sumsOf}
 use Rattle.pdo.proofs.Records.{product-bounded}
 
 abbrev pub noBits : BitLen
 noBits = record { 0 = 0 }
 
 -- sixteen of them
-pub sixteen : (kind : ℕ) (ps : List Pdo) (ws : List ℕ) → length (sumsOf kind ps ws) ≡ 16
+pub sixteen : (kind : ℕ) (asked : List Bool) (ps : List Pdo) (ws : List ℕ) → length (sumsOf kind asked ps ws) ≡ 16
 unfolding sumsOf
-sixteen kind ps ws = length-listOf (λ k. record { 0 = bitsOf kind k ps ws }) 16
+sixteen kind asked ps ws = length-listOf (λ k. record { 0 = cond (askedFor asked k) (bitsOf kind k ps ws) 0 }) 16
 
 -- what the sums hold for sync manager k
-pub tally-at : (kind k : ℕ) (ps : List Pdo) (ws : List ℕ) → k < 16 → getD (sumsOf kind ps ws) k noBits .0 ≡ bitsOf kind k ps ws
+pub tally-at : (kind : ℕ) (asked : List Bool) (k : ℕ) (ps : List Pdo) (ws : List ℕ) → k < 16 → getD (sumsOf kind asked ps ws) k noBits .0 ≡ cond (askedFor asked k) (bitsOf kind k ps ws) 0
 unfolding sumsOf
-tally-at kind k ps ws h = ap (λ (b : BitLen). b .0) (getD-listOf (λ n. record { 0 = bitsOf kind n ps ws }) 16 k noBits h)
+tally-at kind asked k ps ws h = ap (λ (b : BitLen). b .0) (getD-listOf (λ n. record { 0 = cond (askedFor asked n) (bitsOf kind n ps ws) 0 }) 16 k noBits h)
 
 -- what counts or doesn't
 pub at-most : (t : Bool) (x : ℕ) → cond t x 0 ≤ x

@@ -3,6 +3,7 @@
 use mathlib.Core.Bool.{Bool, false, cond, _&&_, _||_}
 use mathlib.Core.List.{List, [], _∷_, map}
 use Prim.Native.Nat.{ℕ, suc, _+_, _*_}
+use lib.ListN.{getD}
 use lib.Dec.{eqb, ltb}
 use Rattle.sheet.specs.Device.{Pdo, Data}
 use Rattle.pdi.specs.declared.BitLen.{BitLen}
@@ -53,12 +54,15 @@ bitsOf kind number [] ws = 0
 bitsOf kind number (p ∷ ps) ws =
     cond (eqb (p .kind) kind && eqb (p .manager) number) (sum (p .lengths) * firstOf ws) 0 + bitsOf kind number ps (othersOf ws)
 
--- the same as code holds it: what one PDO adds to the sync manager that it names, and the exact bits of sixteen
-abbrev pub partOf : ℕ → Pdo → ℕ → ℕ
-partOf kind p w = cond (eqb (p .kind) kind && ltb (p .manager) 16) (sum (p .lengths) * w) 0
+-- the same as code holds it, for those of sixteen sync managers that are asked for: what one PDO adds to the one that it names, and the exact bits of each
+abbrev pub askedFor : List Bool → ℕ → Bool
+askedFor asked k = getD asked k false
 
-unfoldable pub sumsOf : ℕ → List Pdo → List ℕ → List BitLen
-sumsOf kind ps ws = listOf (λ k. record { 0 = bitsOf kind k ps ws }) 16
+abbrev pub partOf : ℕ → List Bool → Pdo → ℕ → ℕ
+partOf kind asked p w = cond (eqb (p .kind) kind && (ltb (p .manager) 16 && askedFor asked (p .manager))) (sum (p .lengths) * w) 0
+
+unfoldable pub sumsOf : ℕ → List Bool → List Pdo → List ℕ → List BitLen
+sumsOf kind asked ps ws = listOf (λ k. record { 0 = cond (askedFor asked k) (bitsOf kind k ps ws) 0 }) 16
 
 -- a wanted sync manager: its number, its exact bits, its address
 pub record Piece : Type 0 where

@@ -87,13 +87,13 @@ fn sum_of(bytes: &[u8], from: usize, m: u8) -> u64
     sum_bytes(&bytes[from..])
 }
 
-// The bits of the PDO at a place.
+// The bits of the PDO at a place where its head stands whole.
 fn pdo_bits(bytes: &[u8], at: usize) -> u64
-    requires { ⌜ at ≤ 9223372036854775808 ⌝ }
+    requires { ⌜ at + 5 ≤ length (now bytes) ⌝ }
     ensures { λ r. ⌜ (r ≡ sum (pdoAt (now (bytes .entry)) at .lengths)) × (r ≤ 65535) ⌝ }
 {
-    if byte_at(bytes, at) == 0 {
-        return sum_of(bytes, at + 5, byte_at(bytes, at + 4));
+    if bytes[at] == 0 {
+        return sum_of(bytes, at + 5, bytes[at + 4]);
     }
     wire::be16(byte_at(bytes, at + 5), byte_at(bytes, at + 6)) as u64
 }
@@ -108,36 +108,59 @@ fn multiplier_at(multipliers: &[u8], i: usize) -> u64
     1
 }
 
-// What the PDO at a place adds to the sync manager that it names: nothing if it isn't of the kind, or names none of sixteen.
-fn part_of(bytes: &[u8], at: usize, kind: u8, multiplier: u64) -> u64
-    requires { ⌜ (at ≤ 9223372036854775808) × (multiplier ≤ 255) ⌝ }
-    ensures { λ r. ⌜ (r ≡ partOf kind (pdoAt (now (bytes .entry)) at) multiplier) × (r ≤ 16711425) ⌝ }
+// What the PDO at a place, number i, adds to the sync manager that it names: nothing if it isn't of the kind, or names one that isn't asked for.
+fn part_of(
+    bytes: &[u8],
+    at: usize,
+    kind: u8,
+    asked: [bool; 16],
+    multipliers: &[u8],
+    i: usize,
+) -> u64
+    requires { ⌜ at + 5 ≤ length (now bytes) ⌝ }
+    ensures { λ r. ⌜ (r ≡ partOf kind asked (pdoAt (now (bytes .entry)) at) (getD (now (multipliers .entry)) i 1)) × (r ≤ 16711425) ⌝ }
 {
-    if byte_at(bytes, at) != kind {
+    if bytes[at] != kind {
         return 0;
     }
-    if 15 < byte_at(bytes, at + 1) {
+    let manager = wire::wide(bytes[at + 1]);
+    if 15 < manager {
         return 0;
     }
-    pdo_bits(bytes, at) * multiplier
+    if !asked[manager] {
+        return 0;
+    }
+    pdo_bits(bytes, at) * multiplier_at(multipliers, i)
 }
 
-// The exact bits of each of sixteen sync managers: over the p PDO records from `at` on that are of the kind, bits times multiplier.
-pub fn tally(bytes: &[u8], at: usize, p: u8, kind: u8, multipliers: &[u8]) -> [BitLen; 16]
-    ensures { λ r. ⌜ r ≡ sumsOf kind (pdosFrom (now (bytes .entry)) p at) (now (multipliers .entry)) ⌝ }
+// The exact bits of each sync manager asked for: over the p PDO records from `at` on that are of the kind, bits times multiplier.
+pub fn tally(
+    bytes: &[u8],
+    at: usize,
+    p: u8,
+    kind: u8,
+    asked: [bool; 16],
+    multipliers: &[u8],
+) -> [BitLen; 16]
+    ensures { λ r. ⌜ r ≡ sumsOf kind asked (pdosFrom (now (bytes .entry)) p at) (now (multipliers .entry)) ⌝ }
 {
     let mut sums = [BitLen(0); 16];
+    if bytes.len() < 5 {
+        return sums;
+    }
+    // a record whose head isn't whole has no bits, and none follows it
+    let last = bytes.len() - 5;
     let mut place = at;
     let mut i = 0;
     let count = wire::wide(p);
     while i < count {
-        if bytes.len() <= place {
+        if last < place {
             return sums;
         }
-        let slot = wire::wide(byte_at(bytes, place + 1) % 16);
+        let slot = wire::wide(bytes[place + 1] % 16);
         let before = sums[slot].0;
-        sums[slot] = BitLen(before + part_of(bytes, place, kind, multiplier_at(multipliers, i)));
-        place = place + 5 + wire::wide(byte_at(bytes, place + 4));
+        sums[slot] = BitLen(before + part_of(bytes, place, kind, asked, multipliers, i));
+        place = place + 5 + wire::wide(bytes[place + 4]);
         i += 1;
     }
     sums

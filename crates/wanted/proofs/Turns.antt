@@ -5,10 +5,11 @@ use mathlib.Core.Bool.{Bool, true, false, cond, _&&_, false≢true}
 use mathlib.Core.List.{List, [], _∷_, _++_}
 use Prim.Native.Nat.{ℕ, suc, _+_, _-_, _<_, _≤_, min}
 use native.Mathlib.Nat.{min-le-left, min-le-right}
+use native.Mathlib.Decide.{ℕ-discrete}
 use native.Mathlib.Numerals.{add-one}
 use native.Mathlib.Omega.{arith}
-use lib.ListN.{length, getD, take, drop, replicate, length-take, drop-of-length-le}
-use lib.Seq.{drop-cons, getD-take}
+use lib.ListN.{length, getD, take, drop, set, replicate, length-take, drop-of-length-le}
+use lib.Seq.{drop-cons, getD-take, getD-set-same, getD-set-other}
 use lib.Dec.{eqb}
 use borrow.Author.Tests.{eq-eqb, ne-eqb}
 use Rattle.wire.specs.Outcome.{refused, accepted, when, decide}
@@ -16,7 +17,7 @@ use Rattle.wire.proofs.Lists.{getD-any}
 use Rattle.wire.proofs.Order.{never}
 use Rattle.grammar.specs.Lists.{listOf}
 use Rattle.sheet.specs.declared.SyncManager.{SyncManager}
-use Rattle.pdo.specs.Bits.{someOf, Piece, piecesFrom}
+use Rattle.pdo.specs.Bits.{someOf, askedFor, Piece, piecesFrom}
 use Rattle.uses.specs.Use.{firstWith}
 use Rattle.channel_bytes.specs.declared.OperationMode.the-variants.{Normal}
 use Rattle.channel_bytes.specs.declared.Direction.the-variants.{MasterRead}
@@ -110,3 +111,13 @@ ask-none t usage bits k l e = rw e
 pub none-yet : {A : Type 0} (f : ℕ → A) (d : A) → replicate 16 d ≡ listOf f 0 ++ replicate (16 - 0) d
 unfolding listOf
 none-yet f d = refl
+
+-- one more sync manager is asked after; the numbers before it stay as they were
+pub asked-turn :
+    (asked : List Bool) (f : ℕ → Bool) (k : ℕ) (b : Bool) → k < length asked → ((j : ℕ) → j < k → askedFor asked j ≡ f j) → b ≡ f k
+    → (j : ℕ) → j < k + 1 → askedFor (set asked k b) j ≡ f j
+asked-turn asked f k b h before e j l = go (ℕ-discrete j k)
+  where
+    go : Dec (j ≡ k) → askedFor (set asked k b) j ≡ f j
+    go (yes q) = ap (askedFor (set asked k b)) q ∙ getD-set-same asked k b false h ∙ e ∙ ap f (sym q)
+    go (no q) = getD-set-other asked k j b false q ∙ before j (omega arith)

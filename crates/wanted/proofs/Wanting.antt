@@ -1,15 +1,16 @@
 -- What a pass wants as code goes: what it has worked out by the time it decides 6 and 7, and what follows.
 -- Assumes nothing.
-use mathlib.Core.Path.{_≡_, refl, sym, _∙_, ap}
+use mathlib.Core.Path.{_≡_, refl, sym, _∙_, ap, subst}
 use mathlib.Core.Bool.{Bool, true, false, cond, _&&_}
 use mathlib.Core.List.{List, [], _∷_, _++_}
 use Prim.Native.Nat.{ℕ, zero, suc, _+_, _-_, _<_, _≤_}
+use native.Mathlib.Nat.{add-zero, zero-add}
 use native.Mathlib.Omega.{arith}
 use lib.ListN.{length, getD, replicate}
 use lib.Dec.{eqb, ltb}
 use Rattle.wire.specs.Outcome.{Refusal, refused, when, decide}
 use Rattle.wire.proofs.Order.{never}
-use Rattle.pdi.specs.Unit.{tooManyBits}
+use Rattle.pdi.specs.Unit.{bytesOf, tooManyBits}
 use Rattle.pdi.specs.declared.BitLen.{BitLen}
 use Rattle.sheet.specs.Device.{Data}
 use Rattle.grammar.specs.Lists.{listOf}
@@ -23,30 +24,42 @@ use Rattle.channels.specs.Channels.{noWish}
 use Rattle.pdo.specs.declared.PdoDirection.{PdoDirection}
 use Rattle.pdo.specs.declared.Terms.{Terms}
 use Rattle.pdo.specs.Direction.{usageOf, termsOf}
-use Rattle.pdo.specs.Bits.{byCoe, pathKind, bitsOf, sumsOf, piecesFrom, piecesOf}
+use Rattle.pdo.specs.Bits.{byCoe, pathKind, bitsOf, askedFor, sumsOf, Piece, piecesFrom, piecesOf}
 use Rattle.pdo.proofs.Bits.{tally-at}
 use Rattle.uses.specs.Use.{firstWith, coeEntry}
 use Rattle.wanted.specs.declared.Wanted.{Wanted}
-use Rattle.wanted.specs.Wishes.{bitsIn, dataWish, someTooWide, filled, wishesAfter}
+use Rattle.wanted.specs.Wishes.{AskedFor, wish, bitsIn, dataWish, someTooWide, filled, wishesAfter}
 use Rattle.wanted.specs.Wanted.{someTooMany, noEntry, wantedRefusals, wishesOf, wantedFrom, wantedAfter, Wants}
 use Rattle.wanted.proofs.Turns.{ask, was-refused}
 
--- what code has worked out: the path, the direction's terms, the exact bits of sixteen
+-- what code has worked out: the path, the direction's terms, which sync managers are asked for, and their exact bits
 pub record Known (d : Data) (ws : List ℕ) (r : PdoDirection) (path : Bool) (terms : Terms) (sums : List BitLen) : Type 0 where
   pub pathIs : path ≡ byCoe d
   pub termsAre : terms ≡ termsOf r
-  pub sumsAre : sums ≡ sumsOf (cond path 0 (terms .kind)) (d .pdos) ws
+  pub asked : List Bool
+  pub askedAre : AskedFor (terms .usage) asked (d .managers)
+  pub sumsAre : sums ≡ sumsOf (cond path 0 (terms .kind)) asked (d .pdos) ws
   pub few : length (d .managers) ≤ 16
 
--- bits that agree give the same pieces
+-- bits that agree where the usage is had give the same pieces
+abbrev had : ℕ → List SyncManager → ℕ → Bool
+had usage ms j = eqb (getD ms j noManager .«usage_type») usage
+
 pieces-same :
-    (usage : ℕ) (f g : ℕ → ℕ) (k : ℕ) (ms : List SyncManager) → ((j : ℕ) → j < k + length ms → f j ≡ g j) → piecesFrom usage f k ms ≡ piecesFrom usage g k ms
+    (usage : ℕ) (f g : ℕ → ℕ) (k : ℕ) (ms : List SyncManager) → ((j : ℕ) → j < length ms → had usage ms j ≡ true → f (k + j) ≡ g (k + j)) → piecesFrom usage f k ms ≡ piecesFrom usage g k ms
 unfolding piecesFrom
 pieces-same usage f g k [] h = refl
 pieces-same usage f g k (m ∷ ms) h =
-    let here = h k (omega arith) in
-    let rest = pieces-same usage f g (suc k) ms (λ j l. h j (omega arith)) in
-    λ i. cond (eqb (m .«usage_type») usage) (record { number = k; bits = here i; address = m .«start_addr» } ∷ rest i) (rest i)
+    go (eqb (m .«usage_type») usage) refl
+    (pieces-same usage f g (suc k) ms (λ j l e. let q : k + suc j ≡ suc k + j = omega arith in subst (λ (i : ℕ). f i ≡ g i) q (h (suc j) (omega arith) e)))
+  where
+    piece : ℕ → Piece
+    piece bits = record { number = k; bits = bits; address = m .«start_addr» }
+
+    go : (b : Bool) → eqb (m .«usage_type») usage ≡ b → piecesFrom usage f (suc k) ms ≡ piecesFrom usage g (suc k) ms
+        → cond b (piece (f k) ∷ piecesFrom usage f (suc k) ms) (piecesFrom usage f (suc k) ms) ≡ cond b (piece (g k) ∷ piecesFrom usage g (suc k) ms) (piecesFrom usage g (suc k) ms)
+    go true e rest = let here : f k ≡ g k = subst (λ (i : ℕ). f i ≡ g i) (add-zero k) (h 0 (omega arith) e) in λ i. piece (here i) ∷ rest i
+    go false e rest = rest
 
 -- and the same list by number
 list-same : {A : Type 0} (f g : ℕ → A) (n : ℕ) → ((j : ℕ) → j < n → f j ≡ g j) → listOf f n ≡ listOf g n
@@ -68,17 +81,20 @@ unfolding wishesOf
 wish-at d ws r j h = filled-at (λ m k. dataWish (m .«usage_type») (usageOf r) (bitsOf (pathKind d r) k (d .pdos) ws)) (d .managers) j h
 
 module _ {d : Data} {ws : List ℕ} {r : PdoDirection} {path : Bool} {terms : Terms} {sums : List BitLen} (k : Known d ws r path terms sums) where
-  bits-are : (j : ℕ) → j < 16 → bitsIn sums j ≡ bitsOf (pathKind d r) j (d .pdos) ws
-  bits-are j h =
-      let e : sums ≡ sumsOf (pathKind d r) (d .pdos) ws = k .sumsAre ∙ (λ i. sumsOf (cond (k .pathIs i) 0 (k .termsAre i .kind)) (d .pdos) ws) in
-      ap (λ (s : List BitLen). bitsIn s j) e ∙ tally-at (pathKind d r) j (d .pdos) ws h
+  bits-are : (j : ℕ) → j < length (d .managers) → had (usageOf r) (d .managers) j ≡ true → bitsIn sums j ≡ bitsOf (pathKind d r) j (d .pdos) ws
+  bits-are j h t =
+      let few = k .few in
+      let asked = k .asked in
+      let on : askedFor asked j ≡ true = k .askedAre j h ∙ (λ i. had (k .termsAre i .usage) (d .managers) j) ∙ t in
+      let e : sums ≡ sumsOf (pathKind d r) asked (d .pdos) ws = k .sumsAre ∙ (λ i. sumsOf (cond (k .pathIs i) 0 (k .termsAre i .kind)) asked (d .pdos) ws) in
+      ap (λ (s : List BitLen). bitsIn s j) e ∙ tally-at (pathKind d r) asked j (d .pdos) ws (omega arith) ∙ ap (λ (b : Bool). cond b (bitsOf (pathKind d r) j (d .pdos) ws) 0) on
 
   pieces-are : piecesFrom (terms .usage) (bitsIn sums) 0 (d .managers) ≡ piecesOf d ws r
   unfolding piecesOf
   pieces-are =
-      let few = k .few in
       (λ i. piecesFrom (k .termsAre i .usage) (bitsIn sums) 0 (d .managers))
-      ∙ pieces-same (usageOf r) (bitsIn sums) (λ j. bitsOf (pathKind d r) j (d .pdos) ws) 0 (d .managers) (λ j l. bits-are j (omega arith))
+      ∙ pieces-same (usageOf r) (bitsIn sums) (λ j. bitsOf (pathKind d r) j (d .pdos) ws) 0 (d .managers)
+      (λ j l t. subst (λ (i : ℕ). bitsIn sums i ≡ bitsOf (pathKind d r) i (d .pdos) ws) (sym (zero-add j)) (bits-are j l t))
 
   too-wide-is : someTooWide (terms .usage) sums (d .managers) ≡ someTooMany d ws r
   unfolding someTooMany
@@ -104,16 +120,21 @@ module _ {d : Data} {ws : List ℕ} {r : PdoDirection} {path : Bool} {terms : Te
       let f : someTooMany d ws r ≡ false = sym too-wide-is ∙ e in
       h ∙ rw (f, t)
 
+  -- the wish of each sync manager: its bits count only where it has the usage
+  wish-same : (j : ℕ) → j < length (d .managers) → dataWish (getD (d .managers) j noManager .«usage_type») (terms .usage) (bitsIn sums j) ≡ dataWish (getD (d .managers) j noManager .«usage_type») (usageOf r) (bitsOf (pathKind d r) j (d .pdos) ws)
+  wish-same j l = (λ i. dataWish (getD (d .managers) j noManager .«usage_type») (k .termsAre i .usage) (bitsIn sums j)) ∙ go (had (usageOf r) (d .managers) j) refl
+    where
+      go : (b : Bool) → had (usageOf r) (d .managers) j ≡ b → cond b (wish (bytesOf (bitsIn sums j))) noWish ≡ cond b (wish (bytesOf (bitsOf (pathKind d r) j (d .pdos) ws))) noWish
+      go true t = ap (λ (n : ℕ). wish (bytesOf n)) (bits-are j l t)
+      go false t = refl
+
   -- 6 and 7 don't hold: then the wishes are those of the sync managers
   wishes-are : someTooWide (terms .usage) sums (d .managers) ≡ false → wishesAfter (terms .usage) sums (d .managers) ≡ wishesOf d ws r
   unfolding wishesAfter wishesOf
   wishes-are six =
-      let few = k .few in
       let f : SyncManager → ℕ → Wish = λ m j. dataWish (m .«usage_type») (terms .usage) (bitsIn sums j) in
-      let same : (j : ℕ) → j < length (d .managers) → f (getD (d .managers) j noManager) j ≡ dataWish (getD (d .managers) j noManager .«usage_type») (usageOf r) (bitsOf (pathKind d r) j (d .pdos) ws) =
-      λ j l. (λ i. dataWish (getD (d .managers) j noManager .«usage_type») (k .termsAre i .usage) (bits-are j (omega arith) i)) in
       (λ i. cond (six i) (replicate 16 noWish) (filled f (d .managers)))
-      ∙ (λ i. list-same (λ j. f (getD (d .managers) j noManager) j) (λ j. dataWish (getD (d .managers) j noManager .«usage_type») (usageOf r) (bitsOf (pathKind d r) j (d .pdos) ws)) (length (d .managers)) same i ++ replicate (16 - length (d .managers)) noWish)
+      ∙ (λ i. list-same (λ j. f (getD (d .managers) j noManager) j) (λ j. dataWish (getD (d .managers) j noManager .«usage_type») (usageOf r) (bitsOf (pathKind d r) j (d .pdos) ws)) (length (d .managers)) wish-same i ++ replicate (16 - length (d .managers)) noWish)
 
   pub wants :
       (list : List Wish) (entry : ℕ) → someTooWide (terms .usage) sums (d .managers) ≡ false → noEntry d ws r ≡ false

@@ -1,8 +1,9 @@
 -- Who gets which size, as code holds it: one wish for each of sixteen numbers.
 -- Assumes nothing.
+use mathlib.Core.Path.{_≡_}
 use mathlib.Core.Bool.{Bool, true, cond}
 use mathlib.Core.List.{List, _++_}
-use Prim.Native.Nat.{ℕ, _-_}
+use Prim.Native.Nat.{ℕ, _-_, _<_}
 use lib.ListN.{length, getD, replicate}
 use lib.Dec.{eqb}
 use Rattle.wire.specs.Outcome.{Outcome, refused, accepted}
@@ -15,10 +16,14 @@ use Rattle.wanted.specs.declared.Sized.{Sized}
 use Rattle.wanted.specs.declared.Sized.the-variants.{To, Refused}
 use Rattle.channels.specs.declared.Wish.{Wish}
 use Rattle.channels.specs.Channels.{noWish}
-use Rattle.pdo.specs.Bits.{someOf, Piece, piecesFrom}
+use Rattle.pdo.specs.Bits.{someOf, askedFor, Piece, piecesFrom}
 
 abbrev pub someUsage : ℕ → List SyncManager → Bool
 someUsage usage ms = someOf (λ (m : SyncManager). eqb (m .«usage_type») usage) ms
+
+-- exactly those with the usage are asked for
+abbrev pub AskedFor : ℕ → List Bool → List SyncManager → Type 0
+AskedFor usage asked ms = (k : ℕ) → k < length ms → askedFor asked k ≡ eqb (getD ms k noManager .«usage_type») usage
 
 abbrev pub wish : ℕ → Wish
 wish size = record { on = true; size = record { 0 = size } }

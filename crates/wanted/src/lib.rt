@@ -12,7 +12,7 @@ ghost use Rattle.sheet.specs.Device.{dataOf};
 ghost use Rattle.sheet.specs.Sheet.{answerOf};
 ghost use Rattle.pdo.specs.Bits.{coeOn, someOf, piecesFrom};
 ghost use Rattle.uses.specs.Use.{firstWith};
-ghost use Rattle.wanted.specs.Wishes.{someUsage, bitsIn, sizedOf, dataWish, wishesAfter, someTooWide};
+ghost use Rattle.wanted.specs.Wishes.{someUsage, AskedFor, bitsIn, sizedOf, dataWish, wishesAfter, someTooWide};
 ghost use Rattle.wanted.specs.Wanted.{wantedAfter, Wants};
 use channels::Wish;
 use pdi::BitLen;
@@ -185,6 +185,21 @@ fn no_entry(device: Device, coe: bool, entry: usize, usage: u8, sums: [BitLen; 1
     some_bits(managers, device.n, usage, sums)
 }
 
+// Which sync managers have the usage.
+fn asked_of(managers: [SyncManager; 16], n: usize, usage: u8) -> [bool; 16]
+    ensures { λ r. ⌜ AskedFor usage r (take n managers) ⌝ }
+{
+    let mut asked = [false; 16];
+    let count = wire::least(n, 16);
+    let mut k = 0;
+    while k < count {
+        let m = managers[k];
+        asked[k] = m.usage_type == usage;
+        k += 1;
+    }
+    asked
+}
+
 // A refusal has nothing beside it.
 fn refused(number: u8) -> Wanted
     ensures { λ r. ⌜ r ≡ wantedAfter (Outcome.refused number) ⌝ }
@@ -211,8 +226,9 @@ pub fn wanted_of(
     let terms = direction.filter_terms();
     let coe = coe_on(device);
     let kind = path_kind(coe, terms.kind);
-    let sums = pdo::tally(bytes, device.pdos, device.p, kind, multipliers);
     let managers = device.managers;
+    let asked = asked_of(managers, device.n, terms.usage);
+    let sums = pdo::tally(bytes, device.pdos, device.p, kind, asked, multipliers);
     let sizes = data_wishes(managers, device.n, terms.usage, sums);
     let answer = sizes.answer;
     if let Answer::Refused(number) = answer {

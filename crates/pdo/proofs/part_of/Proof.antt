@@ -1,62 +1,95 @@
 -- `part_of`: what each way through it answers is what the record adds.
 -- Assumes nothing.
+use mathlib.Core.Path.{_≡_, refl, sym, _∙_, ap}
+use Prim.Native.Nat.{ℕ, _*_}
 use native.Mathlib.Omega.{arith}
 use denote.Ref.{now}
-use Rattle.sheet.specs.Device.{pdoAt}
-use Rattle.pdo.proofs.Records.{part-other, part-nowhere, part-here, product-bounded}
+use lib.ListN.{getD}
 use borrow.Author.Needs.{needs}
+use borrow.Author.Tests.{not-true, not-false}
+use Rattle.sheet.specs.Device.{pdoAt}
+use Rattle.pdo.proofs.Records.{part-other, part-nowhere, part-unasked, part-here, product-bounded}
 use Rattle.pdo.proofs.part_of.Statement.{statement}
 use Rattle.pdo.proofs.part_of.Tie as tie
+use Rattle.pdo.proofs.part_of.Reads as reads
+use Rattle.pdo.proofs.part_of.Lts as lts
+use Rattle.pdo.proofs.multiplier_at.Reads as multiplier-at-reads
+use Rattle.pdo.proofs.pdo_bits.Reads as pdo-bits-reads
+use Rattle.wire.proofs.wide.Reads as wide-reads
 
-byte-at-requires : tie.Need-byte-at-requires
-byte-at-requires c κs = search needs
+-- src/lib.rt:123:8
+shared-slice-read-if1 : tie.Need-shared-slice-read-if1
+shared-slice-read-if1 c = search needs
 
+-- src/lib.rt:124:9
 returns : tie.Need-returns
 returns c =
-    let k = c .before in
-    let a = k .before .before .args in
-    (part-other (a .kind) (k .byte-at .result) (a .multiplier) (pdoAt (now (a .bytes)) (a .at)) (k .byte-at .ensures) (c .if1 .taken), omega arith)
+    let a = c .before .before .before .before .args in
+    (part-other (a .kind) (a .t4) _ _ (getD (now (a .multipliers)) (a .i) 1) (pdoAt (now (a .bytes)) (a .at)) refl refl (c .if1 .taken), omega arith)
 
-add-byte-at : tie.Need-add-byte-at
-add-byte-at c = search needs
+-- src/lib.rt:126:36
+add-wide : tie.Need-add-wide
+add-wide c = search needs
 
-byte-at-requires-2 : tie.Need-byte-at-requires-2
-byte-at-requires-2 c κs = search needs
+-- src/lib.rt:126:30
+shared-slice-read-wide : tie.Need-shared-slice-read-wide
+shared-slice-read-wide c = search needs
 
+-- src/lib.rt:126:9
+wide-requires : tie.Need-wide-requires
+wide-requires c κs = search needs
+
+-- src/lib.rt:128:9
 returns-2 : tie.Need-returns-2
 returns-2 c =
-    let m = c .before in
-    let k = m .before .before in
-    let a = k .before .before .args in
-    (part-nowhere (a .kind) (k .byte-at .result) (m .byte-at2 .result) (a .multiplier) (pdoAt (now (a .bytes)) (a .at)) (k .byte-at .ensures) (m .before .if1 .left) (m .byte-at2 .ensures) (c .if2 .taken), omega arith)
+    let a = c .before .before .before .before .before .before .before .args in
+    (part-nowhere (a .kind) (a .t4) _ (c .before .wide .result) (getD (now (a .multipliers)) (a .i) 1) (pdoAt (now (a .bytes)) (a .at)) refl (c .before .wide .ensures .0) (c .before .before .before .if1 .left) (c .if2 .taken), omega arith)
 
+-- src/lib.rt:130:9
+array-read-if3 : tie.Need-array-read-if3
+array-read-if3 c = search needs
+
+-- src/lib.rt:131:9
+returns-3 : tie.Need-returns-3
+returns-3 c =
+    let a = c .before .before .before .before .before .before .before .before .args in
+    (part-unasked (a .kind) (a .t4) _ (c .before .before .wide .result) (getD (now (a .multipliers)) (a .i) 1) (pdoAt (now (a .bytes)) (a .at)) refl (c .before .before .wide .ensures .0) (c .before .before .before .before .if1 .left) (omega arith) (not-true _ (c .if3 .taken)), omega arith)
+
+-- src/lib.rt:133:5
 pdo-bits-requires : tie.Need-pdo-bits-requires
 pdo-bits-requires c κs = search needs
 
-mul-result : tie.Need-mul-result
-mul-result c =
-    let a = c .before .before .before .before .before .before .args in
-    omega (arith, product-bounded (c .pdo-bits .result) (a .multiplier) (omega arith) (omega arith))
+-- src/lib.rt:133:27
+multiplier-at-requires : tie.Need-multiplier-at-requires
+multiplier-at-requires c κs = search needs
 
-returns-3 : tie.Need-returns-3
-returns-3 c =
-    let m = c .before .before in
-    let k = m .before .before in
-    let a = k .before .before .args in
-    let p = pdoAt (now (a .bytes)) (a .at) in (
-      part-here (a .kind) (k .byte-at .result) (m .byte-at2 .result) (a .multiplier) (c .pdo-bits .result) p (k .byte-at .ensures) (m .before .if1 .left) (m .byte-at2 .ensures) (omega arith) (c .pdo-bits .ensures .0),
-      product-bounded (c .pdo-bits .result) (a .multiplier) (omega arith) (omega arith),
+-- src/lib.rt:133:5
+mul-result : tie.Need-mul-result
+mul-result c = omega (arith, product-bounded (c .before .pdo-bits .result) (c .multiplier-at .result) (omega arith) (omega arith))
+
+-- src/lib.rt:112:1
+returns-4 : tie.Need-returns-4
+returns-4 c =
+    let a = c .before .before .before .before .before .before .before .before .before .before .args in
+    let w = c .before .before .before .before .wide in (
+      ap (λ (x : ℕ). c .before .pdo-bits .result * x) (c .multiplier-at .ensures .0)
+          ∙ part-here (a .kind) (a .t4) _ (w .result) (getD (now (a .multipliers)) (a .i) 1) (pdoAt (now (a .bytes)) (a .at)) refl (w .ensures .0) (c .before .pdo-bits .result) (c .before .before .before .before .before .before .if1 .left) (omega arith) (not-false _ (c .before .before .if3 .left)) (c .before .pdo-bits .ensures .0),
+      product-bounded (c .before .pdo-bits .result) (c .multiplier-at .result) (omega arith) (omega arith),
     )
 
 pub part-of-spec : {M : Type 1} → statement M
 part-of-spec =
     tie.close
     (tie.spec
-    byte-at-requires
+    shared-slice-read-if1
     returns
-    add-byte-at
-    byte-at-requires-2
+    add-wide
+    shared-slice-read-wide
+    wide-requires
     returns-2
+    array-read-if3
+    returns-3
     pdo-bits-requires
+    multiplier-at-requires
     mul-result
-    returns-3)
+    returns-4)

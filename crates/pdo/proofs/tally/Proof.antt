@@ -1,96 +1,123 @@
 -- `tally`: the sums so far, and what the records ahead add, are the whole.
 -- Assumes nothing.
-use mathlib.Core.Path.{_∙_, ap}
+use mathlib.Core.Path.{_≡_, _∙_}
 use Prim.Native.Nat.{_+_, _-_}
 use native.Mathlib.Omega.{arith}
 use denote.Ref.{now}
-use Rattle.sheet.specs.Device.{pdoAt}
-use Rattle.pdo.specs.Bits.{partOf}
+use lib.ListN.{length}
 use Rattle.pdo.proofs.Sums.{Tallied, tallied-start, tallied-turn, tallied-past, tallied-end}
 use Rattle.pdo.proofs.tally.Statement.{statement}
 use Rattle.pdo.proofs.tally.Tie as tie
+use Rattle.pdo.proofs.tally.Reads as reads
+use Rattle.pdo.proofs.tally.Lts as lts
+use Rattle.pdo.proofs.part_of.Reads as part-of-reads
+use Rattle.wire.proofs.wide.Reads as wide-reads
 
 abbrev Inv-loop : tie.InvT-loop
-Inv-loop bytes at p kind multipliers sums₀ place₀ i₀ count sums place i = Tallied bytes multipliers kind p at sums place i
+Inv-loop bytes at p kind asked multipliers sums₀ last place₀ i₀ count sums place i =
+    (last + 5 ≡ length bytes) × Tallied bytes multipliers kind asked p at sums place i
 
 abbrev μ-loop : tie.MeasureT-loop
-μ-loop bytes at p kind multipliers sums₀ place₀ i₀ count sums place i = count - i
+μ-loop bytes at p kind asked multipliers sums₀ last place₀ i₀ count sums place i = count - i
 
+-- src/lib.rt:149:9
+returns : tie.Need-returns Inv-loop μ-loop
+returns c =
+    let a = c .before .before .before .args in
+    tallied-past (now (a .bytes)) (now (a .multipliers)) (a .kind) (a .asked) (tallied-start (now (a .bytes)) (now (a .multipliers)) (a .kind) (a .asked) (a .p) (a .at)) (omega arith)
+
+-- src/lib.rt:152:16
+sub-last : tie.Need-sub-last Inv-loop μ-loop
+sub-last c = omega arith
+
+-- src/lib.rt:155:9
 wide-requires : tie.Need-wide-requires Inv-loop μ-loop
 wide-requires c κs = tt
 
+-- src/lib.rt:156:5
 loop-holds : tie.Need-loop-holds Inv-loop μ-loop
 loop-holds c =
-    let a = c .before .before .before .args in
-    tallied-start (now (a .bytes)) (now (a .multipliers)) (a .kind) (a .p) (a .at)
+    let a = c .before .before .before .before .args in
+    (omega arith, tallied-start (now (a .bytes)) (now (a .multipliers)) (a .kind) (a .asked) (a .p) (a .at))
 
-returns : tie.Need-returns Inv-loop μ-loop
-returns c = tallied-past (c .before .before .loop .inv) (c .if1 .taken)
+-- src/lib.rt:158:13
+returns-2 : tie.Need-returns-2 Inv-loop μ-loop
+returns-2 c = let l = c .before .before .loop in tallied-past _ _ _ _ (l .inv .1) (omega arith)
 
-add-byte-at : tie.Need-add-byte-at Inv-loop μ-loop
-add-byte-at c = omega arith
+-- src/lib.rt:160:37
+add-wide : tie.Need-add-wide Inv-loop μ-loop
+add-wide c = omega arith
 
-byte-at-requires : tie.Need-byte-at-requires Inv-loop μ-loop
-byte-at-requires c κs = tt
+-- src/lib.rt:160:31
+shared-slice-read-wide : tie.Need-shared-slice-read-wide Inv-loop μ-loop
+shared-slice-read-wide c = omega arith
 
+-- src/lib.rt:160:13
 wide-requires-2 : tie.Need-wide-requires-2 Inv-loop μ-loop
 wide-requires-2 c κs = tt
 
+-- src/lib.rt:161:22
 mul-before : tie.Need-mul-before Inv-loop μ-loop
 mul-before c = omega arith
 
+-- src/lib.rt:161:13
 element-copy-out-before : tie.Need-element-copy-out-before Inv-loop μ-loop
 element-copy-out-before c = omega arith
 
-multiplier-at-requires : tie.Need-multiplier-at-requires Inv-loop μ-loop
-multiplier-at-requires c κs = tt
-
+-- src/lib.rt:162:38
 part-of-requires : tie.Need-part-of-requires Inv-loop μ-loop
 part-of-requires c κs = omega arith
 
-add-t21 : tie.Need-add-t21 Inv-loop μ-loop
-add-t21 c =
-    let l = c .before .before .before .before .before .before .loop in
-    omega (arith, l .inv .small (c .before .before .wide2 .result) (omega arith))
+-- src/lib.rt:162:29
+add-t25 : tie.Need-add-t25 Inv-loop μ-loop
+add-t25 c = let l = c .before .before .before .before .before .loop in omega (arith, l .inv .1 .small (c .before .wide2 .result) (omega arith))
 
+-- src/lib.rt:162:9
 mul-sums : tie.Need-mul-sums Inv-loop μ-loop
 mul-sums c = omega arith
 
+-- src/lib.rt:162:9
 array-set-from-sums : tie.Need-array-set-from-sums Inv-loop μ-loop
 array-set-from-sums c = omega arith
 
+-- src/lib.rt:163:17
 add-place : tie.Need-add-place Inv-loop μ-loop
 add-place c = omega arith
 
-add-byte-at-2 : tie.Need-add-byte-at-2 Inv-loop μ-loop
-add-byte-at-2 c = omega arith
+-- src/lib.rt:163:46
+add-wide-2 : tie.Need-add-wide-2 Inv-loop μ-loop
+add-wide-2 c = omega arith
 
-byte-at-requires-2 : tie.Need-byte-at-requires-2 Inv-loop μ-loop
-byte-at-requires-2 c κs = tt
+-- src/lib.rt:163:40
+shared-slice-read-wide-2 : tie.Need-shared-slice-read-wide-2 Inv-loop μ-loop
+shared-slice-read-wide-2 c = omega arith
 
+-- src/lib.rt:163:29
 wide-requires-3 : tie.Need-wide-requires-3 Inv-loop μ-loop
 wide-requires-3 c κs = tt
 
+-- src/lib.rt:163:17
 add-place-2 : tie.Need-add-place-2 Inv-loop μ-loop
 add-place-2 c = omega arith
 
+-- src/lib.rt:164:9
 add-i : tie.Need-add-i Inv-loop μ-loop
 add-i c = omega arith
 
+-- src/lib.rt:156:5
 loop-less : tie.Need-loop-less Inv-loop μ-loop
 loop-less c = omega arith
 
+-- src/lib.rt:156:5
 loop-again : tie.Need-loop-again Inv-loop μ-loop
 loop-again c =
     let o = c .before .before in
-    let w = o .before .before in
-    let l = w .before .before .before .before .loop in
-    let a = w .before .before .before .before .before .before .before .before .args in
-    tallied-turn (l .place + 5 + c .wide3 .result) (w .wide2 .result) (o .part-of .result) (l .inv) (omega arith) (omega arith) (omega arith)
-    (o .part-of .ensures .0 ∙ ap (partOf (a .kind) (pdoAt (now (a .bytes)) (l .place))) (o .before .multiplier-at .ensures .0)) (o .part-of .ensures .1)
+    let l = c .before .before .before .before .before .before .before .loop in
+    (l .inv .0, tallied-turn _ _ _ _ (l .inv .1) (l .place + 5 + c .wide3 .result) (o .before .wide2 .result) (o .part-of .result) (omega arith) (omega arith) (omega arith) (o .part-of .ensures .0) (o .part-of .ensures .1))
 
-returns-2 : tie.Need-returns-2 Inv-loop μ-loop
-returns-2 c = tallied-end (c .before .loop .inv) (omega arith)
+-- src/lib.rt:137:1
+returns-3 : tie.Need-returns-3 Inv-loop μ-loop
+returns-3 c = tallied-end _ _ _ _ (c .before .loop .inv .1) (omega arith)
 
 pub tally-spec : {M : Type 1} → statement M
 tally-spec =
@@ -98,25 +125,26 @@ tally-spec =
     (tie.spec
     Inv-loop
     μ-loop
+    returns
+    sub-last
     wide-requires
     loop-holds
-    returns
-    add-byte-at
-    byte-at-requires
+    returns-2
+    add-wide
+    shared-slice-read-wide
     wide-requires-2
     mul-before
     element-copy-out-before
-    multiplier-at-requires
     part-of-requires
-    add-t21
+    add-t25
     mul-sums
     array-set-from-sums
     add-place
-    add-byte-at-2
-    byte-at-requires-2
+    add-wide-2
+    shared-slice-read-wide-2
     wide-requires-3
     add-place-2
     add-i
     loop-less
     loop-again
-    returns-2)
+    returns-3)

@@ -21,7 +21,7 @@ use Rattle.wanted.proofs.wanted_of.Tie as tie
 
 -- where the call began, and its data
 abbrev start : tie.After-tally → tie.Start
-start c = c .before .before .before .before .before .before
+start c = c .before .before .before .before .before .before .before .before
 
 abbrev data-at : tie.After-tally → Data
 data-at c = dataOf (start c .args .device) (now (start c .args .bytes))
@@ -34,37 +34,39 @@ sixteen-usages : (c : tie.After-tally) → length (start c .args .device .usages
 sixteen-usages c = sym (length-map (start c .args .device .usages) _) ∙ start c .good .0 .1 .1 .1 .1 .1 .1 .1 .1 .1 .0 .1 .0 .1
 
 known : (c : tie.After-tally) → Known (data-at c) (now (start c .args .multipliers)) (start c .args .direction)
-    (c .before .before .coe-on .result) (c .before .before .before .filter-terms .result) (c .tally .result)
+    (c .before .before .before .before .coe-on .result) (c .before .before .before .before .before .filter-terms .result) (c .tally .result)
 unfolding dataOf byCoe
 known c =
     let a = start c .args in
     let m = used (a .device .managers) (a .device .n) 16 (sixteen c) in
     let l = min-le-right (a .device .n) 16 in
     record {
-      pathIs = c .before .before .coe-on .ensures;
-      termsAre = c .before .before .before .filter-terms .ensures;
-      sumsAre = c .tally .ensures ∙ ap (λ x. sumsOf x (data-at c .pdos) (now (a .multipliers))) (c .before .path-kind .ensures);
+      pathIs = c .before .before .before .before .coe-on .ensures;
+      termsAre = c .before .before .before .before .before .filter-terms .ensures;
+      asked = c .before .asked-of .result;
+      askedAre = c .before .asked-of .ensures;
+      sumsAre = c .tally .ensures ∙ ap (λ x. sumsOf x (c .before .asked-of .result) (data-at c .pdos) (now (a .multipliers))) (c .before .before .before .path-kind .ensures);
       few = omega arith;
     }
 
 -- 6 and 7 at this point
 abbrev too-wide : tie.After-tally → Bool
-too-wide t = someTooWide (t .before .before .before .filter-terms .result .usage) (t .tally .result) (data-at t .managers)
+too-wide t = someTooWide (t .before .before .before .before .before .filter-terms .result .usage) (t .tally .result) (data-at t .managers)
 
 abbrev without-entry : tie.After-tally → Bool
 without-entry t = noEntry (data-at t) (now (start t .args .multipliers)) (start t .args .direction)
 
 -- where the wishes are accepted 6 doesn't hold; 7 is what the call answers
-six : (c : tie.After-enum-told) → too-wide (c .before .before .before .before) ≡ false
+six : (c : tie.After-enum-told) → too-wide (c .before .before .before) ≡ false
 unfolding dataOf
 six c =
-    not-refused 6 (too-wide (c .before .before .before .before)) tt tt
+    not-refused 6 (too-wide (c .before .before .before)) tt tt
     (sym (ap (λ (x : Answer). answerOf {A = Unit {0}} x tt) (c .enum-told .given .1)) ∙ c .before .before .data-wishes .ensures .0)
 
-seven : (c : tie.After-no-entry) → c .no-entry .result ≡ without-entry (c .before .before .before .before .before .before .before)
+seven : (c : tie.After-no-entry) → c .no-entry .result ≡ without-entry (c .before .before .before .before .before .before)
 unfolding dataOf
 seven c =
-    let t = c .before .before .before .before .before .before .before in
+    let t = c .before .before .before .before .before .before in
     let d = start t .args .device in
     let f = c .before .first-with in
     no-entry-is (known t) (f .result) (min (d .f) 16) (c .no-entry .result) (f .ensures) (used (d .usages) (d .f) 16 (sixteen-usages t)) (c .no-entry .ensures)
@@ -77,6 +79,9 @@ coe-on-requires c κs = search needs
 
 path-kind-requires : tie.Need-path-kind-requires
 path-kind-requires c κs = search needs
+
+asked-of-requires : tie.Need-asked-of-requires
+asked-of-requires c κs = search needs
 
 tally-requires : tie.Need-tally-requires
 tally-requires c κs = search needs
@@ -95,7 +100,7 @@ unfolding dataOf
 returns c =
     let d = c .before .before .before .before in
     let n = c .before .before .answer .given in
-    six-wants (known (d .before .before)) (n .0 .0) (c .refused .result)
+    six-wants (known (d .before)) (n .0 .0) (c .refused .result)
     (sym (ap (λ (x : Answer). answerOf {A = Unit {0}} x tt) (n .1)) ∙ d .data-wishes .ensures .0) (c .refused .ensures)
 
 enum-told : tie.Need-enum-told
@@ -114,7 +119,7 @@ returns-2 : tie.Need-returns-2
 returns-2 c =
     let n = c .before .before in
     let e = n .before .before .before in
-    seven-wants (known (e .before .before .before .before)) (c .refused2 .result) (six e) (sym (seven n) ∙ c .before .if1 .taken) (c .refused2 .ensures)
+    seven-wants (known (e .before .before .before)) (c .refused2 .result) (six e) (sym (seven n) ∙ c .before .if1 .taken) (c .refused2 .ensures)
 
 returns-3 : tie.Need-returns-3
 unfolding dataOf
@@ -122,7 +127,7 @@ returns-3 c =
     let n = c .before .before in
     let e = n .before .before .before in
     let s = e .before .before .data-wishes in
-    wants (known (e .before .before .before .before)) (s .result .list) (n .before .first-with .result) (six e) (sym (seven n) ∙ c .before .if1 .left) (s .ensures .1)
+    wants (known (e .before .before .before)) (s .result .list) (n .before .first-with .result) (six e) (sym (seven n) ∙ c .before .if1 .left) (s .ensures .1)
     (n .before .first-with .ensures)
 
 pub wanted-of-spec : {M : Type 1} → statement M
@@ -132,6 +137,7 @@ wanted-of-spec =
     filter-terms-requires
     coe-on-requires
     path-kind-requires
+    asked-of-requires
     tally-requires
     data-wishes-requires
     enum-known-answer
