@@ -31,8 +31,8 @@ either-length false x y n hx hy = hy
 state-length : (f : Fmmu) → length (stateText f) ≤ 14
 unfolding stateText
 state-length f =
-    let r = either-length (f .«read_enable») (82 ∷ []) [] 1 (omega arith) (omega arith) in
-    let w = either-length (f .«write_enable») (87 ∷ []) (79 ∷ []) 1 (omega arith) (omega arith) in
+    let r = either-length (f .«read_enable») (44 ∷ 32 ∷ 82 ∷ []) (44 ∷ 32 ∷ []) 3 (omega arith) (omega arith) in
+    let w = either-length (f .«write_enable») (87 ∷ 44 ∷ 32 ∷ []) (79 ∷ 44 ∷ 32 ∷ []) 3 (omega arith) (omega arith) in
     let e : length (enabledText (f .enable)) ≤ 8 = either-length (f .enable) _ _ 8 (omega arith) (omega arith) in
     simp length-append (omega arith)
 

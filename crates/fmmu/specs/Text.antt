@@ -9,30 +9,22 @@ use Rattle.fmmu.specs.declared.Fmmu.{Fmmu}
 -- logical start 0x00000005:0, size 2, logical end bit 7
 unfoldable pub logicalText : Fmmu → List ℕ
 logicalText f =
-    (108 ∷ 111 ∷ 103 ∷ 105 ∷ 99 ∷ 97 ∷ 108 ∷ 32 ∷ 115 ∷ 116 ∷ 97 ∷ 114 ∷ 116 ∷ 32 ∷ [])
-    ++ hexOf 8 (f .«logical_start_address»)
-    ++ (58 ∷ [])
-    ++ decimalOf (f .«logical_start_bit»)
-    ++ (44 ∷ 32 ∷ 115 ∷ 105 ∷ 122 ∷ 101 ∷ 32 ∷ [])
-    ++ decimalOf (f .«length_bytes» .0)
-    ++ (44 ∷ 32 ∷ 108 ∷ 111 ∷ 103 ∷ 105 ∷ 99 ∷ 97 ∷ 108 ∷ 32 ∷ 101 ∷ 110 ∷ 100 ∷ 32 ∷ 98 ∷ 105 ∷ 116 ∷ 32 ∷ [])
-    ++ decimalOf (f .«logical_end_bit»)
+    (108 ∷ 111 ∷ 103 ∷ 105 ∷ 99 ∷ 97 ∷ 108 ∷ 32 ∷ 115 ∷ 116 ∷ 97 ∷ 114 ∷ 116 ∷ 32 ∷ hexOf 8 (f .«logical_start_address»))
+    ++ (58 ∷ decimalOf (f .«logical_start_bit»))
+    ++ (44 ∷ 32 ∷ 115 ∷ 105 ∷ 122 ∷ 101 ∷ 32 ∷ decimalOf (f .«length_bytes» .0))
+    ++ (44 ∷ 32 ∷ 108 ∷ 111 ∷ 103 ∷ 105 ∷ 99 ∷ 97 ∷ 108 ∷ 32 ∷ 101 ∷ 110 ∷ 100 ∷ 32 ∷ 98 ∷ 105 ∷ 116 ∷ 32 ∷ decimalOf (f .«logical_end_bit»))
 
 -- , physical start 0x1100:0
 unfoldable pub physicalText : Fmmu → List ℕ
 physicalText f =
-    (44 ∷ 32 ∷ 112 ∷ 104 ∷ 121 ∷ 115 ∷ 105 ∷ 99 ∷ 97 ∷ 108 ∷ 32 ∷ 115 ∷ 116 ∷ 97 ∷ 114 ∷ 116 ∷ 32 ∷ [])
-    ++ hexOf 4 (f .«physical_start_address»)
-    ++ (58 ∷ [])
-    ++ decimalOf (f .«physical_start_bit»)
+    (44 ∷ 32 ∷ 112 ∷ 104 ∷ 121 ∷ 115 ∷ 105 ∷ 99 ∷ 97 ∷ 108 ∷ 32 ∷ 115 ∷ 116 ∷ 97 ∷ 114 ∷ 116 ∷ 32 ∷ hexOf 4 (f .«physical_start_address»))
+    ++ (58 ∷ decimalOf (f .«physical_start_bit»))
 
 -- , RO, enabled: R or nothing, then W or O
 unfoldable pub stateText : Fmmu → List ℕ
 stateText f =
-    (44 ∷ 32 ∷ [])
-    ++ cond (f .«read_enable») (82 ∷ []) []
-    ++ cond (f .«write_enable») (87 ∷ []) (79 ∷ [])
-    ++ (44 ∷ 32 ∷ [])
+    cond (f .«read_enable») (44 ∷ 32 ∷ 82 ∷ []) (44 ∷ 32 ∷ [])
+    ++ cond (f .«write_enable») (87 ∷ 44 ∷ 32 ∷ []) (79 ∷ 44 ∷ 32 ∷ [])
     ++ enabledText (f .enable)
 
 unfoldable pub fmmuText : Fmmu → List ℕ

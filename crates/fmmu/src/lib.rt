@@ -132,32 +132,29 @@ impl Fmmu {
     fn put_logical(self, room: &mut [u8]) -> usize
         ensures { λ r. ⌜ Types (page (now (room .entry)) 0) (page (now (room .exit)) r) (logicalText self) ⌝ }
     {
-        let mut at = wire::put_bytes(room, 0, b"logical start ");
-        at = wire::put_hex8(room, at, self.logical_start_address);
-        at = wire::put_bytes(room, at, b":");
-        at = wire::put_decimal(room, at, self.logical_start_bit as u16);
-        at = wire::put_bytes(room, at, b", size ");
-        at = wire::put_decimal(room, at, self.length_bytes.0);
-        at = wire::put_bytes(room, at, b", logical end bit ");
-        wire::put_decimal(room, at, self.logical_end_bit as u16)
+        let mut at = wire::put_hex8(room, 0, b"logical start 0x", self.logical_start_address);
+        at = wire::put_decimal(room, at, b":", self.logical_start_bit as u16);
+        at = wire::put_decimal(room, at, b", size ", self.length_bytes.0);
+        wire::put_decimal(room, at, b", logical end bit ", self.logical_end_bit as u16)
     }
 
     fn put_physical(self, room: &mut [u8], from: usize) -> usize
         ensures { λ r. ⌜ Types (page (now (room .entry)) from) (page (now (room .exit)) r) (physicalText self) ⌝ }
     {
-        let mut at = wire::put_bytes(room, from, b", physical start ");
-        at = wire::put_hex4(room, at, self.physical_start_address);
-        at = wire::put_bytes(room, at, b":");
-        wire::put_decimal(room, at, self.physical_start_bit as u16)
+        let at = wire::put_hex4(
+            room,
+            from,
+            b", physical start 0x",
+            self.physical_start_address,
+        );
+        wire::put_decimal(room, at, b":", self.physical_start_bit as u16)
     }
 
     fn put_state(self, room: &mut [u8], from: usize) -> usize
         ensures { λ r. ⌜ Types (page (now (room .entry)) from) (page (now (room .exit)) r) (stateText self) ⌝ }
     {
-        let mut at = wire::put_bytes(room, from, b", ");
-        at = wire::put_either(room, at, self.read_enable, b"R", b"");
-        at = wire::put_either(room, at, self.write_enable, b"W", b"O");
-        at = wire::put_bytes(room, at, b", ");
+        let mut at = wire::put_either(room, from, self.read_enable, b", R", b", ");
+        at = wire::put_either(room, at, self.write_enable, b"W, ", b"O, ");
         wire::put_either(room, at, self.enable, b"enabled", b"disabled")
     }
 }

@@ -29,8 +29,7 @@ fn put_shown(room: &mut [u8], from: usize, text: &[u8], written: Written) -> usi
 fn put_front(room: &mut [u8], from: usize, name: &[u8], k: u16) -> usize
     ensures { λ r. ⌜ Types (page (now (room .entry)) from) (page (now (room .exit)) r) (numbered (now (name .entry)) k) ⌝ }
 {
-    let mut at = wire::put_bytes(room, from, name);
-    at = wire::put_decimal(room, at, k);
+    let at = wire::put_decimal(room, from, name, k);
     wire::put_bytes(room, at, b": ")
 }
 
@@ -106,8 +105,7 @@ fn put_entries(room: &mut [u8], from: usize, fmmus: &[u8]) -> usize
 pub fn put_refused(room: &mut [u8], number: u8) -> usize
     ensures { λ r. ⌜ Types (page (now (room .entry)) 0) (page (now (room .exit)) r) (refusedText number) ⌝ }
 {
-    let mut at = wire::put_bytes(room, 0, b"refused ");
-    at = wire::put_decimal(room, at, number as u16);
+    let at = wire::put_decimal(room, 0, b"refused ", number as u16);
     wire::put_bytes(room, at, b"\n")
 }
 

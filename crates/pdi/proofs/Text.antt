@@ -15,6 +15,6 @@ pub segment-length : (s : PdiSegment) → length (segmentText s) ≤ 22
 unfolding segmentText
 segment-length s = go (ltb (s .start) (s .end))
   where
-    go : (t : Bool) → length (cond t (hexOf 8 (s .start) ++ (46 ∷ 46 ∷ []) ++ hexOf 8 (s .end)) emptyText) ≤ 22
+    go : (t : Bool) → length (cond t (hexOf 8 (s .start) ++ (46 ∷ 46 ∷ hexOf 8 (s .end))) emptyText) ≤ 22
     go true = simp (length-append, digits-length) (omega arith)
     go false = omega arith

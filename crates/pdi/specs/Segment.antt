@@ -35,4 +35,4 @@ emptyText = 40 ∷ 101 ∷ 109 ∷ 112 ∷ 116 ∷ 121 ∷ 41 ∷ []
 
 -- 0x00000000..0x00000005, or (empty) where its end isn't above its start
 unfoldable pub segmentText : PdiSegment → List ℕ
-segmentText s = cond (ltb (s .start) (s .end)) (hexOf 8 (s .start) ++ (46 ∷ 46 ∷ []) ++ hexOf 8 (s .end)) emptyText
+segmentText s = cond (ltb (s .start) (s .end)) (hexOf 8 (s .start) ++ (46 ∷ 46 ∷ hexOf 8 (s .end))) emptyText

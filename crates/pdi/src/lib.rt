@@ -138,8 +138,7 @@ impl PdiSegment {
         if end <= start {
             return wire::put_bytes(room, 0, b"(empty)");
         }
-        let from = wire::put_hex8(room, 0, start);
-        let dots = wire::put_bytes(room, from, b"..");
-        wire::put_hex8(room, dots, end)
+        let dots = wire::put_hex8(room, 0, b"0x", start);
+        wire::put_hex8(room, dots, b"..0x", end)
     }
 }

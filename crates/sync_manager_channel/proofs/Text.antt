@@ -11,13 +11,13 @@ use Rattle.channel_bytes.specs.declared.OperationMode.the-variants.{Normal, Mai
 use Rattle.channel_bytes.specs.declared.Direction.{Direction}
 use Rattle.channel_bytes.specs.declared.Direction.the-variants.{MasterRead, MasterWrite}
 use Rattle.sync_manager_channel.specs.declared.SyncManagerChannel.{SyncManagerChannel}
-use Rattle.sync_manager_channel.specs.Text.{areaText, directionText, modeText, stateText, channelText}
+use Rattle.sync_manager_channel.specs.Text.{areaText, directionName, modeName, stateText, channelText}
 
-direction-length : (d : Direction) → length (directionText d) ≤ 11
+direction-length : (d : Direction) → length (directionName d) ≤ 11
 direction-length MasterRead = omega arith
 direction-length MasterWrite = omega arith
 
-mode-length : (m : OperationMode) → length (modeText m) ≤ 7
+mode-length : (m : OperationMode) → length (modeName m) ≤ 7
 mode-length Normal = omega arith
 mode-length Mailbox = omega arith
 

@@ -12,28 +12,31 @@ use Rattle.sync_manager_channel.specs.declared.SyncManagerChannel.{SyncM
 -- start 0x1000, size 0x0080 (128)
 unfoldable pub areaText : SyncManagerChannel → List ℕ
 areaText s =
-    (115 ∷ 116 ∷ 97 ∷ 114 ∷ 116 ∷ 32 ∷ [])
-    ++ hexOf 4 (s .«physical_start_address»)
-    ++ (44 ∷ 32 ∷ 115 ∷ 105 ∷ 122 ∷ 101 ∷ 32 ∷ [])
-    ++ hexOf 4 (s .«length_bytes» .0)
-    ++ (32 ∷ 40 ∷ [])
-    ++ decimalOf (s .«length_bytes» .0)
+    (115 ∷ 116 ∷ 97 ∷ 114 ∷ 116 ∷ 32 ∷ hexOf 4 (s .«physical_start_address»))
+    ++ (44 ∷ 32 ∷ 115 ∷ 105 ∷ 122 ∷ 101 ∷ 32 ∷ hexOf 4 (s .«length_bytes» .0))
+    ++ (32 ∷ 40 ∷ decimalOf (s .«length_bytes» .0))
     ++ (41 ∷ [])
 
-abbrev pub directionText : Direction → List ℕ
-directionText MasterRead = (77 ∷ 97 ∷ 115 ∷ 116 ∷ 101 ∷ 114 ∷ 82 ∷ 101 ∷ 97 ∷ 100 ∷ [])
-directionText MasterWrite = (77 ∷ 97 ∷ 115 ∷ 116 ∷ 101 ∷ 114 ∷ 87 ∷ 114 ∷ 105 ∷ 116 ∷ 101 ∷ [])
+abbrev pub directionName : Direction → List ℕ
+directionName MasterRead = (77 ∷ 97 ∷ 115 ∷ 116 ∷ 101 ∷ 114 ∷ 82 ∷ 101 ∷ 97 ∷ 100 ∷ [])
+directionName MasterWrite = (77 ∷ 97 ∷ 115 ∷ 116 ∷ 101 ∷ 114 ∷ 87 ∷ 114 ∷ 105 ∷ 116 ∷ 101 ∷ [])
 
+-- , direction MasterWrite
+abbrev pub directionText : Direction → List ℕ
+directionText d = (44 ∷ 32 ∷ 100 ∷ 105 ∷ 114 ∷ 101 ∷ 99 ∷ 116 ∷ 105 ∷ 111 ∷ 110 ∷ 32 ∷ directionName d)
+
+abbrev pub modeName : OperationMode → List ℕ
+modeName Normal = (78 ∷ 111 ∷ 114 ∷ 109 ∷ 97 ∷ 108 ∷ [])
+modeName Mailbox = (77 ∷ 97 ∷ 105 ∷ 108 ∷ 98 ∷ 111 ∷ 120 ∷ [])
+
+-- , mode Mailbox
 abbrev pub modeText : OperationMode → List ℕ
-modeText Normal = (78 ∷ 111 ∷ 114 ∷ 109 ∷ 97 ∷ 108 ∷ [])
-modeText Mailbox = (77 ∷ 97 ∷ 105 ∷ 108 ∷ 98 ∷ 111 ∷ 120 ∷ [])
+modeText m = (44 ∷ 32 ∷ 109 ∷ 111 ∷ 100 ∷ 101 ∷ 32 ∷ modeName m)
 
 -- , direction MasterWrite, mode Mailbox, enabled
 unfoldable pub stateText : SyncManagerChannel → List ℕ
 stateText s =
-    (44 ∷ 32 ∷ 100 ∷ 105 ∷ 114 ∷ 101 ∷ 99 ∷ 116 ∷ 105 ∷ 111 ∷ 110 ∷ 32 ∷ [])
-    ++ directionText (s .control .direction)
-    ++ (44 ∷ 32 ∷ 109 ∷ 111 ∷ 100 ∷ 101 ∷ 32 ∷ [])
+    directionText (s .control .direction)
     ++ modeText (s .control .«operation_mode»)
     ++ (44 ∷ 32 ∷ [])
     ++ enabledText (s .enable .enable)

@@ -106,12 +106,9 @@ impl SyncManagerChannel {
     fn put_area(self, room: &mut [u8]) -> usize
         ensures { λ r. ⌜ Types (page (now (room .entry)) 0) (page (now (room .exit)) r) (areaText self) ⌝ }
     {
-        let mut at = wire::put_bytes(room, 0, b"start ");
-        at = wire::put_hex4(room, at, self.physical_start_address);
-        at = wire::put_bytes(room, at, b", size ");
-        at = wire::put_hex4(room, at, self.length_bytes.0);
-        at = wire::put_bytes(room, at, b" (");
-        at = wire::put_decimal(room, at, self.length_bytes.0);
+        let mut at = wire::put_hex4(room, 0, b"start 0x", self.physical_start_address);
+        at = wire::put_hex4(room, at, b", size 0x", self.length_bytes.0);
+        at = wire::put_decimal(room, at, b" (", self.length_bytes.0);
         wire::put_bytes(room, at, b")")
     }
 
@@ -122,31 +119,29 @@ impl SyncManagerChannel {
         let direction = control.direction;
         let mode = control.operation_mode;
         let enable = self.enable;
-        let mut at = wire::put_bytes(room, from, b", direction ");
-        at = put_direction(room, at, direction);
-        at = wire::put_bytes(room, at, b", mode ");
+        let mut at = put_direction(room, from, direction);
         at = put_mode(room, at, mode);
         at = wire::put_bytes(room, at, b", ");
         wire::put_either(room, at, enable.enable, b"enabled", b"disabled")
     }
 }
 
-// The name of a direction, typed at a place of the room.
+// The direction, typed at a place of the room.
 fn put_direction(room: &mut [u8], at: usize, direction: Direction) -> usize
     ensures { λ r. ⌜ Types (page (now (room .entry)) at) (page (now (room .exit)) r) (directionText direction) ⌝ }
 {
     match direction {
-        Direction::MasterRead => wire::put_bytes(room, at, b"MasterRead"),
-        Direction::MasterWrite => wire::put_bytes(room, at, b"MasterWrite"),
+        Direction::MasterRead => wire::put_bytes(room, at, b", direction MasterRead"),
+        Direction::MasterWrite => wire::put_bytes(room, at, b", direction MasterWrite"),
     }
 }
 
-// The name of a mode, typed at a place of the room.
+// The mode, typed at a place of the room.
 fn put_mode(room: &mut [u8], at: usize, mode: OperationMode) -> usize
     ensures { λ r. ⌜ Types (page (now (room .entry)) at) (page (now (room .exit)) r) (modeText mode) ⌝ }
 {
     match mode {
-        OperationMode::Normal => wire::put_bytes(room, at, b"Normal"),
-        OperationMode::Mailbox => wire::put_bytes(room, at, b"Mailbox"),
+        OperationMode::Normal => wire::put_bytes(room, at, b", mode Normal"),
+        OperationMode::Mailbox => wire::put_bytes(room, at, b", mode Mailbox"),
     }
 }

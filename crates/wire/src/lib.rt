@@ -2,12 +2,12 @@
 // several bytes, copying, and text into lent room. Every function is total.
 ghost use mathlib.Core.Path.{_≡_};
 ghost use mathlib.Core.Bool.{cond};
-ghost use mathlib.Core.List.{[], _∷_};
+ghost use mathlib.Core.List.{[], _∷_, _++_};
 ghost use Prim.Native.Nat.{_<_, _≤_, _^_, _/_, min};
 ghost use Rattle.wire.specs.Field.{bit, flagAt};
 ghost use Rattle.wire.specs.Number.{littleAt, littleOf, bigAt};
 ghost use Rattle.wire.specs.Room.{over, InRoom, textIn};
-ghost use Rattle.wire.specs.Text.{glyphOf, digitsOf, hexOf, placesOf, decimalOf, page, Types};
+ghost use Rattle.wire.specs.Text.{glyphOf, digitsOf, placesOf, decimalOf, page, Types};
 
 // The flag at bit `shift` of a byte; a byte has none above 7.
 pub fn flag(byte: u8, shift: u8) -> bool
@@ -161,27 +161,27 @@ fn put_digits(room: &mut [u8], at: usize, x: u32, base: u32, power: u32, count: 
     next
 }
 
-// Types 0x and the last `count` hexadecimal digits; `power` is the weight of the first of them.
-fn put_hex(room: &mut [u8], at: usize, x: u32, power: u32, count: u32) -> usize
+// Types a label and the last `count` hexadecimal digits; `power` is the weight of the first of them.
+fn put_hex(room: &mut [u8], at: usize, label: &[u8], x: u32, power: u32, count: u32) -> usize
     requires { ⌜ power ≡ 16 ^ count / 16 ⌝ }
-    ensures { λ r. ⌜ Types (page (now (room .entry)) at) (page (now (room .exit)) r) (hexOf count x) ⌝ }
+    ensures { λ r. ⌜ Types (page (now (room .entry)) at) (page (now (room .exit)) r) (now (label .entry) ++ digitsOf 16 count x) ⌝ }
 {
-    let next = put_bytes(room, at, b"0x");
+    let next = put_bytes(room, at, label);
     put_digits(room, next, x, 16, power, count)
 }
 
-// Types a number as 0x and four hexadecimal digits.
-pub fn put_hex4(room: &mut [u8], at: usize, x: u16) -> usize
-    ensures { λ r. ⌜ Types (page (now (room .entry)) at) (page (now (room .exit)) r) (hexOf 4 x) ⌝ }
+// Types a label, which ends in 0x, and a number as four hexadecimal digits.
+pub fn put_hex4(room: &mut [u8], at: usize, label: &[u8], x: u16) -> usize
+    ensures { λ r. ⌜ Types (page (now (room .entry)) at) (page (now (room .exit)) r) (now (label .entry) ++ digitsOf 16 4 x) ⌝ }
 {
-    put_hex(room, at, x as u32, 0x1000, 4)
+    put_hex(room, at, label, x as u32, 0x1000, 4)
 }
 
-// Types a number as 0x and eight hexadecimal digits.
-pub fn put_hex8(room: &mut [u8], at: usize, x: u32) -> usize
-    ensures { λ r. ⌜ Types (page (now (room .entry)) at) (page (now (room .exit)) r) (hexOf 8 x) ⌝ }
+// Types a label, which ends in 0x, and a number as eight hexadecimal digits.
+pub fn put_hex8(room: &mut [u8], at: usize, label: &[u8], x: u32) -> usize
+    ensures { λ r. ⌜ Types (page (now (room .entry)) at) (page (now (room .exit)) r) (now (label .entry) ++ digitsOf 16 8 x) ⌝ }
 {
-    put_hex(room, at, x, 0x1000_0000, 8)
+    put_hex(room, at, label, x, 0x1000_0000, 8)
 }
 
 // How many decimal digits a number takes, and the weight of the first of them.
@@ -220,12 +220,13 @@ fn places(x: u16) -> Weight
     }
 }
 
-// Types a number in decimal, with no zero in front.
-pub fn put_decimal(room: &mut [u8], at: usize, x: u16) -> usize
-    ensures { λ r. ⌜ Types (page (now (room .entry)) at) (page (now (room .exit)) r) (decimalOf x) ⌝ }
+// Types a label and a number in decimal, with no zero in front.
+pub fn put_decimal(room: &mut [u8], at: usize, label: &[u8], x: u16) -> usize
+    ensures { λ r. ⌜ Types (page (now (room .entry)) at) (page (now (room .exit)) r) (now (label .entry) ++ decimalOf x) ⌝ }
 {
     let p = places(x);
-    put_digits(room, at, x as u32, 10, p.power, p.count)
+    let next = put_bytes(room, at, label);
+    put_digits(room, next, x as u32, 10, p.power, p.count)
 }
 
 // Types the one text or the other.

@@ -1,4 +1,4 @@
--- `subdevice::configure_mailboxes`: each way through the call is one of the ways through the pass.
+-- `mailboxes::configure_mailboxes`: each way through the call is one of the ways through the pass.
 -- Assumes nothing.
 use borrow.Author.Needs.{needs}
 use borrow.Author.Tests.{not-true, not-false}

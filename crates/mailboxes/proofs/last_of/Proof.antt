@@ -1,4 +1,4 @@
--- `subdevice::last_of`: the last of the rest, after what is recorded so far, is the last of all.
+-- `mailboxes::last_of`: the last of the rest, after what is recorded so far, is the last of all.
 -- Assumes nothing.
 use mathlib.Core.Path.{_≡_, refl, _∙_}
 use Prim.Native.Nat.{_+_, _-_, _≤_, _<_, min}

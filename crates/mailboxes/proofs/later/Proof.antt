@@ -1,4 +1,4 @@
--- `subdevice::later`: the test says whether it is recorded.
+-- `mailboxes::later`: the test says whether it is recorded.
 -- Assumes nothing.
 use borrow.Author.Tests.{eq-eqb, ne-eqb}
 use Rattle.mailboxes.proofs.later.Statement.{statement}

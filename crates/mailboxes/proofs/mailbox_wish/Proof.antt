@@ -1,4 +1,4 @@
--- `subdevice::mailbox_wish`: the tests that led to each return say which wish it is.
+-- `mailboxes::mailbox_wish`: the tests that led to each return say which wish it is.
 -- Assumes nothing.
 use borrow.Author.Tests.{eq-eqb, ne-eqb}
 use Rattle.mailboxes.proofs.mailbox_wish.Statement.{statement}

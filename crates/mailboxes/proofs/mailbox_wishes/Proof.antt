@@ -1,4 +1,4 @@
--- `subdevice::mailbox_wishes`: after k turns the wishes of k sync managers stand there.
+-- `mailboxes::mailbox_wishes`: after k turns the wishes of k sync managers stand there.
 -- Assumes nothing.
 use mathlib.Core.Path.{_≡_, sym, _∙_, ap}
 use mathlib.Core.List.{List, _++_}

@@ -1,4 +1,4 @@
--- `subdevice::mailboxes_of`: each call's promise is a part of what is recorded, and the wishes written are what the pass writes.
+-- `mailboxes::mailboxes_of`: each call's promise is a part of what is recorded, and the wishes written are what the pass writes.
 -- Assumes nothing.
 use mathlib.Core.List.{[]}
 use borrow.Author.Needs.{needs}

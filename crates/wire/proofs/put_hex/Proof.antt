@@ -1,12 +1,9 @@
--- `wire::put_hex`: the digits after 0x.
+-- `wire::put_hex`: the digits after the label.
 -- Assumes nothing.
 use Rattle.wire.proofs.Typing.{then}
 use borrow.Author.Needs.{needs}
 use Rattle.wire.proofs.put_hex.Statement.{statement}
 use Rattle.wire.proofs.put_hex.Tie as tie
-
-slice-aggregate-put-bytes : tie.Need-slice-aggregate-put-bytes
-slice-aggregate-put-bytes c = search needs
 
 put-bytes-requires : tie.Need-put-bytes-requires
 put-bytes-requires c κs = search needs
@@ -21,6 +18,4 @@ returns : tie.Need-returns
 returns c = then (c .before .before .before .before .before .before .put-bytes .ensures) (c .before .before .put-digits .ensures)
 
 pub put-hex-spec : {M : Type 1} → statement M
-put-hex-spec =
-    tie.close
-    (tie.spec slice-aggregate-put-bytes put-bytes-requires put-digits-requires same-length returns)
+put-hex-spec = tie.close (tie.spec put-bytes-requires put-digits-requires same-length returns)

@@ -1,18 +1,10 @@
 -- `fmmu::Fmmu::put_state`: each part is typed after the one before it.
 -- Assumes nothing.
-use mathlib.Core.Bool.{cond}
-use mathlib.Core.List.{[], _∷_}
 use Rattle.wire.proofs.Typing.{then}
 use Rattle.fmmu.specs.Text.{stateText}
 use borrow.Author.Needs.{needs}
 use Rattle.fmmu.proofs.Fmmu.put_state.Statement.{statement}
 use Rattle.fmmu.proofs.Fmmu.put_state.Tie as tie
-
-slice-aggregate-put-bytes : tie.Need-slice-aggregate-put-bytes
-slice-aggregate-put-bytes c = search needs
-
-put-bytes-requires : tie.Need-put-bytes-requires
-put-bytes-requires c κs = search needs
 
 slice-aggregate-put-either : tie.Need-slice-aggregate-put-either
 slice-aggregate-put-either c = search needs
@@ -32,12 +24,6 @@ slice-aggregate-put-either-4 c = search needs
 put-either-requires-2 : tie.Need-put-either-requires-2
 put-either-requires-2 c κs = search needs
 
-slice-aggregate-put-bytes-2 : tie.Need-slice-aggregate-put-bytes-2
-slice-aggregate-put-bytes-2 c = search needs
-
-put-bytes-requires-2 : tie.Need-put-bytes-requires-2
-put-bytes-requires-2 c κs = search needs
-
 slice-aggregate-put-either-5 : tie.Need-slice-aggregate-put-either-5
 slice-aggregate-put-either-5 c = search needs
 
@@ -54,28 +40,20 @@ returns : tie.Need-returns
 unfolding stateText
 returns c =
     let enabled = c .before .before in
-    let comma = enabled .before .before .before .before .before .before in
-    let write = comma .before .before .before .before .before in
+    let write = enabled .before .before .before .before .before .before in
     let read = write .before .before .before .before .before .before in
-    let start = read .before .before .before .before .before .before in
-    let f = start .before .before .before .before .args .self in
-    let begun = then {b = cond (f .«read_enable») (82 ∷ []) []} (start .put-bytes .ensures) (read .put-either .ensures) in
-    then (then (then {b = cond (f .«write_enable») (87 ∷ []) (79 ∷ [])} begun (write .put-either2 .ensures)) (comma .put-bytes2 .ensures)) (enabled .put-either3 .ensures)
+    then (then (read .put-either .ensures) (write .put-either2 .ensures)) (enabled .put-either3 .ensures)
 
 pub put-state-spec : {M : Type 1} → statement M
 put-state-spec =
     tie.close
     (tie.spec
-    slice-aggregate-put-bytes
-    put-bytes-requires
     slice-aggregate-put-either
     slice-aggregate-put-either-2
     put-either-requires
     slice-aggregate-put-either-3
     slice-aggregate-put-either-4
     put-either-requires-2
-    slice-aggregate-put-bytes-2
-    put-bytes-requires-2
     slice-aggregate-put-either-5
     slice-aggregate-put-either-6
     put-either-requires-3

@@ -20,14 +20,14 @@ returns : tie.Need-returns
 unfolding segmentText
 returns c = rw (le-ltb _ _ (c .before .before .before .before .before .if1 .taken)) (c .before .before .put-bytes .ensures)
 
+slice-aggregate-put-hex8 : tie.Need-slice-aggregate-put-hex8
+slice-aggregate-put-hex8 c = search needs
+
 put-hex8-requires : tie.Need-put-hex8-requires
 put-hex8-requires c κs = search needs
 
-slice-aggregate-put-bytes-2 : tie.Need-slice-aggregate-put-bytes-2
-slice-aggregate-put-bytes-2 c = search needs
-
-put-bytes-requires-2 : tie.Need-put-bytes-requires-2
-put-bytes-requires-2 c κs = search needs
+slice-aggregate-put-hex8-2 : tie.Need-slice-aggregate-put-hex8-2
+slice-aggregate-put-hex8-2 c = search needs
 
 put-hex8-requires-2 : tie.Need-put-hex8-requires-2
 put-hex8-requires-2 c κs = search needs
@@ -39,9 +39,8 @@ returns-2 : tie.Need-returns-2
 unfolding segmentText
 returns-2 c =
     let end = c .before .before in
-    let dots = end .before .before .before .before in
-    let start = dots .before .before .before .before .before in
-    rw (lt-ltb _ _ (start .before .before .if1 .left)) (then (then (start .put-hex8 .ensures) (dots .put-bytes2 .ensures)) (end .put-hex82 .ensures))
+    let start = end .before .before .before .before .before in
+    rw (lt-ltb _ _ (start .before .before .before .if1 .left)) (then (start .put-hex8 .ensures) (end .put-hex82 .ensures))
 
 pub typed-spec : {M : Type 1} → statement M
 typed-spec =
@@ -51,9 +50,9 @@ typed-spec =
     put-bytes-requires
     same-length
     returns
+    slice-aggregate-put-hex8
     put-hex8-requires
-    slice-aggregate-put-bytes-2
-    put-bytes-requires-2
+    slice-aggregate-put-hex8-2
     put-hex8-requires-2
     same-length-2
     returns-2)

@@ -6,29 +6,17 @@ use borrow.Author.Needs.{needs}
 use Rattle.sync_manager_channel.proofs.SyncManagerChannel.put_state.Statement.{statement}
 use Rattle.sync_manager_channel.proofs.SyncManagerChannel.put_state.Tie as tie
 
+put-direction-requires : tie.Need-put-direction-requires
+put-direction-requires c κs = search needs
+
+put-mode-requires : tie.Need-put-mode-requires
+put-mode-requires c κs = search needs
+
 slice-aggregate-put-bytes : tie.Need-slice-aggregate-put-bytes
 slice-aggregate-put-bytes c = search needs
 
 put-bytes-requires : tie.Need-put-bytes-requires
 put-bytes-requires c κs = search needs
-
-put-direction-requires : tie.Need-put-direction-requires
-put-direction-requires c κs = search needs
-
-slice-aggregate-put-bytes-2 : tie.Need-slice-aggregate-put-bytes-2
-slice-aggregate-put-bytes-2 c = search needs
-
-put-bytes-requires-2 : tie.Need-put-bytes-requires-2
-put-bytes-requires-2 c κs = search needs
-
-put-mode-requires : tie.Need-put-mode-requires
-put-mode-requires c κs = search needs
-
-slice-aggregate-put-bytes-3 : tie.Need-slice-aggregate-put-bytes-3
-slice-aggregate-put-bytes-3 c = search needs
-
-put-bytes-requires-3 : tie.Need-put-bytes-requires-3
-put-bytes-requires-3 c κs = search needs
 
 slice-aggregate-put-either : tie.Need-slice-aggregate-put-either
 slice-aggregate-put-either c = search needs
@@ -48,27 +36,17 @@ returns c =
     let enabled = c .before .before in
     let comma = enabled .before .before .before .before .before .before in
     let mode = comma .before .before .before .before .before in
-    let named = mode .before .before .before .before in
-    let direction = named .before .before .before .before .before in
-    let first = direction .before .before .before .before in
-    then
-    (then
-    (then (then (then (first .put-bytes .ensures) (direction .put-direction .ensures)) (named .put-bytes2 .ensures)) (mode .put-mode .ensures))
-    (comma .put-bytes3 .ensures))
-    (enabled .put-either .ensures)
+    let direction = mode .before .before .before .before in
+    then (then (then (direction .put-direction .ensures) (mode .put-mode .ensures)) (comma .put-bytes .ensures)) (enabled .put-either .ensures)
 
 pub put-state-spec : {M : Type 1} → statement M
 put-state-spec =
     tie.close
     (tie.spec
+    put-direction-requires
+    put-mode-requires
     slice-aggregate-put-bytes
     put-bytes-requires
-    put-direction-requires
-    slice-aggregate-put-bytes-2
-    put-bytes-requires-2
-    put-mode-requires
-    slice-aggregate-put-bytes-3
-    put-bytes-requires-3
     slice-aggregate-put-either
     slice-aggregate-put-either-2
     put-either-requires
