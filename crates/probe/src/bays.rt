@@ -289,7 +289,9 @@ pub fn sides(
 
 // What lockerplan prints for the sheet, less the last line's end.
 pub fn plan(out: &mut [u8], sheet: &[u8]) -> usize {
-    match report::report(sheet, out) {
+    let fmmus = [0u8; 256];
+    let channels = [0u8; 128];
+    match report::report(sheet, fmmus, channels, out) {
         Written::Len(length) => {
             if length == 0 {
                 return 0;
