@@ -1,5 +1,7 @@
 // The entry points that take a sheet or register areas.
+use crate::parts;
 use crate::say;
+use crate::say::Line;
 use counting::Counted;
 use entries::Place;
 use mailboxes::MailboxConfig;
@@ -12,292 +14,247 @@ use pdo::Oversampling;
 use pdo::PdoDirection;
 use sheet::Answer;
 use sheet::Device;
+use sheet::SheetRead;
 use sheet::SyncManager;
 use subdevice::Passed;
 use translation::Reached;
 use translation::Translated;
 use wire::Written;
 
-pub fn direction_of(number: u8) -> PdoDirection {
-    if number == 0 {
-        return PdoDirection::MasterRead;
-    }
-    PdoDirection::MasterWrite
-}
-
 // A sync manager of a sheet: address, control byte, ENABLE, usage.
-fn manager(out: &mut [u8], at: usize, m: SyncManager) -> usize {
+fn manager(m: SyncManager) -> [u64; 4] {
     let control = m.control;
-    let one = say::then(out, at, m.start_addr as u64);
-    let two = say::words(out, one, b"/");
-    let three = say::hex(out, two, control.pack());
-    let four = say::slash(out, three, wire::bit_of(m.enable) as u64);
-    say::slash(out, four, m.usage_type as u64)
+    [
+        m.start_addr as u64,
+        say::SLASH + say::HEX + (control.pack() as u64),
+        say::SLASH + (wire::bit_of(m.enable) as u64),
+        say::SLASH + (m.usage_type as u64),
+    ]
 }
 
-fn managers(out: &mut [u8], at: usize, list: [SyncManager; 16], n: usize) -> usize {
-    let mut next = say::then_word(out, at, b"managers");
+fn managers(line: Line, list: [SyncManager; 16], n: usize) -> Line {
+    let mut longer = line.and(&[say::MANAGERS]);
     let count = wire::least(n, 16);
     let mut k = 0;
     while k < count {
         let m = list[k];
-        next = manager(out, next, m);
+        longer = longer.and(&manager(m));
         k += 1;
     }
-    next
+    longer
 }
 
-fn usages(out: &mut [u8], at: usize, list: [u8; 16], f: usize) -> usize {
-    let mut next = say::then_word(out, at, b"usages");
+fn usages(line: Line, list: [u8; 16], f: usize) -> Line {
+    let mut longer = line.and(&[say::USAGES]);
     let count = wire::least(f, 16);
     let mut k = 0;
     while k < count {
-        let usage = list[k];
-        next = say::then(out, next, usage as u64);
+        longer = longer.and(&[list[k] as u64]);
         k += 1;
     }
-    next
+    longer
 }
 
-fn flags(out: &mut [u8], d: Device) -> usize {
-    let one = say::then_flag(out, 0, d.has_mailbox);
-    let two = say::then_flag(out, one, d.coe_protocol);
-    let three = say::then_flag(out, two, d.complete_access);
-    let four = say::then(out, three, d.receive_size.0 as u64);
-    say::then(out, four, d.send_size.0 as u64)
-}
-
-fn device(out: &mut [u8], d: Device) -> usize {
-    let one = flags(out, d);
+fn device(d: Device) -> Line {
+    let flags = say::row(
+        &[
+            say::flag(d.has_mailbox),
+            say::flag(d.coe_protocol),
+            say::flag(d.complete_access),
+            d.receive_size.0 as u64,
+            d.send_size.0 as u64,
+        ],
+    );
     let list = d.managers;
-    let two = managers(out, one, list, d.n);
     let codes = d.usages;
-    let three = usages(out, two, codes, d.f);
-    let four = say::then_word(out, three, b"pdos");
-    say::then(out, four, d.p as u64)
+    usages(managers(flags, list, d.n), codes, d.f).and(&[say::PDOS, d.p as u64])
 }
 
-pub fn read(out: &mut [u8], sheet: &[u8]) -> usize {
-    let read = sheet::read(sheet);
+pub fn read(read: SheetRead) -> Line {
     let answer = read.answer;
     if let Answer::Refused(number) = answer {
-        return say::refused(out, 0, number);
+        return say::refused(number);
     }
     let d = read.device;
-    device(out, d)
+    device(d)
 }
 
 // A mailbox: address, size, sync manager.
-fn slot(out: &mut [u8], at: usize, slot: Slot) -> usize {
+fn slot(line: Line, slot: Slot) -> Line {
     match slot {
-        Slot::None => say::then_word(out, at, b"none"),
-        Slot::At(mailbox) => {
-            let one = say::then(out, at, mailbox.address as u64);
-            let two = say::slash(out, one, mailbox.len.0 as u64);
-            say::slash(out, two, mailbox.sync_manager as u64)
-        }
+        Slot::None => line.and(&[say::NONE]),
+        Slot::At(mailbox) => line.and(
+            &[
+                mailbox.address as u64,
+                say::SLASH + (mailbox.len.0 as u64),
+                say::SLASH + (mailbox.sync_manager as u64),
+            ],
+        ),
     }
 }
 
-fn config(out: &mut [u8], c: MailboxConfig) -> usize {
+fn config(c: MailboxConfig) -> Line {
     let read = c.read;
     let write = c.write;
-    let one = say::then_word(out, 0, b"ok");
-    let two = slot(out, one, read);
-    let three = slot(out, two, write);
-    let four = say::then_flag(out, three, c.has_coe);
-    say::then_flag(out, four, c.complete_access)
+    slot(slot(say::one(say::OK), read), write).and(
+        &[say::flag(c.has_coe), say::flag(c.complete_access)],
+    )
 }
 
-fn recorded(out: &mut [u8], answer: MailboxRead) -> usize {
+fn recorded(answer: MailboxRead) -> Line {
     match answer {
-        MailboxRead::Config(c) => config(out, c),
-        MailboxRead::Refused(number) => say::refused(out, 0, number),
+        MailboxRead::Config(c) => config(c),
+        MailboxRead::Refused(number) => say::refused(number),
     }
 }
 
-pub fn mailboxes(out: &mut [u8], sheet: &[u8], channels: &mut [u8]) -> usize {
-    let answer = mailboxes::configure_mailboxes(sheet, channels);
-    let next = recorded(out, answer);
+// The mailbox pass, over a copy of the channel part.
+pub fn mailboxes(out: &mut [u8], request: &[u8]) -> usize {
+    let mut space = [0u8; 512];
+    let channels = parts::copied(parts::channels(request), &mut space);
+    let answer = mailboxes::configure_mailboxes(parts::sheet(request), channels);
+    let next = say::put(out, recorded(answer));
     say::then_bytes(out, next, channels)
 }
 
-fn placed(out: &mut [u8], answer: Placed) -> usize {
+fn passed(done: Passed) -> Line {
+    let answer = done.answer;
+    let next = done.next.start_address as u64;
     match answer {
-        Placed::Segment(segment) => {
-            let one = say::then_word(out, 0, b"ok");
-            let two = say::then(out, one, segment.start as u64);
-            say::then(out, two, segment.end as u64)
-        }
-        Placed::Refused(number) => say::refused(out, 0, number),
+        Placed::Segment(segment) => say::row(
+            &[say::OK, segment.start as u64, segment.end as u64, next],
+        ),
+        Placed::Refused(number) => say::refused(number).and(&[next]),
     }
 }
 
-fn passed(out: &mut [u8], done: Passed) -> usize {
-    let answer = done.answer;
-    let next = placed(out, answer);
-    say::then(out, next, done.next.start_address as u64)
+fn data_pass(request: &[u8], fmmus: &mut [u8], channels: &mut [u8]) -> Passed {
+    lent::plan(
+        parts::sheet(request),
+        parts::table(request),
+        parts::size(request, 22),
+        fmmus,
+        channels,
+        Place {
+            offset: parts::offset(request),
+            group: parts::number4(request, 8),
+        },
+        parts::direction(request),
+    )
+}
+
+fn passed_over(out: &mut [u8], request: &[u8], fmmus: &mut [u8], channels: &mut [u8]) -> usize {
+    let done = data_pass(request, fmmus, channels);
+    let next = say::put(out, passed(done));
+    let end = say::then_bytes(out, next, fmmus);
+    say::then_bytes(out, end, channels)
+}
+
+// The data pass, over copies of both parts.
+pub fn pass(out: &mut [u8], request: &[u8]) -> usize {
+    let mut entries = [0u8; 512];
+    let mut images = [0u8; 512];
+    passed_over(
+        out,
+        request,
+        parts::copied(parts::fmmus(request), &mut entries),
+        parts::copied(parts::channels(request), &mut images),
+    )
 }
 
 // A device address, or none.
-fn reached(out: &mut [u8], at: usize, r: Reached) -> usize {
+fn reached(r: Reached) -> u64 {
     match r {
-        Reached::Nowhere => say::then_word(out, at, b"none"),
-        Reached::At(address) => say::then(out, at, address as u64),
+        Reached::Nowhere => say::NONE,
+        Reached::At(address) => address as u64,
     }
 }
 
-pub fn translate(out: &mut [u8], fmmus: &[u8], direction: PdoDirection, address: u32) -> usize {
-    match translation::translate(fmmus, direction, address) {
-        Translated::To(r) => reached(out, 0, r),
-        Translated::Refused(number) => say::refused(out, 0, number),
-    }
-}
-
-fn counted(out: &mut [u8], answer: Counted) -> usize {
+pub fn translated(answer: Translated) -> Line {
     match answer {
-        Counted::Nowhere => say::then_word(out, 0, b"none"),
+        Translated::To(r) => say::one(reached(r)),
+        Translated::Refused(number) => say::refused(number),
+    }
+}
+
+pub fn translate(request: &[u8], address: u32) -> Translated {
+    translation::translate(parts::fmmus(request), parts::direction(request), address)
+}
+
+pub fn counted(answer: Counted) -> Line {
+    match answer {
+        Counted::Nowhere => say::one(say::NONE),
         Counted::In(position) => {
             let device = position.device;
-            let one = say::then(out, 0, position.sync_manager as u64);
-            let two = say::then(out, one, position.byte as u64);
-            reached(out, two, device)
+            say::row(
+                &[
+                    position.sync_manager as u64,
+                    position.byte as u64,
+                    reached(device),
+                ],
+            )
         }
-        Counted::Refused(number) => say::refused(out, 0, number),
+        Counted::Refused(number) => say::refused(number),
     }
+}
+
+pub fn count(request: &[u8], address: u32) -> Counted {
+    lent::locate(
+        parts::sheet(request),
+        parts::table(request),
+        parts::size(request, 22),
+        parts::offset(request),
+        parts::direction(request),
+        address,
+    )
 }
 
 // One side of an agreement: a device address, none, or a refusal.
-enum Side {
-    At(u16),
-    None,
-    Refused(u8),
-}
-
-fn side_of(r: Reached) -> Side {
-    match r {
-        Reached::Nowhere => Side::None,
-        Reached::At(address) => Side::At(address),
+fn translated_side(answer: Translated) -> u64 {
+    match answer {
+        Translated::To(r) => reached(r),
+        Translated::Refused(number) => say::R + (number as u64),
     }
 }
 
-fn translated_side(answer: Translated) -> Side {
+fn counted_side(answer: Counted) -> u64 {
     match answer {
-        Translated::To(r) => side_of(r),
-        Translated::Refused(number) => Side::Refused(number),
-    }
-}
-
-fn counted_side(answer: Counted) -> Side {
-    match answer {
-        Counted::Nowhere => Side::None,
+        Counted::Nowhere => say::NONE,
         Counted::In(position) => {
             let device = position.device;
-            side_of(device)
+            reached(device)
         }
-        Counted::Refused(number) => Side::Refused(number),
+        Counted::Refused(number) => say::R + (number as u64),
     }
 }
 
-// A side as one number, so that two can be compared: none above all addresses, refusals above that.
-fn key(side: Side) -> u32 {
-    match side {
-        Side::At(address) => address as u32,
-        Side::None => 65536,
-        Side::Refused(number) => 65537 + (number as u32),
-    }
-}
-
-fn put_side(out: &mut [u8], at: usize, side: Side) -> usize {
-    match side {
-        Side::At(address) => say::then(out, at, address as u64),
-        Side::None => say::then_word(out, at, b"none"),
-        Side::Refused(number) => {
-            let next = say::then_word(out, at, b"r");
-            say::number(out, next, number as u64)
-        }
-    }
-}
-
-fn agree(out: &mut [u8], translated: Translated, counted: Counted) -> usize {
+pub fn agree(translated: Translated, counted: Counted) -> Line {
     let one = translated_side(translated);
     let two = counted_side(counted);
-    if key(one) == key(two) {
-        return say::then_word(out, 0, b"same");
+    if one == two {
+        return say::one(say::SAME);
     }
-    let at = say::then_word(out, 0, b"differ");
-    let next = put_side(out, at, one);
-    put_side(out, next, two)
+    say::row(&[say::DIFFER, one, two])
 }
 
-// The data pass.
-pub fn pass(
-    out: &mut [u8],
-    sheet: &[u8],
-    table: [Oversampling; 256],
-    records: usize,
-    fmmus: &mut [u8],
-    channels: &mut [u8],
-    place: Place,
-    direction: PdoDirection,
-) -> usize {
-    let done = lent::plan(sheet, table, records, fmmus, channels, place, direction);
-    let next = passed(out, done);
-    let one = say::then_bytes(out, next, fmmus);
-    say::then_bytes(out, one, channels)
-}
-
-pub fn count(
-    out: &mut [u8],
-    sheet: &[u8],
-    table: [Oversampling; 256],
-    records: usize,
-    offset: u32,
-    direction: PdoDirection,
-    address: u32,
-) -> usize {
-    let start = PdiOffset {
-        start_address: offset,
-    };
-    counted(
-        out,
-        lent::locate(sheet, table, records, start, direction, address),
-    )
-}
-
-// Both sides of the agreement at one address.
-pub fn sides(
-    out: &mut [u8],
-    sheet: &[u8],
-    table: [Oversampling; 256],
-    records: usize,
-    fmmus: &[u8],
-    offset: u32,
-    direction: PdoDirection,
-    address: u32,
-) -> usize {
-    let start = PdiOffset {
-        start_address: offset,
-    };
-    let translated = translation::translate(fmmus, direction, address);
-    agree(
-        out,
-        translated,
-        lent::locate(sheet, table, records, start, direction, address),
-    )
-}
-
-// What lockerplan prints for the sheet, less the last line's end.
-pub fn plan(out: &mut [u8], sheet: &[u8]) -> usize {
-    match report::report(sheet, out) {
+// A text's length less the last line's end. Every report fits, so that none is refused.
+fn without_end(answer: Written) -> usize {
+    match answer {
         Written::Len(length) => {
             if length == 0 {
                 return 0;
             }
             length - 1
         }
-        Written::Refused(number) => say::refused(out, 0, number),
+        Written::Refused(_) => 0,
     }
+}
+
+// What lockerplan prints for the sheet.
+pub fn plan(out: &mut [u8], request: &[u8]) -> usize {
+    let fmmus = [0u8; 256];
+    let channels = [0u8; 128];
+    without_end(report::report(parts::sheet(request), fmmus, channels, out))
 }
 
 // What a whole plan answers: both segments, or the refusal of the first pass refused.
@@ -370,32 +327,31 @@ fn plan_once(sheet: &[u8], table: [Oversampling; 256], records: usize) -> Planne
     }
 }
 
-fn put_plan(out: &mut [u8], plan: Planned) -> usize {
+fn both(plan: Planned) -> Line {
     match plan {
-        Planned::Nothing => say::then_word(out, 0, b"none"),
-        Planned::Segments(inputs, outputs) => {
-            let one = say::then(out, 0, inputs.start as u64);
-            let two = say::then(out, one, inputs.end as u64);
-            let three = say::then(out, two, outputs.start as u64);
-            say::then(out, three, outputs.end as u64)
-        }
-        Planned::Refused(number) => say::refused(out, 0, number),
+        Planned::Nothing => say::one(say::NONE),
+        Planned::Segments(inputs, outputs) => say::row(
+            &[
+                inputs.start as u64,
+                inputs.end as u64,
+                outputs.start as u64,
+                outputs.end as u64,
+            ],
+        ),
+        Planned::Refused(number) => say::refused(number),
     }
 }
 
 // The same plan over and over, for whoever counts its cost.
-pub fn again(
-    out: &mut [u8],
-    sheet: &[u8],
-    table: [Oversampling; 256],
-    records: usize,
-    times: u32,
-) -> usize {
+pub fn again(request: &[u8]) -> Line {
+    let sheet = parts::sheet(request);
+    let table = parts::table(request);
+    let records = parts::size(request, 22);
     let mut last = Planned::Nothing;
-    let mut left = times;
+    let mut left = parts::number4(request, 4);
     while 0 < left {
         last = plan_once(sheet, table, records);
         left -= 1;
     }
-    put_plan(out, last)
+    both(last)
 }

@@ -1,5 +1,6 @@
 // The entry points that take numbers alone.
 use crate::say;
+use crate::say::Line;
 use pdi::BitLen;
 use pdi::ByteLen;
 use pdi::Moved;
@@ -11,125 +12,109 @@ use sync_manager_channel::Control;
 use sync_manager_channel::ControlRead;
 use sync_manager_channel::Enable;
 use sync_manager_channel::Status;
-use wire::Written;
 
-pub fn round_up(out: &mut [u8], bits: u64) -> usize {
-    match BitLen(bits).round_up() {
-        Rounded::Bytes(bytes) => say::number(out, 0, bytes.0 as u64),
-        Rounded::Refused(number) => say::refused(out, 0, number),
-    }
+// Two numbers of four bytes as one of eight.
+fn joined(high: u32, low: u32) -> u64 {
+    (high as u64) * 0x1_0000_0000 + (low as u64)
 }
 
-fn moved(out: &mut [u8], answer: Moved) -> usize {
+fn rounded(answer: Rounded) -> Line {
     match answer {
-        Moved::To(next) => say::number(out, 0, next.start_address as u64),
-        Moved::Refused(number) => say::refused(out, 0, number),
+        Rounded::Bytes(bytes) => say::one(bytes.0 as u64),
+        Rounded::Refused(number) => say::refused(number),
     }
 }
 
-pub fn increment(out: &mut [u8], offset: u32, bytes: u32) -> usize {
-    let start = PdiOffset {
-        start_address: offset,
-    };
-    moved(out, start.increment(ByteLen((bytes % 65536) as u16)))
-}
-
-pub fn increment_byte_aligned(out: &mut [u8], offset: u32, bits: u64) -> usize {
-    let start = PdiOffset {
-        start_address: offset,
-    };
-    moved(out, start.increment_byte_aligned(BitLen(bits)))
-}
-
-fn segment(out: &mut [u8], segment: PdiSegment) -> usize {
-    let next = say::number(out, 0, segment.start as u64);
-    say::then(out, next, segment.end as u64)
-}
-
-pub fn up_to(out: &mut [u8], from: u32, to: u32) -> usize {
-    let start = PdiOffset {
-        start_address: from,
-    };
-    let between = start.up_to(PdiOffset { start_address: to });
-    let next = segment(out, between);
-    say::then(out, next, between.len() as u64)
-}
-
-pub fn less(out: &mut [u8], start: u32, end: u32, group: u32) -> usize {
-    match (PdiSegment { start, end }).less(group) {
-        Placed::Segment(counted) => segment(out, counted),
-        Placed::Refused(number) => say::refused(out, 0, number),
-    }
-}
-
-fn typed(out: &mut [u8], answer: Written) -> usize {
+fn moved(answer: Moved) -> Line {
     match answer {
-        Written::Len(length) => say::number(out, 0, length as u64),
-        Written::Refused(number) => say::refused(out, 0, number),
+        Moved::To(next) => say::one(next.start_address as u64),
+        Moved::Refused(number) => say::refused(number),
     }
 }
 
-// What a text that was written into lent room answers, and the room.
-pub fn texted(out: &mut [u8], answer: Written, room: &[u8]) -> usize {
-    let next = typed(out, answer);
-    say::then_room(out, next, room)
+fn up_to(start: PdiOffset, end: u32) -> Line {
+    let between = start.up_to(PdiOffset { start_address: end });
+    say::row(
+        &[
+            between.start as u64,
+            between.end as u64,
+            between.len() as u64,
+        ],
+    )
 }
 
-pub fn segment_text(out: &mut [u8], start: u32, end: u32, room: &mut [u8]) -> usize {
-    let answer = (PdiSegment { start, end }).fmt(room);
-    texted(out, answer, room)
+fn less(answer: Placed) -> Line {
+    match answer {
+        Placed::Segment(counted) => say::row(&[counted.start as u64, counted.end as u64]),
+        Placed::Refused(number) => say::refused(number),
+    }
 }
 
-pub fn control_flags(out: &mut [u8], at: usize, control: Control) -> usize {
+pub fn control_flags(control: Control) -> [u64; 5] {
     let mode = control.operation_mode;
     let direction = control.direction;
-    let one = say::then(out, at, mode.number() as u64);
-    let two = say::then(out, one, direction.number() as u64);
-    let three = say::then_flag(out, two, control.ecat_event_enable);
-    let four = say::then_flag(out, three, control.dls_user_event_enable);
-    say::then_flag(out, four, control.watchdog_enable)
+    [
+        mode.number() as u64,
+        direction.number() as u64,
+        say::flag(control.ecat_event_enable),
+        say::flag(control.dls_user_event_enable),
+        say::flag(control.watchdog_enable),
+    ]
 }
 
-pub fn status_flags(out: &mut [u8], at: usize, status: Status) -> usize {
+pub fn status_flags(status: Status) -> [u64; 6] {
     let state = status.buffer_state;
-    let one = say::then_flag(out, at, status.has_write_event);
-    let two = say::then_flag(out, one, status.has_read_event);
-    let three = say::then_flag(out, two, status.mailbox_full);
-    let four = say::then(out, three, state.number() as u64);
-    let five = say::then_flag(out, four, status.read_buffer_open);
-    say::then_flag(out, five, status.write_buffer_open)
+    [
+        say::flag(status.has_write_event),
+        say::flag(status.has_read_event),
+        say::flag(status.mailbox_full),
+        state.number() as u64,
+        say::flag(status.read_buffer_open),
+        say::flag(status.write_buffer_open),
+    ]
 }
 
-pub fn enable_flags(out: &mut [u8], at: usize, enable: Enable) -> usize {
-    let one = say::then_flag(out, at, enable.enable);
-    let two = say::then_flag(out, one, enable.repeat);
-    let three = say::then_flag(out, two, enable.enable_dc_event_bus_write);
-    let four = say::then_flag(out, three, enable.enable_dc_event_local_write);
-    let five = say::then_flag(out, four, enable.channel_pdi_disabled);
-    say::then_flag(out, five, enable.repeat_ack)
+pub fn enable_flags(enable: Enable) -> [u64; 6] {
+    [
+        say::flag(enable.enable),
+        say::flag(enable.repeat),
+        say::flag(enable.enable_dc_event_bus_write),
+        say::flag(enable.enable_dc_event_local_write),
+        say::flag(enable.channel_pdi_disabled),
+        say::flag(enable.repeat_ack),
+    ]
 }
 
-pub fn control(out: &mut [u8], byte: u8) -> usize {
-    match Control::unpack(byte) {
+fn control(answer: ControlRead) -> Line {
+    match answer {
         ControlRead::Named(read) => {
-            let next = control_flags(out, 0, read);
-            let again = [read.pack()];
-            say::then_bytes(out, next, &again)
+            say::row(&control_flags(read)).and(&[say::byte(read.pack())])
         }
-        ControlRead::Refused(number) => say::refused(out, 0, number),
+        ControlRead::Refused(number) => say::refused(number),
     }
 }
 
-pub fn status(out: &mut [u8], byte: u8) -> usize {
-    let read = Status::unpack(byte);
-    let next = status_flags(out, 0, read);
-    let again = [read.pack()];
-    say::then_bytes(out, next, &again)
+fn status(read: Status) -> Line {
+    say::row(&status_flags(read)).and(&[say::byte(read.pack())])
 }
 
-pub fn enable(out: &mut [u8], low: u8, high: u8) -> usize {
-    let read = Enable::unpack(low, high);
-    let next = enable_flags(out, 0, read);
+fn enable(read: Enable) -> Line {
     let again = read.pack();
-    say::then_bytes(out, next, &again)
+    say::row(&enable_flags(read)).and(&[say::byte(again[0]), say::next_byte(again[1])])
+}
+
+pub fn answer(letter: u8, a: u32, b: u32, c: u32) -> Line {
+    let start = PdiOffset { start_address: a };
+    let byte = (c % 256) as u8;
+    match letter {
+        b'r' => rounded(BitLen(joined(a, c)).round_up()),
+        b'i' => moved(start.increment(ByteLen((c % 65536) as u16))),
+        b'b' => moved(start.increment_byte_aligned(BitLen(joined(b, c)))),
+        b'u' => up_to(start, c),
+        b'g' => less((PdiSegment { start: a, end: b }).less(c)),
+        b'k' => control(Control::unpack(byte)),
+        b'j' => status(Status::unpack(byte)),
+        b'e' => enable(Enable::unpack(byte, (c / 256 % 256) as u8)),
+        _ => say::one(say::UNKNOWN),
+    }
 }

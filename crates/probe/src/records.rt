@@ -1,9 +1,12 @@
-// The entry points that take an image or a record.
+// The entry points that take an image, or a record and lent room.
 use crate::numbers;
+use crate::parts;
 use crate::say;
+use crate::say::Line;
 use fmmu::Fmmu;
 use fmmu::FmmuRead;
 use pdi::ByteLen;
+use pdi::PdiSegment;
 use sync_manager_channel::BufferState;
 use sync_manager_channel::ChannelRead;
 use sync_manager_channel::Control;
@@ -15,72 +18,22 @@ use sync_manager_channel::SyncManagerChannel;
 use wire::Written;
 
 fn set(bytes: &[u8], at: usize) -> bool {
-    say::byte_at(bytes, at) != 0
+    parts::byte_at(bytes, at) != 0
 }
 
 // An FMMU record of fourteen bytes.
 fn fmmu_of(bytes: &[u8]) -> Fmmu {
     Fmmu {
-        logical_start_address: say::number4(bytes, 0),
-        length_bytes: ByteLen(say::number2(bytes, 4)),
-        logical_start_bit: say::byte_at(bytes, 6),
-        logical_end_bit: say::byte_at(bytes, 7),
-        physical_start_address: say::number2(bytes, 8),
-        physical_start_bit: say::byte_at(bytes, 10),
+        logical_start_address: parts::number4(bytes, 0),
+        length_bytes: ByteLen(parts::number2(bytes, 4)),
+        logical_start_bit: parts::byte_at(bytes, 6),
+        logical_end_bit: parts::byte_at(bytes, 7),
+        physical_start_address: parts::number2(bytes, 8),
+        physical_start_bit: parts::byte_at(bytes, 10),
         read_enable: set(bytes, 11),
         write_enable: set(bytes, 12),
         enable: set(bytes, 13),
     }
-}
-
-pub fn fmmu_text(out: &mut [u8], bytes: &[u8], room: &mut [u8]) -> usize {
-    let answer = fmmu_of(bytes).fmt(room);
-    numbers::texted(out, answer, room)
-}
-
-pub fn fmmu_write(out: &mut [u8], bytes: &[u8], room: &mut [u8]) -> usize {
-    let answer = fmmu_of(bytes).pack_to_slice(room);
-    imaged(out, answer, room)
-}
-
-fn fmmu_logical(out: &mut [u8], f: Fmmu) -> usize {
-    let one = say::then(out, 0, f.logical_start_address as u64);
-    let two = say::then(out, one, f.length_bytes.0 as u64);
-    let three = say::then(out, two, f.logical_start_bit as u64);
-    say::then(out, three, f.logical_end_bit as u64)
-}
-
-fn fmmu_physical(out: &mut [u8], at: usize, f: Fmmu) -> usize {
-    let one = say::then(out, at, f.physical_start_address as u64);
-    let two = say::then(out, one, f.physical_start_bit as u64);
-    let three = say::then_flag(out, two, f.read_enable);
-    let four = say::then_flag(out, three, f.write_enable);
-    say::then_flag(out, four, f.enable)
-}
-
-fn fmmu_fields(out: &mut [u8], f: Fmmu) -> usize {
-    let next = fmmu_logical(out, f);
-    fmmu_physical(out, next, f)
-}
-
-pub fn fmmu_read(out: &mut [u8], image: &[u8]) -> usize {
-    match Fmmu::unpack_from_slice(image) {
-        FmmuRead::Entry(f) => fmmu_fields(out, f),
-        FmmuRead::Refused(number) => say::refused(out, 0, number),
-    }
-}
-
-fn stored(out: &mut [u8], answer: Written) -> usize {
-    match answer {
-        Written::Len(_) => say::then_word(out, 0, b"ok"),
-        Written::Refused(number) => say::refused(out, 0, number),
-    }
-}
-
-// What an image that was written into lent room answers, and the room.
-fn imaged(out: &mut [u8], answer: Written, room: &[u8]) -> usize {
-    let next = stored(out, answer);
-    say::then_bytes(out, next, room)
 }
 
 fn mode_of(number: u8) -> OperationMode {
@@ -110,8 +63,8 @@ fn state_of(number: u8) -> BufferState {
 // A sync manager record of twenty-one bytes, in its parts.
 fn control_of(bytes: &[u8]) -> Control {
     Control {
-        operation_mode: mode_of(say::byte_at(bytes, 4)),
-        direction: direction_of(say::byte_at(bytes, 5)),
+        operation_mode: mode_of(parts::byte_at(bytes, 4)),
+        direction: direction_of(parts::byte_at(bytes, 5)),
         ecat_event_enable: set(bytes, 6),
         dls_user_event_enable: set(bytes, 7),
         watchdog_enable: set(bytes, 8),
@@ -123,7 +76,7 @@ fn status_of(bytes: &[u8]) -> Status {
         has_write_event: set(bytes, 9),
         has_read_event: set(bytes, 10),
         mailbox_full: set(bytes, 11),
-        buffer_state: state_of(say::byte_at(bytes, 12)),
+        buffer_state: state_of(parts::byte_at(bytes, 12)),
         read_buffer_open: set(bytes, 13),
         write_buffer_open: set(bytes, 14),
     }
@@ -142,38 +95,113 @@ fn enable_of(bytes: &[u8]) -> Enable {
 
 fn channel_of(bytes: &[u8]) -> SyncManagerChannel {
     SyncManagerChannel {
-        physical_start_address: say::number2(bytes, 0),
-        length_bytes: ByteLen(say::number2(bytes, 2)),
+        physical_start_address: parts::number2(bytes, 0),
+        length_bytes: ByteLen(parts::number2(bytes, 2)),
         control: control_of(bytes),
         status: status_of(bytes),
         enable: enable_of(bytes),
     }
 }
 
-pub fn channel_text(out: &mut [u8], bytes: &[u8], room: &mut [u8]) -> usize {
-    let answer = channel_of(bytes).fmt(room);
-    numbers::texted(out, answer, room)
+fn fmmu_fields(f: Fmmu) -> Line {
+    say::row(
+        &[
+            f.logical_start_address as u64,
+            f.length_bytes.0 as u64,
+            f.logical_start_bit as u64,
+            f.logical_end_bit as u64,
+            f.physical_start_address as u64,
+            f.physical_start_bit as u64,
+            say::flag(f.read_enable),
+            say::flag(f.write_enable),
+            say::flag(f.enable),
+        ],
+    )
 }
 
-pub fn channel_write(out: &mut [u8], bytes: &[u8], room: &mut [u8]) -> usize {
-    let answer = channel_of(bytes).pack_to_slice(room);
-    imaged(out, answer, room)
+pub fn fmmu_read(answer: FmmuRead) -> Line {
+    match answer {
+        FmmuRead::Entry(f) => fmmu_fields(f),
+        FmmuRead::Refused(number) => say::refused(number),
+    }
 }
 
-fn channel_fields(out: &mut [u8], channel: SyncManagerChannel) -> usize {
+fn channel_fields(channel: SyncManagerChannel) -> Line {
     let control = channel.control;
     let status = channel.status;
     let enable = channel.enable;
-    let one = say::then(out, 0, channel.physical_start_address as u64);
-    let two = say::then(out, one, channel.length_bytes.0 as u64);
-    let three = numbers::control_flags(out, two, control);
-    let four = numbers::status_flags(out, three, status);
-    numbers::enable_flags(out, four, enable)
+    say::row(
+            &[
+                channel.physical_start_address as u64,
+                channel.length_bytes.0 as u64,
+            ],
+        )
+        .and(&numbers::control_flags(control))
+        .and(&numbers::status_flags(status))
+        .and(&numbers::enable_flags(enable))
 }
 
-pub fn channel_read(out: &mut [u8], image: &[u8]) -> usize {
-    match SyncManagerChannel::unpack_from_slice(image) {
-        ChannelRead::Channel(channel) => channel_fields(out, channel),
-        ChannelRead::Refused(number) => say::refused(out, 0, number),
+pub fn channel_read(answer: ChannelRead) -> Line {
+    match answer {
+        ChannelRead::Channel(channel) => channel_fields(channel),
+        ChannelRead::Refused(number) => say::refused(number),
     }
+}
+
+// Whether an image is written into the room, and not a text.
+fn writes_image(letter: u8) -> bool {
+    letter == b'W' || letter == b'Z'
+}
+
+fn segment_of(request: &[u8]) -> PdiSegment {
+    PdiSegment {
+        start: parts::number4(request, 4),
+        end: parts::number4(request, 8),
+    }
+}
+
+// Writes a text or an image into lent room.
+fn write(request: &[u8], room: &mut [u8]) -> Written {
+    let letter = parts::byte_at(request, 0);
+    match letter {
+        b's' => segment_of(request).fmt(room),
+        b'f' => fmmu_of(parts::fmmus(request)).fmt(room),
+        b'W' => fmmu_of(parts::fmmus(request)).pack_to_slice(room),
+        b'y' => channel_of(parts::channels(request)).fmt(room),
+        _ => channel_of(parts::channels(request)).pack_to_slice(room),
+    }
+}
+
+fn written(answer: Written, image: bool) -> Line {
+    match answer {
+        Written::Len(length) => {
+            if image {
+                return say::one(say::OK);
+            }
+            say::one(length as u64)
+        }
+        Written::Refused(number) => say::refused(number),
+    }
+}
+
+// What the room is filled with first.
+fn filler(image: bool) -> u8 {
+    if image { 0xff } else { b'~' }
+}
+
+fn tell(out: &mut [u8], answer: Written, image: bool, room: &[u8]) -> usize {
+    let next = say::put(out, written(answer, image));
+    if image {
+        return say::then_bytes(out, next, room);
+    }
+    say::then_room(out, next, room)
+}
+
+// What a text or an image in lent room answers, and the room.
+pub fn roomed(out: &mut [u8], request: &[u8]) -> usize {
+    let image = writes_image(parts::byte_at(request, 0));
+    let mut space = [filler(image); 512];
+    let room = parts::front_mut(&mut space, parts::size(request, 2));
+    let answer = write(request, room);
+    tell(out, answer, image, room)
 }

@@ -6,12 +6,12 @@ use lib.ListN.{length}
 use Rattle.wire.specs.Outcome.{Outcome, refused, accepted}
 use Rattle.sheet.specs.Sheet.{managerCount}
 use Rattle.lines.proofs.Fits.{bay-length, refused-length}
-use Rattle.report.specs.Plan.{Bay, zeros, planBay, outcomeText, reportText}
+use Rattle.report.specs.Plan.{Areas, Bay, planBay, outcomeText, reportText}
 
 outcome-length : (n : ℕ) (o : Outcome Bay) → length (outcomeText n o) ≤ 4096
 outcome-length n (refused r) = refused-length r
 outcome-length n (accepted b) = bay-length n (b .inputs) (b .outputs) (b .left .fmmus) (b .left .channels)
 
-pub report-length : (sheet : List ℕ) → length (reportText sheet) ≤ 4096
+pub report-length : (sheet : List ℕ) (a : Areas) → length (reportText sheet a) ≤ 4096
 unfolding reportText
-report-length sheet = outcome-length (managerCount sheet) (planBay sheet zeros)
+report-length sheet a = outcome-length (managerCount sheet) (planBay sheet a)

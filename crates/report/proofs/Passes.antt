@@ -20,7 +20,7 @@ use Rattle.subdevice.specs.Pass.{entriesAfter, channelAreaAfter, Configures}
 use Rattle.lines.specs.Text.{refusedText, bayText}
 use Rattle.report.specs.declared.Plan.{Plan}
 use Rattle.report.specs.declared.Plan.the-variants as plan
-use Rattle.report.specs.Plan.{andThen, Areas, areas, Bay, bay, once, ended, pass, passLeaves, withOutputs, withInputs, mailboxLeaves, planBay, zeros, outcomeText, reportText, bayOf}
+use Rattle.report.specs.Plan.{andThen, Areas, areas, Bay, bay, once, ended, pass, passLeaves, withOutputs, withInputs, mailboxLeaves, planBay, outcomeText, reportText, bayOf}
 
 -- a data pass
 module _ (sheet : List ℕ) (r : PdoDirection) (offset : ℕ) (fmmus channels : List ℕ) {answer : Configured} {fmmusThen channelsThen : List ℕ}
@@ -83,14 +83,14 @@ module _ (sheet fmmus channels : List ℕ) {answer : MailboxRead} {channelsThen 
   mailboxes-refused n is = ap (λ (x : Outcome MailboxConfig). andThen x rest) (sym (ap mailboxOf is) ∙ c .says)
 
 -- the text of what the passes answer
-module _ (sheet : List ℕ) (r : Plan) (fmmus channels : List ℕ) (says : bayOf r (areas fmmus channels) ≡ planBay sheet zeros) where
-  told : (o : Outcome Bay) → bayOf r (areas fmmus channels) ≡ o → outcomeText (managerCount sheet) o ≡ reportText sheet
+module _ (sheet : List ℕ) (a : Areas) (r : Plan) (fmmus channels : List ℕ) (says : bayOf r (areas fmmus channels) ≡ planBay sheet a) where
+  told : (o : Outcome Bay) → bayOf r (areas fmmus channels) ≡ o → outcomeText (managerCount sheet) o ≡ reportText sheet a
   unfolding reportText
   told o is = ap (outcomeText (managerCount sheet)) (sym is ∙ says)
 
-  pub bay-text : (i o : PdiSegment) (n : ℕ) → r ≡ plan.Segments i o → n ≡ managerCount sheet → bayText n i o fmmus channels ≡ reportText sheet
+  pub bay-text : (i o : PdiSegment) (n : ℕ) → r ≡ plan.Segments i o → n ≡ managerCount sheet → bayText n i o fmmus channels ≡ reportText sheet a
   bay-text i o n is count =
       ap (λ (k : ℕ). bayText k i o fmmus channels) count ∙ told (accepted (bay i o (areas fmmus channels))) (ap (λ (x : Plan). bayOf x (areas fmmus channels)) is)
 
-  pub refusal-text : (n : ℕ) → r ≡ plan.Refused n → refusedText n ≡ reportText sheet
+  pub refusal-text : (n : ℕ) → r ≡ plan.Refused n → refusedText n ≡ reportText sheet a
   refusal-text n is = told (refused n) (ap (λ (x : Plan). bayOf x (areas fmmus channels)) is)

@@ -1,4 +1,5 @@
--- Every image of an accepted plan reads, so each of the sheet's n sync managers has its line; and the areas have their lengths.
+-- Over areas of the right lengths whose images read, every image of an accepted plan reads, so each of the sheet's n sync managers has its line.
+-- Zeros are such areas. An image with an unnamed mode that no pass writes has no line, so the premise is needed.
 -- Assumes nothing.
 use mathlib.Core.Path.{_≡_, refl, sym, _∙_, ap, subst}
 use mathlib.Core.Bool.{Bool, true, false, cond}
@@ -29,7 +30,7 @@ use Rattle.mailboxes.specs.declared.MailboxConfig.{MailboxConfig}
 use Rattle.mailboxes.specs.Mailbox.{mailboxPass, mailboxSize, mailboxChannels}
 use Rattle.subdevice.specs.Pass.{dataSize}
 use Rattle.lines.specs.Text.{line, inputsFront, outputsFront, channelLine, imageLine, enabledLine, lines, bayText}
-use Rattle.report.specs.Plan.{andThen, Areas, Bay, once, pass, passLeaves, withOutputs, withInputs, mailboxLeaves, planBay, zeros, outcomeText, reportText, channelLineOf, plainText}
+use Rattle.report.specs.Plan.{andThen, Areas, areas, Bay, once, pass, passLeaves, withOutputs, withInputs, mailboxLeaves, planBay, outcomeText, reportText, channelLineOf, plainText}
 
 -- eight bytes with a named mode and direction
 abbrev Reads : List ℕ → Type 0
@@ -67,7 +68,8 @@ pub record Right (a : Areas) : Type 0 where
   pub entries : length (a .fmmus) ≡ 256
   pub images : Images (a .channels)
 
-zeros-right : Right zeros
+-- the areas that the programs hand over
+pub zeros-right : Right (areas (replicate 256 0) (replicate 128 0))
 unfolding chunks unnamed
 zeros-right = record { entries = refl; images = record { long = refl; reads = each-repeat Reads 16 (replicate 8 0) (refl, refl) } }
 
@@ -111,9 +113,9 @@ inputs-right : (sheet : List ℕ) (a : Areas) → Right a → (b : Bay) → acce
 unfolding withInputs
 inputs-right sheet a h = then-all (λ (b : Bay). Right (b .left)) (pass sheet _ 0 a) _ (λ i b e. outputs-right sheet i _ (pass-right sheet _ 0 a i h) b e)
 
-pub plan-right : (sheet : List ℕ) (b : Bay) → accepted b ≡ planBay sheet zeros → Right (b .left)
+pub plan-right : (sheet : List ℕ) (a : Areas) → Right a → (b : Bay) → accepted b ≡ planBay sheet a → Right (b .left)
 unfolding planBay
-plan-right sheet = then-all (λ (b : Bay). Right (b .left)) (mailboxPass sheet (zeros .channels)) _ (λ c b e. inputs-right sheet _ (mailbox-right sheet zeros c zeros-right) b e)
+plan-right sheet a h = then-all (λ (b : Bay). Right (b .left)) (mailboxPass sheet (a .channels)) _ (λ c b e. inputs-right sheet _ (mailbox-right sheet a c h) b e)
 
 -- an image that reads has its line
 line-printed : (k : ℕ) (e : List ℕ) → Reads e → imageLine k e ≡ channelLineOf k e
@@ -127,11 +129,11 @@ lines-printed k (suc n) [] h = refl
 lines-printed k (suc n) (e ∷ es) h = λ i. line-printed k e (h .0) i ++ lines-printed (suc k) n es (h .1) i
 
 -- the whole text, without a proviso
-pub plainly : (sheet : List ℕ) (b : Bay) → accepted b ≡ planBay sheet zeros → reportText sheet ≡ plainText (managerCount sheet) b
+pub plainly : (sheet : List ℕ) (a : Areas) → Right a → (b : Bay) → accepted b ≡ planBay sheet a → reportText sheet a ≡ plainText (managerCount sheet) b
 unfolding reportText bayText plainText
-plainly sheet b e =
+plainly sheet a right b e =
     let n = managerCount sheet in
-    let h = plan-right sheet b e in
+    let h = plan-right sheet a right b e in
     let head = line inputsFront (segmentText (b .inputs)) ++ line outputsFront (segmentText (b .outputs)) in
     let images = ap (λ (l : List ℕ). lines imageLine 0 (take n (entriesOf 8 l))) (padded-same 128 (b .left .channels) (h .images .long)) ∙ lines-printed 0 n (entriesOf 8 (b .left .channels)) (h .images .reads) in
     let entries = ap (λ (l : List ℕ). lines enabledLine 0 (entriesOf 16 l)) (padded-same 256 (b .left .fmmus) (h .entries)) in

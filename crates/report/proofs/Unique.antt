@@ -5,5 +5,5 @@ use Rattle.wire.proofs.Pins.{Pins, with-room}
 use Rattle.wire.proofs.Unique.{same-in-room}
 use Rattle.report.proofs.report.Reads as report
 
-pub report-pins : Pins report.Post (λ κs r s. with-room r (now (s .1 .0)))
+pub report-pins : Pins report.Post (λ κs r s. with-room r (now (s .1 .1 .1 .0)))
 report-pins κs a x y s t p q = same-in-room p q

@@ -1,8 +1,8 @@
--- Mailbox, input and output pass over areas of zeros: offset and group 0, no oversampling; refused by the first pass that refuses.
+-- Mailbox, input and output pass over two areas: offset and group 0, no oversampling; refused by the first pass that refuses.
 -- Assumes nothing.
 use mathlib.Core.List.{List, [], _∷_, _++_}
 use Prim.Native.Nat.{ℕ}
-use lib.ListN.{take, replicate}
+use lib.ListN.{take}
 use Rattle.wire.specs.Outcome.{Outcome, refused, accepted}
 use Rattle.pdi.specs.declared.PdiOffset.{PdiOffset}
 use Rattle.pdi.specs.declared.PdiSegment.{PdiSegment}
@@ -87,19 +87,15 @@ mailboxLeaves sheet a c = areas (a .fmmus) (mailboxArea (accepted c) (sheetData 
 unfoldable pub planBay : List ℕ → Areas → Outcome Bay
 planBay sheet a = andThen (mailboxPass sheet (a .channels)) (λ (c : MailboxConfig). withInputs sheet (mailboxLeaves sheet a c))
 
--- areas zero
-abbrev pub zeros : Areas
-zeros = areas (replicate 256 0) (replicate 128 0)
-
 -- both segments, the images of the sheet's n sync managers, the enabled entries; or only the refusal
 abbrev pub outcomeText : ℕ → Outcome Bay → List ℕ
 outcomeText n (refused r) = refusedText r
 outcomeText n (accepted b) = bayText n (b .inputs) (b .outputs) (b .left .fmmus) (b .left .channels)
 
-unfoldable pub reportText : List ℕ → List ℕ
-reportText sheet = outcomeText (managerCount sheet) (planBay sheet zeros)
+unfoldable pub reportText : List ℕ → Areas → List ℕ
+reportText sheet a = outcomeText (managerCount sheet) (planBay sheet a)
 
--- the same without a proviso: every image has its line, and the areas are as long as they should be (proved in proofs/Printed.antt)
+-- the same without a proviso: every image has its line, and the areas are as long as they should be (proved in proofs/Printed.antt of areas that begin so)
 abbrev pub channelLineOf : ℕ → List ℕ → List ℕ
 channelLineOf k e = line (numbered (83 ∷ 77 ∷ []) k) (channelText (channelOf e))
 

@@ -1,4 +1,4 @@
-// What `lockerplan` prints of a bay: its sheet is planned over areas of zeros, from offset 0 in group 0, with no oversampling.
+// What `lockerplan` prints of a bay: its sheet is planned over the areas that it hands over, from offset 0 in group 0, with no oversampling.
 ghost use mathlib.Core.Path.{_≡_};
 ghost use Rattle.wire.specs.Room.{InRoom, textIn};
 ghost use Rattle.wire.specs.Text.{page, Types};
@@ -79,12 +79,10 @@ fn plan_bay(sheet: &[u8], fmmus: &mut [u8], channels: &mut [u8]) -> Plan
     }
 }
 
-// Types the whole text; the areas are zero.
-fn typed(sheet: &[u8], room: &mut [u8]) -> usize
-    ensures { λ r. ⌜ Types (page (now (room .entry)) 0) (page (now (room .exit)) r) (reportText (now (sheet .entry))) ⌝ }
+// Types the whole text; the areas are planned over as copies.
+fn typed(sheet: &[u8], mut fmmus: [u8; 256], mut channels: [u8; 128], room: &mut [u8]) -> usize
+    ensures { λ r. ⌜ Types (page (now (room .entry)) 0) (page (now (room .exit)) r) (reportText (now (sheet .entry)) (areas fmmus channels)) ⌝ }
 {
-    let mut fmmus = [0u8; 256];
-    let mut channels = [0u8; 128];
     match plan_bay(sheet, &mut fmmus, &mut channels) {
         Plan::Segments(inputs, outputs) => {
             let n = pdo::byte_at(sheet, 8);
@@ -95,10 +93,10 @@ fn typed(sheet: &[u8], room: &mut [u8]) -> usize
 }
 
 // The whole text, into lent room.
-pub fn report(sheet: &[u8], room: &mut [u8]) -> Written
-    ensures { λ r. ⌜ InRoom (textIn (reportText (now (sheet .entry))) (now (room .entry))) (reportText (now (sheet .entry))) (now (room .entry)) r (now (room .exit)) ⌝ }
+pub fn report(sheet: &[u8], fmmus: [u8; 256], channels: [u8; 128], room: &mut [u8]) -> Written
+    ensures { λ r. ⌜ InRoom (textIn (reportText (now (sheet .entry)) (areas fmmus channels)) (now (room .entry))) (reportText (now (sheet .entry)) (areas fmmus channels)) (now (room .entry)) r (now (room .exit)) ⌝ }
 {
     let mut text = [0u8; 4096];
-    let n = typed(sheet, &mut text);
+    let n = typed(sheet, fmmus, channels, &mut text);
     wire::write_text(&text[..n], room)
 }

@@ -4,7 +4,7 @@ use mathlib.Core.Path.{sym}
 use denote.Ref.{now}
 use lib.Seq.{length-take-le}
 use Rattle.wire.proofs.Typing.{Holds, holds, written}
-use Rattle.report.specs.Plan.{reportText}
+use Rattle.report.specs.Plan.{areas, reportText}
 use Rattle.report.proofs.Fits.{report-length}
 use borrow.Author.Needs.{needs}
 use Rattle.report.proofs.report.Statement.{statement}
@@ -17,8 +17,8 @@ typed-requires : tie.Need-typed-requires
 typed-requires c κs = search needs
 
 -- what stands in the array
-held : (c : tie.After-typed) → Holds (c .typed .last .1 .0) (c .typed .result) (reportText (now (c .before .before .before .before .args .sheet)))
-held c = holds (report-length (now (c .before .before .before .before .args .sheet))) (c .typed .ensures)
+held : (c : tie.After-typed) → let a = c .before .before .before .before .args in Holds (c .typed .last .1 .1 .1 .0) (c .typed .result) (reportText (now (a .sheet)) (areas (a .fmmus) (a .channels)))
+held c = let a = c .before .before .before .before .args in holds (report-length (now (a .sheet)) (areas (a .fmmus) (a .channels))) (c .typed .ensures)
 
 array-share-prefix-text : tie.Need-array-share-prefix-text
 array-share-prefix-text c = held (c .before) .fits

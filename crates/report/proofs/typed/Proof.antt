@@ -2,6 +2,7 @@
 -- Assumes nothing.
 use denote.Ref.{now}
 use Rattle.wire.proofs.Typing.{types}
+use Rattle.report.specs.Plan.{areas}
 use Rattle.report.proofs.Passes.{bay-text, refusal-text}
 use borrow.Author.Needs.{needs}
 use Rattle.report.proofs.typed.Statement.{statement}
@@ -42,19 +43,21 @@ same-length c = search needs
 
 returns : tie.Need-returns
 returns c =
+    let a = c .before .before .before .before .before .before .before .before .before .before .before .before .before .before .before .before .before .args in
     let p = c .before .before .before .before .before .before .before .before .before .before .before .before .plan-bay in
     let n = c .before .before .before .before .before .before .byte-at in
     let s = c .before .before .before .before .before .before .before .before .inputs .given in
-    types (bay-text (now (c .before .before .before .before .before .before .before .before .before .before .before .before .before .before .before .before .before .args .sheet)) (p .result) (p .last .1 .0) (p .last .1 .1 .0) (p .ensures) (s .0 .0) (s .0 .1 .0) (n .result) (s .1) (n .ensures)) (c .before .before .put-bay .ensures)
+    types (bay-text (now (a .sheet)) (areas (a .t2) (a .t3)) (p .result) (p .last .1 .0) (p .last .1 .1 .0) (p .ensures) (s .0 .0) (s .0 .1 .0) (n .result) (s .1) (n .ensures)) (c .before .before .put-bay .ensures)
 
 same-length-2 : tie.Need-same-length-2
 same-length-2 c = search needs
 
 returns-2 : tie.Need-returns-2
 returns-2 c =
+    let a = c .before .before .before .before .before .before .before .before .before .before .before .before .before .before .args in
     let p = c .before .before .before .before .before .before .before .before .before .plan-bay in
     let n = c .before .before .before .before .before .number .given in
-    types (refusal-text (now (c .before .before .before .before .before .before .before .before .before .before .before .before .before .before .args .sheet)) (p .result) (p .last .1 .0) (p .last .1 .1 .0) (p .ensures) (n .0 .0) (n .1)) (c .before .before .put-refused .ensures)
+    types (refusal-text (now (a .sheet)) (areas (a .t2) (a .t3)) (p .result) (p .last .1 .0) (p .last .1 .1 .0) (p .ensures) (n .0 .0) (n .1)) (c .before .before .put-refused .ensures)
 
 pub typed-spec : {M : Type 1} → statement M
 typed-spec =

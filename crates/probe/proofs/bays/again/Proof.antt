@@ -1,15 +1,32 @@
--- `probe::bays::again`: ends after as many turns as are asked.
--- Assumes nothing.
-use native.Mathlib.Omega.{arith}
 use borrow.Author.Needs.{needs}
+use native.Mathlib.Omega.{arith}
 use Rattle.probe.proofs.bays.again.Statement.{statement}
 use Rattle.probe.proofs.bays.again.Tie as tie
+use Rattle.probe.proofs.bays.again.Lts as lts
+use Rattle.probe.proofs.bays.both.Reads as both-reads
+use Rattle.probe.proofs.bays.plan_once.Reads as plan-once-reads
+use Rattle.probe.proofs.parts.number4.Reads as number4-reads
+use Rattle.probe.proofs.parts.sheet.Reads as sheet-reads
+use Rattle.probe.proofs.parts.size.Reads as size-reads
+use Rattle.probe.proofs.parts.table.Reads as table-reads
 
 abbrev Inv-loop : tie.InvT-loop
-Inv-loop out sheet table records times last₀ left₀ last left = Unit {0}
+Inv-loop request sheet table records last₀ left₀ last left = Unit {0}
 
 abbrev μ-loop : tie.MeasureT-loop
-μ-loop out sheet table records times last₀ left₀ last left = left
+μ-loop request sheet table records last₀ left₀ last left = left
+
+sheet-requires : tie.Need-sheet-requires Inv-loop μ-loop
+sheet-requires c κs = search needs
+
+table-requires : tie.Need-table-requires Inv-loop μ-loop
+table-requires c κs = search needs
+
+size-requires : tie.Need-size-requires Inv-loop μ-loop
+size-requires c κs = search needs
+
+number4-requires : tie.Need-number4-requires Inv-loop μ-loop
+number4-requires c κs = search needs
 
 loop-holds : tie.Need-loop-holds Inv-loop μ-loop
 loop-holds c = tt
@@ -26,11 +43,8 @@ loop-less c = omega arith
 loop-again : tie.Need-loop-again Inv-loop μ-loop
 loop-again c = tt
 
-put-plan-requires : tie.Need-put-plan-requires Inv-loop μ-loop
-put-plan-requires c κs = search needs
-
-same-length : tie.Need-same-length Inv-loop μ-loop
-same-length c = search needs
+both-requires : tie.Need-both-requires Inv-loop μ-loop
+both-requires c κs = search needs
 
 returns : tie.Need-returns Inv-loop μ-loop
 returns c = tt
@@ -41,11 +55,14 @@ again-spec =
     (tie.spec
     Inv-loop
     μ-loop
+    sheet-requires
+    table-requires
+    size-requires
+    number4-requires
     loop-holds
     plan-once-requires
     sub-left
     loop-less
     loop-again
-    put-plan-requires
-    same-length
+    both-requires
     returns)

@@ -1,29 +1,33 @@
-use mathlib.Core.Path.{_≡_}
 use Prim.Native.Nat.{_-_, _≤_}
 use native.Mathlib.Nat.{min-le-right}
+use mathlib.Core.Path.{_≡_}
 use lib.ListN.{length}
-use native.Mathlib.Omega.{arith}
 use borrow.Author.Needs.{needs}
+use native.Mathlib.Omega.{arith}
 use Rattle.probe.proofs.bays.managers.Statement.{statement}
 use Rattle.probe.proofs.bays.managers.Tie as tie
+use Rattle.probe.proofs.bays.managers.Lts as lts
+use Rattle.probe.proofs.bays.manager.Reads as manager-reads
+use Rattle.probe.proofs.say.Line.and.Reads as and-reads
+use Rattle.wire.proofs.least.Reads as least-reads
 
 abbrev Inv-loop : tie.InvT-loop
-Inv-loop out₀ at n list next₀ count k₀ out next k = (k ≤ count) × (count ≤ 16) × (length list ≡ 16) × (length out ≡ length out₀)
+Inv-loop n list longer₀ count k₀ longer k = (k ≤ count) × (count ≤ 16) × (length list ≡ 16)
 
 abbrev μ-loop : tie.MeasureT-loop
-μ-loop out₀ at n list next₀ count k₀ out next k = count - k
+μ-loop n list longer₀ count k₀ longer k = count - k
 
-slice-aggregate-then-word : tie.Need-slice-aggregate-then-word Inv-loop μ-loop
-slice-aggregate-then-word c = search needs
+slice-aggregate-and : tie.Need-slice-aggregate-and Inv-loop μ-loop
+slice-aggregate-and c = search needs
 
-then-word-requires : tie.Need-then-word-requires Inv-loop μ-loop
-then-word-requires c κs = search needs
+and-requires : tie.Need-and-requires Inv-loop μ-loop
+and-requires c κs = search needs
 
 least-requires : tie.Need-least-requires Inv-loop μ-loop
 least-requires c κs = search needs
 
 loop-holds : tie.Need-loop-holds Inv-loop μ-loop
-loop-holds c = (omega arith, omega (arith, c .least .ensures, min-le-right (c .before .before .before .before .before .before .before .args .n) 16), search needs, omega arith)
+loop-holds c = (omega arith, omega (arith, c .least .ensures, min-le-right (c .before .before .before .args .n) 16), search needs)
 
 mul-m : tie.Need-mul-m Inv-loop μ-loop
 mul-m c = omega arith
@@ -34,6 +38,12 @@ array-copy-out-m c = omega arith
 manager-requires : tie.Need-manager-requires Inv-loop μ-loop
 manager-requires c κs = search needs
 
+slice-aggregate-and-2 : tie.Need-slice-aggregate-and-2 Inv-loop μ-loop
+slice-aggregate-and-2 c = search needs
+
+and-requires-2 : tie.Need-and-requires-2 Inv-loop μ-loop
+and-requires-2 c κs = search needs
+
 add-k : tie.Need-add-k Inv-loop μ-loop
 add-k c = omega arith
 
@@ -41,10 +51,7 @@ loop-less : tie.Need-loop-less Inv-loop μ-loop
 loop-less c = omega arith
 
 loop-again : tie.Need-loop-again Inv-loop μ-loop
-loop-again c = (omega arith, omega arith, c .before .before .before .before .before .before .loop .inv .2, omega arith)
-
-same-length : tie.Need-same-length Inv-loop μ-loop
-same-length c = omega arith
+loop-again c = (omega arith, omega arith, search needs)
 
 returns : tie.Need-returns Inv-loop μ-loop
 returns c = tt
@@ -55,15 +62,16 @@ managers-spec =
     (tie.spec
     Inv-loop
     μ-loop
-    slice-aggregate-then-word
-    then-word-requires
+    slice-aggregate-and
+    and-requires
     least-requires
     loop-holds
     mul-m
     array-copy-out-m
     manager-requires
+    slice-aggregate-and-2
+    and-requires-2
     add-k
     loop-less
     loop-again
-    same-length
     returns)

@@ -1,38 +1,44 @@
-use mathlib.Core.Path.{_≡_}
+use borrow.Author.Needs.{needs}
 use Prim.Native.Nat.{_-_, _≤_}
 use native.Mathlib.Nat.{min-le-right}
+use mathlib.Core.Path.{_≡_}
 use lib.ListN.{length}
 use native.Mathlib.Omega.{arith}
-use borrow.Author.Needs.{needs}
 use Rattle.probe.proofs.bays.usages.Statement.{statement}
 use Rattle.probe.proofs.bays.usages.Tie as tie
+use Rattle.probe.proofs.bays.usages.Lts as lts
+use Rattle.probe.proofs.say.Line.and.Reads as and-reads
+use Rattle.wire.proofs.least.Reads as least-reads
 
 abbrev Inv-loop : tie.InvT-loop
-Inv-loop out₀ at f list next₀ count k₀ out next k = (k ≤ count) × (count ≤ 16) × (length list ≡ 16) × (length out ≡ length out₀)
+Inv-loop f list longer₀ count k₀ longer k = (k ≤ count) × (count ≤ 16) × (length list ≡ 16)
 
 abbrev μ-loop : tie.MeasureT-loop
-μ-loop out₀ at f list next₀ count k₀ out next k = count - k
+μ-loop f list longer₀ count k₀ longer k = count - k
 
-slice-aggregate-then-word : tie.Need-slice-aggregate-then-word Inv-loop μ-loop
-slice-aggregate-then-word c = search needs
+slice-aggregate-and : tie.Need-slice-aggregate-and Inv-loop μ-loop
+slice-aggregate-and c = search needs
 
-then-word-requires : tie.Need-then-word-requires Inv-loop μ-loop
-then-word-requires c κs = search needs
+and-requires : tie.Need-and-requires Inv-loop μ-loop
+and-requires c κs = search needs
 
 least-requires : tie.Need-least-requires Inv-loop μ-loop
 least-requires c κs = search needs
 
 loop-holds : tie.Need-loop-holds Inv-loop μ-loop
-loop-holds c = (omega arith, omega (arith, c .least .ensures, min-le-right (c .before .before .before .before .before .before .before .args .f) 16), search needs, omega arith)
+loop-holds c = (omega arith, omega (arith, c .least .ensures, min-le-right (c .before .before .before .args .f) 16), search needs)
 
-array-read-usage : tie.Need-array-read-usage Inv-loop μ-loop
-array-read-usage c = omega arith
+array-read-t15 : tie.Need-array-read-t15 Inv-loop μ-loop
+array-read-t15 c = omega arith
 
-cast-then : tie.Need-cast-then Inv-loop μ-loop
-cast-then c = search needs
+cast-t16 : tie.Need-cast-t16 Inv-loop μ-loop
+cast-t16 c = search needs
 
-then-requires : tie.Need-then-requires Inv-loop μ-loop
-then-requires c κs = search needs
+slice-aggregate-and-2 : tie.Need-slice-aggregate-and-2 Inv-loop μ-loop
+slice-aggregate-and-2 c = search needs
+
+and-requires-2 : tie.Need-and-requires-2 Inv-loop μ-loop
+and-requires-2 c κs = search needs
 
 add-k : tie.Need-add-k Inv-loop μ-loop
 add-k c = omega arith
@@ -41,10 +47,7 @@ loop-less : tie.Need-loop-less Inv-loop μ-loop
 loop-less c = omega arith
 
 loop-again : tie.Need-loop-again Inv-loop μ-loop
-loop-again c = (omega arith, omega arith, c .before .before .before .before .before .loop .inv .2, omega arith)
-
-same-length : tie.Need-same-length Inv-loop μ-loop
-same-length c = omega arith
+loop-again c = (omega arith, omega arith, search needs)
 
 returns : tie.Need-returns Inv-loop μ-loop
 returns c = tt
@@ -55,15 +58,15 @@ usages-spec =
     (tie.spec
     Inv-loop
     μ-loop
-    slice-aggregate-then-word
-    then-word-requires
+    slice-aggregate-and
+    and-requires
     least-requires
     loop-holds
-    array-read-usage
-    cast-then
-    then-requires
+    array-read-t15
+    cast-t16
+    slice-aggregate-and-2
+    and-requires-2
     add-k
     loop-less
     loop-again
-    same-length
     returns)

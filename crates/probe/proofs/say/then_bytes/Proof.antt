@@ -1,10 +1,13 @@
-use mathlib.Core.Path.{_≡_}
 use Prim.Native.Nat.{_-_, _≤_}
+use mathlib.Core.Path.{_≡_}
 use lib.ListN.{length}
-use native.Mathlib.Omega.{arith}
 use borrow.Author.Needs.{needs}
+use native.Mathlib.Omega.{arith}
 use Rattle.probe.proofs.say.then_bytes.Statement.{statement}
 use Rattle.probe.proofs.say.then_bytes.Tie as tie
+use Rattle.probe.proofs.say.then_bytes.Lts as lts
+use Rattle.probe.proofs.say.hex.Reads as hex-reads
+use Rattle.wire.proofs.put_byte.Reads as put-byte-reads
 
 abbrev Inv-loop : tie.InvT-loop
 Inv-loop out₀ at bytes next₀ i₀ out next i = (i ≤ length bytes) × (length out ≡ length out₀)
@@ -12,11 +15,11 @@ Inv-loop out₀ at bytes next₀ i₀ out next i = (i ≤ length bytes) × (leng
 abbrev μ-loop : tie.MeasureT-loop
 μ-loop out₀ at bytes next₀ i₀ out next i = length bytes - i
 
-gap-requires : tie.Need-gap-requires Inv-loop μ-loop
-gap-requires c κs = search needs
-
 put-byte-requires : tie.Need-put-byte-requires Inv-loop μ-loop
 put-byte-requires c κs = search needs
+
+put-byte-requires-2 : tie.Need-put-byte-requires-2 Inv-loop μ-loop
+put-byte-requires-2 c κs = search needs
 
 same-length : tie.Need-same-length Inv-loop μ-loop
 same-length c = omega arith
@@ -54,8 +57,8 @@ then-bytes-spec =
     (tie.spec
     Inv-loop
     μ-loop
-    gap-requires
     put-byte-requires
+    put-byte-requires-2
     same-length
     returns
     loop-holds

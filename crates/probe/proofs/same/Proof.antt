@@ -1,9 +1,11 @@
 use Prim.Native.Nat.{_-_, _≤_}
 use lib.ListN.{length}
-use native.Mathlib.Omega.{arith}
 use borrow.Author.Needs.{needs}
-use Rattle.probe.proofs.say.same.Statement.{statement}
-use Rattle.probe.proofs.say.same.Tie as tie
+use native.Mathlib.Omega.{arith}
+use Rattle.probe.proofs.same.Statement.{statement}
+use Rattle.probe.proofs.same.Tie as tie
+use Rattle.probe.proofs.same.Lts as lts
+use Rattle.probe.proofs.parts.byte_at.Reads as byte-at-reads
 
 abbrev Inv-loop : tie.InvT-loop
 Inv-loop a b i₀ i = i ≤ length a

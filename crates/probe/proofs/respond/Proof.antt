@@ -1,20 +1,31 @@
--- `probe::answers`: each turn keeps every buffer's length.
+-- `probe::respond`: each turn keeps the buffers' lengths.
 -- Assumes nothing.
 use mathlib.Core.Path.{_≡_}
-use native.Mathlib.Omega.{arith}
 use lib.ListN.{length}
 use borrow.Author.Needs.{needs}
-use Rattle.probe.proofs.answers.Statement.{statement}
-use Rattle.probe.proofs.answers.Tie as tie
+use native.Mathlib.Omega.{arith}
+use Rattle.probe.proofs.respond.Statement.{statement}
+use Rattle.probe.proofs.respond.Tie as tie
+use Rattle.probe.proofs.respond.Lts as lts
+use Rattle.probe.proofs.answer.Reads as answer-reads
+use Rattle.probe.proofs.changed.Reads as changed-reads
+use Rattle.probe.proofs.parts.front.Reads as front-reads
+use Rattle.probe.proofs.parts.number4.Reads as number4-reads
 
 abbrev Inv-loop : tie.InvT-loop
-Inv-loop head sheet table fmmus₀ channels₀ before₀ kept₀ out₀ left₀ c₀ fmmus channels before kept out left c = (length before ≡ 4096) × (length out ≡ 4096) × (length fmmus ≡ length fmmus₀) × (length channels ≡ length channels₀)
+Inv-loop request times before₀ kept₀ out₀ left₀ c₀ before kept out left c = (length before ≡ 4096) × (length out ≡ 4096)
 
 abbrev μ-loop : tie.MeasureT-loop
-μ-loop head sheet table fmmus₀ channels₀ before₀ kept₀ out₀ left₀ c₀ fmmus channels before kept out left c = left
+μ-loop request times before₀ kept₀ out₀ left₀ c₀ before kept out left c = left
+
+number4-requires : tie.Need-number4-requires Inv-loop μ-loop
+number4-requires c κs = search needs
+
+number4-requires-2 : tie.Need-number4-requires-2 Inv-loop μ-loop
+number4-requires-2 c κs = search needs
 
 loop-holds : tie.Need-loop-holds Inv-loop μ-loop
-loop-holds c = (search needs, search needs, omega arith, omega arith)
+loop-holds c = (search needs, search needs)
 
 slice-aggregate-answer : tie.Need-slice-aggregate-answer Inv-loop μ-loop
 slice-aggregate-answer c = omega arith
@@ -34,14 +45,11 @@ slice-aggregate-changed c = omega arith
 changed-requires : tie.Need-changed-requires Inv-loop μ-loop
 changed-requires c κs = search needs
 
-same-length : tie.Need-same-length Inv-loop μ-loop
-same-length c = omega arith
-
-same-length-2 : tie.Need-same-length-2 Inv-loop μ-loop
-same-length-2 c = omega arith
-
 returns : tie.Need-returns Inv-loop μ-loop
 returns c = tt
+
+returns-2 : tie.Need-returns-2 Inv-loop μ-loop
+returns-2 c = tt
 
 add-c : tie.Need-add-c Inv-loop μ-loop
 add-c c = omega arith
@@ -53,23 +61,16 @@ loop-less : tie.Need-loop-less Inv-loop μ-loop
 loop-less c = omega arith
 
 loop-again : tie.Need-loop-again Inv-loop μ-loop
-loop-again c = (omega arith, omega arith, omega arith, omega arith)
+loop-again c = (omega arith, omega arith)
 
-same-length-3 : tie.Need-same-length-3 Inv-loop μ-loop
-same-length-3 c = omega arith
-
-same-length-4 : tie.Need-same-length-4 Inv-loop μ-loop
-same-length-4 c = omega arith
-
-returns-2 : tie.Need-returns-2 Inv-loop μ-loop
-returns-2 c = tt
-
-pub answers-spec : {M : Type 1} → statement M
-answers-spec =
+pub respond-spec : {M : Type 1} → statement M
+respond-spec =
     tie.close
     (tie.spec
     Inv-loop
     μ-loop
+    number4-requires
+    number4-requires-2
     loop-holds
     slice-aggregate-answer
     answer-requires
@@ -77,13 +78,9 @@ answers-spec =
     front-requires
     slice-aggregate-changed
     changed-requires
-    same-length
-    same-length-2
     returns
+    returns-2
     add-c
     sub-left
     loop-less
-    loop-again
-    same-length-3
-    same-length-4
-    returns-2)
+    loop-again)

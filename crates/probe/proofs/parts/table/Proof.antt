@@ -1,0 +1,94 @@
+use Prim.Native.Nat.{_-_, _≤_}
+use native.Mathlib.Nat.{min-le-right}
+use mathlib.Core.Path.{_≡_}
+use lib.ListN.{length}
+use borrow.Author.Needs.{needs}
+use native.Mathlib.Omega.{arith}
+use Rattle.probe.proofs.parts.table.Statement.{statement}
+use Rattle.probe.proofs.parts.table.Tie as tie
+use Rattle.probe.proofs.parts.table.Lts as lts
+use Rattle.probe.proofs.parts.byte_at.Reads as byte-at-reads
+use Rattle.probe.proofs.parts.size.Reads as size-reads
+use Rattle.wire.proofs.be16.Reads as be16-reads
+use Rattle.wire.proofs.least.Reads as least-reads
+
+abbrev Inv-loop : tie.InvT-loop
+Inv-loop request table₀ count k₀ table k = (k ≤ count) × (count ≤ 256) × (length table ≡ 256)
+
+abbrev μ-loop : tie.MeasureT-loop
+μ-loop request table₀ count k₀ table k = count - k
+
+size-requires : tie.Need-size-requires Inv-loop μ-loop
+size-requires c κs = search needs
+
+least-requires : tie.Need-least-requires Inv-loop μ-loop
+least-requires c κs = search needs
+
+loop-holds : tie.Need-loop-holds Inv-loop μ-loop
+loop-holds c = (omega arith, omega (arith, c .least .ensures, min-le-right (c .before .size .result) 256), search needs)
+
+mul-at : tie.Need-mul-at Inv-loop μ-loop
+mul-at c = omega arith
+
+add-at : tie.Need-add-at Inv-loop μ-loop
+add-at c = omega arith
+
+byte-at-requires : tie.Need-byte-at-requires Inv-loop μ-loop
+byte-at-requires c κs = search needs
+
+add-byte-at : tie.Need-add-byte-at Inv-loop μ-loop
+add-byte-at c = omega arith
+
+byte-at-requires-2 : tie.Need-byte-at-requires-2 Inv-loop μ-loop
+byte-at-requires-2 c κs = search needs
+
+be16-requires : tie.Need-be16-requires Inv-loop μ-loop
+be16-requires c κs = search needs
+
+add-byte-at-2 : tie.Need-add-byte-at-2 Inv-loop μ-loop
+add-byte-at-2 c = omega arith
+
+byte-at-requires-3 : tie.Need-byte-at-requires-3 Inv-loop μ-loop
+byte-at-requires-3 c κs = search needs
+
+mul-table : tie.Need-mul-table Inv-loop μ-loop
+mul-table c = omega arith
+
+array-set-from-table : tie.Need-array-set-from-table Inv-loop μ-loop
+array-set-from-table c = omega arith
+
+add-k : tie.Need-add-k Inv-loop μ-loop
+add-k c = omega arith
+
+loop-less : tie.Need-loop-less Inv-loop μ-loop
+loop-less c = omega arith
+
+loop-again : tie.Need-loop-again Inv-loop μ-loop
+loop-again c = (omega arith, omega arith, search needs)
+
+returns : tie.Need-returns Inv-loop μ-loop
+returns c = tt
+
+pub table-spec : {M : Type 1} → statement M
+table-spec =
+    tie.close
+    (tie.spec
+    Inv-loop
+    μ-loop
+    size-requires
+    least-requires
+    loop-holds
+    mul-at
+    add-at
+    byte-at-requires
+    add-byte-at
+    byte-at-requires-2
+    be16-requires
+    add-byte-at-2
+    byte-at-requires-3
+    mul-table
+    array-set-from-table
+    add-k
+    loop-less
+    loop-again
+    returns)
