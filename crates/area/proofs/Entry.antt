@@ -13,8 +13,8 @@ use lib.Dec.{leb}
 use Rattle.wire.specs.Room.{over}
 use Rattle.wire.proofs.Copied.{over-same}
 use Rattle.wire.proofs.Lists.{getD-any}
-use Rattle.area.specs.Area.{chunks, flat, padded, entryAt, storedAt}
-use Rattle.area.proofs.Flat.{Rows, rows-set, flat-set, chunks-flat, flat-chunks, length-chunks, rows-chunks, padded-same}
+use Rattle.area.specs.Area.{chunks, flat, areaOf, entryAt, storedAt}
+use Rattle.area.proofs.Flat.{Rows, rows-set, flat-set, chunks-flat, flat-chunks, length-chunks, rows-chunks, area-whole}
 
 -- the entry with a number stands at that many times its length
 chunk-at : (n m : ℕ) (l : List ℕ) (k : ℕ) (d : List ℕ) → k < m → getD (chunks n m l) k d ≡ take n (drop (k * n) l)
@@ -58,8 +58,8 @@ module _ (n : ℕ) (area : List ℕ) (k : ℕ) where
 
   pub entry-past : 15 < k → replicate n 0 ≡ entryAt n area k
   entry-past h =
-      let many = length-chunks n 16 (padded (16 * n) area) in
-      sym (List·getD-eq-default (chunks n 16 (padded (16 * n) area)) (zeros n) {n = k} (omega arith))
+      let many = length-chunks n 16 (areaOf (16 * n) area) in
+      sym (List·getD-eq-default (chunks n 16 (areaOf (16 * n) area)) (zeros n) {n = k} (omega arith))
 
   -- its bytes copied over as many zeros
   pub entry-there : (at size : ℕ) → length area ≡ 16 * n → k < 16 → at ≡ k * n → size ≡ n → at + n ≤ length area → over (take size (drop at area)) (zeros n) ≡ entryAt n area k
@@ -68,11 +68,11 @@ module _ (n : ℕ) (area : List ℕ) (k : ℕ) where
       let there : length (take size (drop at area)) ≡ length (zeros n) = length-take-le size (drop at area) (omega arith) ∙ r ∙ sym (length-replicate n 0) in
       over-same (take size (drop at area)) (zeros n) there
       ∙ ap₂ (λ (i j : ℕ). take i (drop j area)) r q
-      ∙ sym (ap (λ (l : List ℕ). getD (chunks n 16 l) k (zeros n)) (padded-same (16 * n) area long) ∙ chunk-at n 16 area k (zeros n) h)
+      ∙ sym (ap (λ (l : List ℕ). getD (chunks n 16 l) k (zeros n)) (area-whole (16 * n) area long) ∙ chunk-at n 16 area k (zeros n) h)
 
   -- within the area it doesn't matter what would stand past the last
-  pub entry-any : (d : List ℕ) → k < 16 → entryAt n area k ≡ getD (chunks n 16 (padded (16 * n) area)) k d
-  entry-any d h = getD-any (chunks n 16 (padded (16 * n) area)) k (zeros n) d (let many = length-chunks n 16 (padded (16 * n) area) in omega arith)
+  pub entry-any : (d : List ℕ) → k < 16 → entryAt n area k ≡ getD (chunks n 16 (areaOf (16 * n) area)) k d
+  entry-any d h = getD-any (chunks n 16 (areaOf (16 * n) area)) k (zeros n) d (let many = length-chunks n 16 (areaOf (16 * n) area) in omega arith)
 
 -- storing: where the bytes have room, and where not
 module _ (at : ℕ) (e area : List ℕ) where

@@ -17,7 +17,7 @@ use denote.Shadow.{shadow}
 use denote.Plain.{UInt}
 use denote.Laws.{Is}
 use denote.Array.{Array, each, inArray}
-use Rattle.area.specs.Area.{flat, chunks, padded}
+use Rattle.area.specs.Area.{flat, chunks, areaOf}
 
 -- each entry has n elements
 abbrev pub Rows : ℕ → List (List ℕ) → Type 0
@@ -93,12 +93,12 @@ length-chunks n zero l = refl
 length-chunks n (suc m) l = ap suc (length-chunks n m (drop n l))
 
 -- an area of the full length is itself
-pub padded-same : (n : ℕ) (l : List ℕ) → length l ≡ n → padded n l ≡ l
-padded-same n l e = rw (eq-eqb (length l) n e) refl
+pub area-whole : (n : ℕ) (l : List ℕ) → length l ≡ n → areaOf n l ≡ l
+area-whole n l e = rw (eq-eqb (length l) n e) refl
 
 -- however long the area is
-pub length-padded : (n : ℕ) (l : List ℕ) → length (padded n l) ≡ n
-length-padded n l = go (eqb (length l) n) refl
+pub length-area : (n : ℕ) (l : List ℕ) → length (areaOf n l) ≡ n
+length-area n l = go (eqb (length l) n) refl
   where
     go : (b : Bool) → eqb (length l) n ≡ b → length (cond b l (replicate n 0)) ≡ n
     go true e = eqb-true (length l) n e

@@ -12,15 +12,15 @@ chunks n zero l = []
 chunks n (suc m) l = take n l ∷ chunks n m (drop n l)
 
 -- an area of n bytes is itself; one of another length counts as n times 0
-abbrev pub padded : ℕ → List ℕ → List ℕ
-padded n l = cond (eqb (length l) n) l (replicate n 0)
+abbrev pub areaOf : ℕ → List ℕ → List ℕ
+areaOf n l = cond (eqb (length l) n) l (replicate n 0)
 
 abbrev pub entriesOf : ℕ → List ℕ → List (List ℕ)
 entriesOf n area = chunks n 16 area
 
 -- the entry with a number; past the last it is 0
 abbrev pub entryAt : ℕ → List ℕ → ℕ → List ℕ
-entryAt n area k = getD (entriesOf n (padded (16 * n) area)) k (replicate n 0)
+entryAt n area k = getD (entriesOf n (areaOf (16 * n) area)) k (replicate n 0)
 
 -- bytes stored in an area from a place on; where they have no room there, it stays
 abbrev pub storedAt : ℕ → List ℕ → List ℕ → List ℕ

@@ -13,8 +13,8 @@ use Rattle.wire.proofs.Order.{passed, passed-answer, stopped}
 use Rattle.pdi.specs.Offset.{pastEnd, incremented}
 use Rattle.pdi.specs.Segment.{segment, belowGroup, lessGroup}
 use Rattle.pdi.specs.declared.PdiSegment.{PdiSegment}
-use Rattle.area.specs.Area.{padded, entriesOf, flat}
-use Rattle.area.proofs.Flat.{flat-chunks, padded-same}
+use Rattle.area.specs.Area.{areaOf, entriesOf, flat}
+use Rattle.area.proofs.Flat.{flat-chunks, area-whole}
 use Rattle.pdo.specs.declared.PdoDirection.{PdoDirection}
 use Rattle.entries.specs.declared.Configured.the-variants.{Mapped, Refused}
 use Rattle.uses.specs.Use.{Use, total}
@@ -33,7 +33,7 @@ start-decides offset next group h = go (ltb offset group) refl
 pub record Looked (us : List Use) (area : List ℕ) (uses : List Use) (long : Bool) : Type 0 where
   pub whole : length area ≡ 256
   pub same : uses ≡ us
-  pub is : tooLong uses (entriesOf 16 (padded 256 area)) ≡ long
+  pub is : tooLong uses (entriesOf 16 (areaOf 256 area)) ≡ long
 
 module _ (us : List Use) (area : List ℕ) (r : PdoDirection) (offset group : ℕ) where
   abbrev outcome : Outcome Planned
@@ -51,7 +51,7 @@ module _ (us : List Use) (area : List ℕ) (r : PdoDirection) (offset group : �
   decided : {uses : List Use} {b : Bool} → Looked us area uses b → outcome ≡ cond b (refused 8) (first nine last)
   decided k =
       let one = ap not (eq-eqb (length area) 256 (k .whole)) in
-      let eight = sym (ap₂ (λ (u : List Use) (l : List ℕ). tooLong u (entriesOf 16 l)) (k .same) (padded-same 256 area (k .whole))) ∙ k .is in
+      let eight = sym (ap₂ (λ (u : List Use) (l : List ℕ). tooLong u (entriesOf 16 l)) (k .same) (area-whole 256 area (k .whole))) ∙ k .is in
       ap₂ (λ (a b : Bool). cond a (refused 1) (cond b (refused 8) (first nine last))) one eight
 
   refuses : (n : ℕ) → outcome ≡ refused n → WritesEntries us r offset group area (Refused n) area

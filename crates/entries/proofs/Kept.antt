@@ -9,7 +9,7 @@ use lib.Seq.{set-out}
 use Rattle.fmmu.specs.Image.{fieldsOf, imageOf}
 use Rattle.fmmu.proofs.RoundTrip.{image-length}
 use Rattle.area.specs.Area.{entriesOf, entryAt, storedAt}
-use Rattle.area.proofs.Flat.{Rows, rows-set, length-chunks, padded-same}
+use Rattle.area.proofs.Flat.{Rows, rows-set, length-chunks, area-whole}
 use Rattle.area.proofs.Entry.{entry-any, length-stored, stored-entry}
 use Rattle.pdo.specs.declared.PdoDirection.{PdoDirection}
 use Rattle.uses.specs.Use.{Use}
@@ -18,7 +18,7 @@ use Rattle.entries.specs.Entries.{laid, withUse, plan}
 -- the entry that is read, and what is then stored in its place
 module _ (area : List ℕ) (long : length area ≡ 256) where
   pub entry-read : (e : ℕ) (image : List ℕ) → e < 16 → image ≡ entryAt 16 area e → image ≡ getD (entriesOf 16 area) e []
-  entry-read e image h q = q ∙ entry-any 16 area e [] h ∙ ap (λ (l : List ℕ). getD (entriesOf 16 l) e []) (padded-same 256 area long)
+  entry-read e image h q = q ∙ entry-any 16 area e [] h ∙ ap (λ (l : List ℕ). getD (entriesOf 16 l) e []) (area-whole 256 area long)
 
   pub use-stored :
       (r : PdoDirection) (offset : ℕ) (u : Use) (at : ℕ) (image after : List ℕ) → u .entry < 16 → at ≡ u .entry * 16

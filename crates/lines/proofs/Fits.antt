@@ -21,7 +21,7 @@ use Rattle.fmmu.specs.declared.Fmmu.{Fmmu}
 use Rattle.fmmu.specs.Image.{fieldsOf}
 use Rattle.fmmu.specs.Text.{fmmuText}
 use Rattle.fmmu.proofs.Text.{fmmu-length}
-use Rattle.area.specs.Area.{padded, entriesOf}
+use Rattle.area.specs.Area.{areaOf, entriesOf}
 use Rattle.area.proofs.Flat.{length-chunks}
 use Rattle.lines.specs.Text.{line, numbered, inputsFront, outputsFront, channelLine, entryLine, lines, imageLine, enabledLine, refusedText, bayText}
 
@@ -71,13 +71,13 @@ bay-length n inputs outputs fmmus channels =
     let il = line-length inputsFront (segmentText inputs) in
     let o = segment-length outputs in
     let ol = line-length outputsFront (segmentText outputs) in
-    let images = entriesOf 8 (padded 128 channels) in
+    let images = entriesOf 8 (areaOf 128 channels) in
     let few = length-take n images in
     let least = min-le-right n (length images) in
-    let sixteen = length-chunks 8 16 (padded 128 channels) in
+    let sixteen = length-chunks 8 16 (areaOf 128 channels) in
     let s = lines-length imageLine 106 (λ k e. channel-line k (readChannel e)) 0 (take n images) in
-    let entries = length-chunks 16 16 (padded 256 fmmus) in
-    let f = lines-length enabledLine 140 (λ k e. entry-line k (fieldsOf e)) 0 (entriesOf 16 (padded 256 fmmus)) in
+    let entries = length-chunks 16 16 (areaOf 256 fmmus) in
+    let f = lines-length enabledLine 140 (λ k e. entry-line k (fieldsOf e)) 0 (entriesOf 16 (areaOf 256 fmmus)) in
     simp length-append (omega arith)
 
 pub refused-length : (n : ℕ) → length (refusedText n) ≤ 4096

@@ -17,7 +17,7 @@ use Rattle.sync_manager_channel.specs.Text.{channelText}
 use Rattle.fmmu.specs.declared.Fmmu.{Fmmu}
 use Rattle.fmmu.specs.Image.{fieldsOf}
 use Rattle.fmmu.specs.Text.{fmmuText}
-use Rattle.area.specs.Area.{padded, entriesOf}
+use Rattle.area.specs.Area.{areaOf, entriesOf}
 
 -- a line: what it is about, its text, the newline
 abbrev pub line : List ℕ → List ℕ → List ℕ
@@ -64,8 +64,8 @@ unfoldable pub bayText : ℕ → PdiSegment → PdiSegment → List ℕ → List
 bayText n inputs outputs fmmus channels =
     line inputsFront (segmentText inputs)
     ++ line outputsFront (segmentText outputs)
-    ++ lines imageLine 0 (take n (entriesOf 8 (padded 128 channels)))
-    ++ lines enabledLine 0 (entriesOf 16 (padded 256 fmmus))
+    ++ lines imageLine 0 (take n (entriesOf 8 (areaOf 128 channels)))
+    ++ lines enabledLine 0 (entriesOf 16 (areaOf 256 fmmus))
 
 -- what an answer into lent room says of the room: the text at its front
 abbrev pub shown : Written → List ℕ → List ℕ

@@ -3,7 +3,7 @@ ghost use mathlib.Core.List.{[], _∷_, _++_};
 ghost use lib.ListN.{take};
 ghost use Rattle.wire.specs.Text.{page, Types};
 ghost use Rattle.pdi.specs.Segment.{segmentText};
-ghost use Rattle.area.specs.Area.{padded, entriesOf};
+ghost use Rattle.area.specs.Area.{areaOf, entriesOf};
 ghost use Rattle.lines.specs.Text.{shown, line, numbered, imageLine, enabledLine, lines, refusedText, bayText};
 use fmmu::Fmmu;
 use pdi::PdiSegment;
@@ -74,7 +74,7 @@ fn put_entry(room: &mut [u8], from: usize, k: u16, image: [u8; 16]) -> usize
 
 // The lines of the first n sync managers of an area.
 fn put_channels(room: &mut [u8], from: usize, channels: &[u8], n: u8) -> usize
-    ensures { λ r. ⌜ Types (page (now (room .entry)) from) (page (now (room .exit)) r) (lines imageLine 0 (take n (entriesOf 8 (padded 128 (now (channels .entry)))))) ⌝ }
+    ensures { λ r. ⌜ Types (page (now (room .entry)) from) (page (now (room .exit)) r) (lines imageLine 0 (take n (entriesOf 8 (areaOf 128 (now (channels .entry)))))) ⌝ }
 {
     let count = wire::least(n as usize, 16);
     let mut at = from;
@@ -89,7 +89,7 @@ fn put_channels(room: &mut [u8], from: usize, channels: &[u8], n: u8) -> usize
 
 // The lines of an area's enabled entries.
 fn put_entries(room: &mut [u8], from: usize, fmmus: &[u8]) -> usize
-    ensures { λ r. ⌜ Types (page (now (room .entry)) from) (page (now (room .exit)) r) (lines enabledLine 0 (entriesOf 16 (padded 256 (now (fmmus .entry))))) ⌝ }
+    ensures { λ r. ⌜ Types (page (now (room .entry)) from) (page (now (room .exit)) r) (lines enabledLine 0 (entriesOf 16 (areaOf 256 (now (fmmus .entry))))) ⌝ }
 {
     let mut at = from;
     let mut k = 0;

@@ -19,7 +19,7 @@ use Rattle.sheet.specs.Sound.{Each}
 use Rattle.sheet.specs.Sheet.{sheetData, managerCount}
 use Rattle.sheet.specs.declared.SyncManager.{SyncManager}
 use Rattle.area.specs.Area.{chunks, entriesOf, flat}
-use Rattle.area.proofs.Flat.{length-chunks, rows-chunks, chunks-flat, flat-bytes, padded-same}
+use Rattle.area.proofs.Flat.{length-chunks, rows-chunks, chunks-flat, flat-bytes, area-whole}
 use Rattle.pdo.specs.declared.PdoDirection.{PdoDirection}
 use Rattle.channels.specs.Channels.{channelFor, written, channelsAfter}
 use Rattle.channels.proofs.After.{channels-kept}
@@ -135,6 +135,6 @@ plainly sheet a right b e =
     let n = managerCount sheet in
     let h = plan-right sheet a right b e in
     let head = line inputsFront (segmentText (b .inputs)) ++ line outputsFront (segmentText (b .outputs)) in
-    let images = ap (λ (l : List ℕ). lines imageLine 0 (take n (entriesOf 8 l))) (padded-same 128 (b .left .channels) (h .images .long)) ∙ lines-printed 0 n (entriesOf 8 (b .left .channels)) (h .images .reads) in
-    let entries = ap (λ (l : List ℕ). lines enabledLine 0 (entriesOf 16 l)) (padded-same 256 (b .left .fmmus) (h .entries)) in
+    let images = ap (λ (l : List ℕ). lines imageLine 0 (take n (entriesOf 8 l))) (area-whole 128 (b .left .channels) (h .images .long)) ∙ lines-printed 0 n (entriesOf 8 (b .left .channels)) (h .images .reads) in
+    let entries = ap (λ (l : List ℕ). lines enabledLine 0 (entriesOf 16 l)) (area-whole 256 (b .left .fmmus) (h .entries)) in
     ap (outcomeText n) (sym e) ∙ (λ i. head ++ images i ++ entries i)

@@ -16,8 +16,8 @@ use Rattle.fmmu.specs.Image.{fieldsOf}
 use Rattle.pdo.specs.declared.PdoDirection.{PdoDirection}
 use Rattle.pdo.specs.declared.PdoDirection.the-variants.{MasterRead, MasterWrite}
 use Rattle.pdo.specs.Bits.{someOf}
-use Rattle.area.specs.Area.{entriesOf, padded, entryAt}
-use Rattle.area.proofs.Flat.{length-chunks, padded-same}
+use Rattle.area.specs.Area.{entriesOf, areaOf, entryAt}
+use Rattle.area.proofs.Flat.{length-chunks, area-whole}
 use Rattle.area.proofs.Entry.{entry-any}
 use Rattle.translation.specs.Translate.{named, within, carries, wholeBytes, odd, says, firstSaid, orNone, translate}
 
@@ -62,15 +62,15 @@ module _ (r : PdoDirection) (e : List ℕ) (f : Fmmu) (is : f ≡ fieldsOf e) wh
 
 -- the entries that are looked at: the next one, as it was read, and none left
 abbrev pub entries : List ℕ → List (List ℕ)
-entries area = entriesOf 16 (padded 256 area)
+entries area = entriesOf 16 (areaOf 256 area)
 
 pub next : (area : List ℕ) (k : ℕ) (image : List ℕ) → k < 16 → image ≡ entryAt 16 area k → drop k (entries area) ≡ image ∷ drop (k + 1) (entries area)
 next area k image h e =
-    drop-cons (entries area) k [] (let many = length-chunks 16 16 (padded 256 area) in omega arith)
+    drop-cons (entries area) k [] (let many = length-chunks 16 16 (areaOf 256 area) in omega arith)
     ∙ ap₂ (λ (x : List ℕ) (j : ℕ). x ∷ drop j (entries area)) (sym (e ∙ entry-any 16 area k [] h)) (sym (add-one k))
 
 pub none-left : (area : List ℕ) (k : ℕ) → 16 ≤ k → drop k (entries area) ≡ []
-none-left area k h = drop-of-length-le (entries area) {i = k} (let many = length-chunks 16 16 (padded 256 area) in omega arith)
+none-left area k h = drop-of-length-le (entries area) {i = k} (let many = length-chunks 16 16 (areaOf 256 area) in omega arith)
 
 -- the first of several: one more that says something, and one that doesn't
 module _ (f : List ℕ → Option (Option ℕ)) (x : List ℕ) (xs l : List (List ℕ)) (e : l ≡ x ∷ xs) where
@@ -94,7 +94,7 @@ module _ (r : PdoDirection) (area : List ℕ) (a : ℕ) where
 
   module _ (long : length area ≡ 256) where
     whole : entries area ≡ entriesOf 16 area
-    whole = ap (entriesOf 16) (padded-same 256 area long)
+    whole = ap (entriesOf 16) (area-whole 256 area long)
 
     pub eleven : someOf (odd r) (entries area) ≡ true → refused 11 ≡ translate r area a
     unfolding translate

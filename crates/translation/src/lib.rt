@@ -1,7 +1,7 @@
 // Translation through the FMMU bytes: from a logical address to a device address. Added by design; the crate has none.
 ghost use mathlib.Core.Path.{_≡_};
 ghost use mathlib.Core.List.{map};
-ghost use Rattle.area.specs.Area.{padded, entriesOf};
+ghost use Rattle.area.specs.Area.{areaOf, entriesOf};
 ghost use Rattle.pdo.specs.Bits.{someOf};
 ghost use Rattle.translation.specs.Translate as meaning;
 ghost use Rattle.translation.specs.Translate.{reachedOf, saidOf, translatedOf, firstSaid, orNone};
@@ -80,7 +80,7 @@ fn odd(direction: PdoDirection, image: [u8; 16]) -> bool
 
 // Whether one of the entries is such.
 fn some_odd(fmmus: &[u8], direction: PdoDirection) -> bool
-    ensures { λ r. ⌜ r ≡ someOf (meaning.odd direction) (entriesOf 16 (padded 256 (now (fmmus .entry)))) ⌝ }
+    ensures { λ r. ⌜ r ≡ someOf (meaning.odd direction) (entriesOf 16 (areaOf 256 (now (fmmus .entry)))) ⌝ }
 {
     let mut k = 0;
     while k < 16 {
@@ -110,7 +110,7 @@ fn says(direction: PdoDirection, address: u32, image: [u8; 16]) -> Said
 
 // What the first entry that holds the address says.
 fn first_said(fmmus: &[u8], direction: PdoDirection, address: u32) -> Reached
-    ensures { λ r. ⌜ reachedOf r ≡ orNone (firstSaid (map (meaning.says direction address) (entriesOf 16 (padded 256 (now (fmmus .entry)))))) ⌝ }
+    ensures { λ r. ⌜ reachedOf r ≡ orNone (firstSaid (map (meaning.says direction address) (entriesOf 16 (areaOf 256 (now (fmmus .entry)))))) ⌝ }
 {
     let mut k = 0;
     while k < 16 {

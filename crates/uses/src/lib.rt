@@ -4,7 +4,7 @@ ghost use mathlib.Core.Bool.{cond};
 ghost use mathlib.Core.List.{[]};
 ghost use lib.ListN.{length, take};
 ghost use Prim.Native.Nat.{_≤_};
-ghost use Rattle.area.specs.Area.{padded, entriesOf};
+ghost use Rattle.area.specs.Area.{areaOf, entriesOf};
 ghost use Rattle.uses.specs.Use.{takes, usesFrom, mappingsOf, mappedUses};
 ghost use Rattle.uses.specs.Length.{lengthNow, Totals, tooLong};
 use channels::Wish;
@@ -93,7 +93,7 @@ fn entry_of(route: Route, number: usize) -> usize
 
 // 8: whether an entry would grow past 65,535 bytes.
 pub fn too_long(area: &[u8], mappings: Mappings) -> bool
-    ensures { λ r. ⌜ r ≡ tooLong (mappedUses mappings) (entriesOf 16 (padded 256 (now (area .entry)))) ⌝ }
+    ensures { λ r. ⌜ r ≡ tooLong (mappedUses mappings) (entriesOf 16 (areaOf 256 (now (area .entry)))) ⌝ }
 {
     let totals = totals_of(mappings);
     let mut k = 0;

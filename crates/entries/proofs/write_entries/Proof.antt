@@ -11,7 +11,7 @@ use Rattle.pdi.specs.Offset.{movedOf}
 use Rattle.pdi.specs.Segment.{segment, lessGroup, placedOf}
 use Rattle.pdi.specs.declared.PdiSegment.{PdiSegment}
 use Rattle.area.specs.Area.{entriesOf}
-use Rattle.area.proofs.Flat.{padded-same}
+use Rattle.area.proofs.Flat.{area-whole}
 use Rattle.uses.specs.Use.{usesFrom, mappedUses}
 use Rattle.uses.specs.Length.{tooLong}
 use Rattle.uses.proofs.Held.{held-back}
@@ -84,7 +84,7 @@ lay-requires c κs =
     let k = looked t _ (c .before .before .before .before .before .before .before .before .before .before .before .if2 .left) in
     let e = sym (ap movedOf (c .before .before .before .before .before .before .before .next .given .1)) ∙ c .before .before .before .before .before .before .before .before .before .end-of .ensures in
     let s = stepped (a .place .offset .«start_address») _ _ e in
-    (m .1, m .2, k .whole, sym (ap (λ (l : List ℕ). tooLong (mappedUses (t .before .before .mappings-of .result)) (entriesOf 16 l)) (padded-same 256 (now (a .area)) (k .whole))) ∙ k .is, omega arith)
+    (m .1, m .2, k .whole, sym (ap (λ (l : List ℕ). tooLong (mappedUses (t .before .before .mappings-of .result)) (entriesOf 16 l)) (area-whole 256 (now (a .area)) (k .whole))) ∙ k .is, omega arith)
 
 -- src/lib.rt:64:29
 enum-known-number : tie.Need-enum-known-number

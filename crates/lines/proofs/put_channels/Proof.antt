@@ -9,7 +9,7 @@ use denote.Ref.{now}
 use lib.ListN.{length, getD, take, drop, length-take}
 use lib.Seq.{getD-take}
 use Rattle.wire.specs.Text.{page, typedAll}
-use Rattle.area.specs.Area.{padded, entriesOf}
+use Rattle.area.specs.Area.{areaOf, entriesOf}
 use Rattle.area.proofs.Flat.{length-chunks}
 use Rattle.area.proofs.Entry.{entry-any}
 use Rattle.lines.specs.Text.{lines, imageLine}
@@ -19,8 +19,8 @@ use Rattle.lines.proofs.put_channels.Tie as tie
 
 abbrev Inv-loop : tie.InvT-loop
 Inv-loop room₀ from channels n count at₀ k₀ room at k =
-    (k ≤ count) × (count ≤ n) × (count ≤ 16) × (count ≡ length (take n (entriesOf 8 (padded 128 channels)))) × (length room ≡ length room₀)
-    × (typedAll (page room at) (lines imageLine k (drop k (take n (entriesOf 8 (padded 128 channels))))) ≡ typedAll (page room₀ from) (lines imageLine 0 (take n (entriesOf 8 (padded 128 channels)))))
+    (k ≤ count) × (count ≤ n) × (count ≤ 16) × (count ≡ length (take n (entriesOf 8 (areaOf 128 channels)))) × (length room ≡ length room₀)
+    × (typedAll (page room at) (lines imageLine k (drop k (take n (entriesOf 8 (areaOf 128 channels))))) ≡ typedAll (page room₀ from) (lines imageLine 0 (take n (entriesOf 8 (areaOf 128 channels)))))
 
 abbrev μ-loop : tie.MeasureT-loop
 μ-loop room₀ from channels n count at₀ k₀ room at k = count - k
@@ -31,8 +31,8 @@ least-requires c κs = tt
 loop-holds : tie.Need-loop-holds Inv-loop μ-loop
 loop-holds c =
     let a = c .before .before .before .args in
-    let images = entriesOf 8 (padded 128 (now (a .channels))) in
-    let all = c .least .ensures ∙ sym (length-take (a .n) images ∙ ap (min (a .n)) (length-chunks 8 16 (padded 128 (now (a .channels))))) in
+    let images = entriesOf 8 (areaOf 128 (now (a .channels))) in
+    let all = c .least .ensures ∙ sym (length-take (a .n) images ∙ ap (min (a .n)) (length-chunks 8 16 (areaOf 128 (now (a .channels))))) in
     let few = min-le-left (a .n) 16 in
     let most = min-le-right (a .n) 16 in
     (omega arith, omega arith, omega arith, all, refl, refl)
@@ -57,7 +57,7 @@ loop-again c =
     let l = c .before .before .before .before .before .before .loop in
     let put = c .before .before .put-channel in
     let a = c .before .before .before .before .before .before .before .before .before .before .args in
-    let images = entriesOf 8 (padded 128 (now (a .channels))) in
+    let images = entriesOf 8 (areaOf 128 (now (a .channels))) in
     let read = c .before .before .before .before .channel-at in
     let here : l .k < a .n = omega arith in
     let is = getD-take (a .n) images (l .k) [] here ∙ sym (read .ensures ∙ entry-any 8 (now (a .channels)) (l .k) [] (omega arith)) in (
@@ -76,7 +76,7 @@ returns : tie.Need-returns Inv-loop μ-loop
 returns c =
     let l = c .before .loop in
     let a = c .before .before .before .before .before .args in
-    record { is = sym (lines-end imageLine (take (a .n) (entriesOf 8 (padded 128 (now (a .channels))))) (l .k) {p = page (l .room) (l .at)} (omega arith)) ∙ l .inv .5 }
+    record { is = sym (lines-end imageLine (take (a .n) (entriesOf 8 (areaOf 128 (now (a .channels))))) (l .k) {p = page (l .room) (l .at)} (omega arith)) ∙ l .inv .5 }
 
 pub put-channels-spec : {M : Type 1} → statement M
 put-channels-spec =

@@ -7,7 +7,7 @@ use native.Mathlib.Omega.{arith}
 use denote.Ref.{now}
 use lib.ListN.{length, getD, drop}
 use Rattle.wire.specs.Text.{page, typedAll}
-use Rattle.area.specs.Area.{padded, entriesOf}
+use Rattle.area.specs.Area.{areaOf, entriesOf}
 use Rattle.area.proofs.Flat.{length-chunks}
 use Rattle.area.proofs.Entry.{entry-any}
 use Rattle.lines.specs.Text.{lines, enabledLine}
@@ -18,7 +18,7 @@ use Rattle.lines.proofs.put_entries.Tie as tie
 abbrev Inv-loop : tie.InvT-loop
 Inv-loop room₀ from fmmus at₀ k₀ room at k =
     (k ≤ 16) × (length room ≡ length room₀)
-    × (typedAll (page room at) (lines enabledLine k (drop k (entriesOf 16 (padded 256 fmmus)))) ≡ typedAll (page room₀ from) (lines enabledLine 0 (entriesOf 16 (padded 256 fmmus))))
+    × (typedAll (page room at) (lines enabledLine k (drop k (entriesOf 16 (areaOf 256 fmmus)))) ≡ typedAll (page room₀ from) (lines enabledLine 0 (entriesOf 16 (areaOf 256 fmmus))))
 
 abbrev μ-loop : tie.MeasureT-loop
 μ-loop room₀ from fmmus at₀ k₀ room at k = 16 - k
@@ -46,8 +46,8 @@ loop-again c =
     let l = c .before .before .before .before .before .before .loop in
     let put = c .before .before .put-entry in
     let a = c .before .before .before .before .before .before .before .before .before .args in
-    let images = entriesOf 16 (padded 256 (now (a .fmmus))) in
-    let many = length-chunks 16 16 (padded 256 (now (a .fmmus))) in
+    let images = entriesOf 16 (areaOf 256 (now (a .fmmus))) in
+    let many = length-chunks 16 16 (areaOf 256 (now (a .fmmus))) in
     let read = c .before .before .before .before .fmmu-at in
     let is = sym (read .ensures ∙ entry-any 16 (now (a .fmmus)) (l .k) [] (omega arith)) in (
       omega arith,
@@ -62,8 +62,8 @@ returns : tie.Need-returns Inv-loop μ-loop
 returns c =
     let l = c .before .loop in
     let a = c .before .before .before .before .args in
-    let many = length-chunks 16 16 (padded 256 (now (a .fmmus))) in
-    record { is = sym (lines-end enabledLine (entriesOf 16 (padded 256 (now (a .fmmus)))) (l .k) {p = page (l .room) (l .at)} (omega arith)) ∙ l .inv .2 }
+    let many = length-chunks 16 16 (areaOf 256 (now (a .fmmus))) in
+    record { is = sym (lines-end enabledLine (entriesOf 16 (areaOf 256 (now (a .fmmus)))) (l .k) {p = page (l .room) (l .at)} (omega arith)) ∙ l .inv .2 }
 
 pub put-entries-spec : {M : Type 1} → statement M
 put-entries-spec =
