@@ -1,3 +1,5 @@
+-- `channels::write_channels`: the sync managers that are left, written into the area, give the area with all of them written.
+-- Assumes nothing.
 use mathlib.Core.Path.{_≡_, refl, _∙_}
 use Prim.Native.Nat.{_-_, _≤_, min}
 use native.Mathlib.Omega.{arith}
@@ -8,10 +10,6 @@ use Rattle.channels.specs.Channels.{channelsAfter, wished}
 use Rattle.channels.proofs.After.{after-turn, after-all, channel-area-other}
 use Rattle.channels.proofs.write_channels.Statement.{statement}
 use Rattle.channels.proofs.write_channels.Tie as tie
-use Rattle.channels.proofs.write_channels.Reads as reads
-use Rattle.channels.proofs.write_channels.Lts as lts
-use Rattle.channels.proofs.write_channel.Reads as write-channel-reads
-use Rattle.wire.proofs.least.Reads as least-reads
 
 abbrev Inv-loop : tie.InvT-loop
 Inv-loop area₀ n managers wishes count k₀ area k =
@@ -23,47 +21,36 @@ Inv-loop area₀ n managers wishes count k₀ area k =
 abbrev μ-loop : tie.MeasureT-loop
 μ-loop area₀ n managers wishes count k₀ area k = count - k
 
--- src/lib.rt:65:9
 returns : tie.Need-returns Inv-loop μ-loop
 returns c = let a = c .before .before .args in channel-area-other (take (a .n) (a .t2)) (a .t4) (now (a .area)) (λ e. omega arith)
 
--- src/lib.rt:67:9
 least-requires : tie.Need-least-requires Inv-loop μ-loop
 least-requires c κs = tt
 
--- src/lib.rt:69:5
 loop-holds : tie.Need-loop-holds Inv-loop μ-loop
 loop-holds c = (omega arith, omega arith, omega arith, refl)
 
--- src/lib.rt:70:32
 mul-write-channel : tie.Need-mul-write-channel Inv-loop μ-loop
 mul-write-channel c = omega arith
 
--- src/lib.rt:70:32
 array-copy-out-write-channel : tie.Need-array-copy-out-write-channel Inv-loop μ-loop
 array-copy-out-write-channel c = omega arith
 
--- src/lib.rt:70:45
 mul-write-channel-2 : tie.Need-mul-write-channel-2 Inv-loop μ-loop
 mul-write-channel-2 c = omega arith
 
--- src/lib.rt:70:45
 array-copy-out-write-channel-2 : tie.Need-array-copy-out-write-channel-2 Inv-loop μ-loop
 array-copy-out-write-channel-2 c = omega arith
 
--- src/lib.rt:70:9
 write-channel-requires : tie.Need-write-channel-requires Inv-loop μ-loop
 write-channel-requires c κs = let l = c .before .before .before .before .loop in (l .inv .2, omega arith)
 
--- src/lib.rt:71:9
 add-k : tie.Need-add-k Inv-loop μ-loop
 add-k c = omega arith
 
--- src/lib.rt:69:5
 loop-less : tie.Need-loop-less Inv-loop μ-loop
 loop-less c = omega arith
 
--- src/lib.rt:69:5
 loop-again : tie.Need-loop-again Inv-loop μ-loop
 loop-again c =
     let w = c .before .before .write-channel .ensures in
@@ -73,11 +60,9 @@ loop-again c =
     let many = s .good .1 .0 .1 .0 .1 in
     (omega arith, omega arith, w .0, after-turn (a .t4) (a .t2) (a .n) (l .k) (entriesOf 8 (l .area)) _ _ (omega arith) (omega arith) (w .1) ∙ l .inv .3)
 
--- src/lib.rt:61:1
 same-length : tie.Need-same-length Inv-loop μ-loop
 same-length c = omega arith
 
--- src/lib.rt:61:1
 returns-2 : tie.Need-returns-2 Inv-loop μ-loop
 returns-2 c =
     let l = c .before .loop in

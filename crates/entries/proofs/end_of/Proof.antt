@@ -11,9 +11,6 @@ use Rattle.uses.proofs.Held.{uses-next, uses-end}
 use Rattle.entries.proofs.Laying.{Stepping, stepping-starts, stepping-turns, stepping-halts, stepping-ends}
 use Rattle.entries.proofs.end_of.Statement.{statement}
 use Rattle.entries.proofs.end_of.Tie as tie
-use Rattle.entries.proofs.end_of.Reads as reads
-use Rattle.entries.proofs.end_of.Lts as lts
-use Rattle.pdi.proofs.PdiOffset.increment.Reads as increment-reads
 
 abbrev Inv-loop : tie.InvT-loop
 Inv-loop mappings next₀ j₀ next j =
@@ -22,46 +19,36 @@ Inv-loop mappings next₀ j₀ next j =
 abbrev μ-loop : tie.MeasureT-loop
 μ-loop mappings next₀ j₀ next j = mappings .count - j
 
--- src/lib.rt:77:5
 loop-holds : tie.Need-loop-holds Inv-loop μ-loop
 loop-holds c = let a = c .args in (omega arith, stepping-starts (mappedUses (a .t1)) (a .offset .«start_address») (omega arith))
 
--- src/lib.rt:78:17
 mul-m : tie.Need-mul-m Inv-loop μ-loop
 mul-m c = omega arith
 
--- src/lib.rt:78:17
 element-copy-out-m : tie.Need-element-copy-out-m Inv-loop μ-loop
 element-copy-out-m c = omega arith
 
--- src/lib.rt:79:15
 increment-requires : tie.Need-increment-requires Inv-loop μ-loop
 increment-requires c κs = tt
 
--- src/lib.rt:80:23
 enum-known-o : tie.Need-enum-known-o Inv-loop μ-loop
 enum-known-o c = search needs
 
--- src/lib.rt:81:28
 enum-known-number : tie.Need-enum-known-number Inv-loop μ-loop
 enum-known-number c = search needs
 
--- src/lib.rt:81:39
 returns : tie.Need-returns Inv-loop μ-loop
 returns c =
     let l = c .before .before .before .before .before .before .loop in
     let s = c .before .before .before .before .before .before .before in
     stepping-halts (l .inv .1) (uses-next (s .args .t1) (l .j) (s .pre .1) (omega arith)) (sym (ap movedOf (c .before .number .given .1)) ∙ c .before .before .before .increment .ensures)
 
--- src/lib.rt:83:9
 add-j : tie.Need-add-j Inv-loop μ-loop
 add-j c = omega arith
 
--- src/lib.rt:77:5
 loop-less : tie.Need-loop-less Inv-loop μ-loop
 loop-less c = omega arith
 
--- src/lib.rt:77:5
 loop-again : tie.Need-loop-again Inv-loop μ-loop
 loop-again c =
     let l = c .before .before .before .before .before .before .loop in
@@ -69,7 +56,6 @@ loop-again c =
     let e = sym (ap movedOf (c .before .o .given .1)) ∙ c .before .before .before .increment .ensures in
     (omega arith, stepping-turns (l .inv .1) (uses-next (s .args .t1) (l .j) (s .pre .1) (omega arith)) e)
 
--- src/lib.rt:71:1
 returns-2 : tie.Need-returns-2 Inv-loop μ-loop
 returns-2 c =
     let l = c .before .loop in

@@ -12,9 +12,6 @@ use Rattle.uses.proofs.Held.{uses-next, uses-end}
 use Rattle.entries.proofs.Laying.{Laying, laying-starts, laying-fits, laying-reaches, laying-turns, laying-ends}
 use Rattle.entries.proofs.lay.Statement.{statement}
 use Rattle.entries.proofs.lay.Tie as tie
-use Rattle.entries.proofs.lay.Reads as reads
-use Rattle.entries.proofs.lay.Lts as lts
-use Rattle.entries.proofs.lay_one.Reads as lay-one-reads
 
 abbrev Inv-loop : tie.InvT-loop
 Inv-loop area₀ direction mappings next₀ j₀ area next j =
@@ -25,33 +22,27 @@ Inv-loop area₀ direction mappings next₀ j₀ area next j =
 abbrev μ-loop : tie.MeasureT-loop
 μ-loop area₀ direction mappings next₀ j₀ area next j = mappings .count - j
 
--- src/lib.rt:144:5
 loop-holds : tie.Need-loop-holds Inv-loop μ-loop
 loop-holds c =
     let s = c .before in
     let a = s .args in
     (omega arith, s .pre .2, laying-starts (mappedUses (a .t2)) (a .direction) (a .offset .«start_address») (entriesOf 16 (now (a .area))) (s .pre .3))
 
--- src/lib.rt:145:17
 mul-m : tie.Need-mul-m Inv-loop μ-loop
 mul-m c = omega arith
 
--- src/lib.rt:145:17
 element-copy-out-m : tie.Need-element-copy-out-m Inv-loop μ-loop
 element-copy-out-m c = omega arith
 
--- src/lib.rt:149:9
 lay-one-requires : tie.Need-lay-one-requires Inv-loop μ-loop
 lay-one-requires c κs =
     let l = c .before .before .before .loop in
     let s = c .before .before .before .before .before in
     (l .inv .1, λ h. laying-fits (l .inv .2) (uses-next (s .args .t2) (l .j) (s .pre .1) (omega arith)) h)
 
--- src/lib.rt:150:24
 cast-next : tie.Need-cast-next Inv-loop μ-loop
 cast-next c = omega arith
 
--- src/lib.rt:150:16
 add-next : tie.Need-add-next Inv-loop μ-loop
 add-next c =
     let l = c .before .before .before .before .before .before .before .loop in
@@ -59,15 +50,12 @@ add-next c =
     let h = laying-reaches (l .inv .2) (uses-next (s .args .t2) (l .j) (s .pre .1) (omega arith)) (s .pre .4) in
     omega arith
 
--- src/lib.rt:151:9
 add-j : tie.Need-add-j Inv-loop μ-loop
 add-j c = omega arith
 
--- src/lib.rt:144:5
 loop-less : tie.Need-loop-less Inv-loop μ-loop
 loop-less c = omega arith
 
--- src/lib.rt:144:5
 loop-again : tie.Need-loop-again Inv-loop μ-loop
 loop-again c =
     let l = c .before .before .before .before .before .before .before .loop in
@@ -76,11 +64,9 @@ loop-again c =
     let many = length-chunks 16 16 (l .area) in
     (omega arith, one .0, laying-turns (l .inv .2) (uses-next (s .args .t2) (l .j) (s .pre .1) (omega arith)) many (one .1) refl)
 
--- src/lib.rt:138:1
 same-length : tie.Need-same-length Inv-loop μ-loop
 same-length c = omega arith
 
--- src/lib.rt:138:1
 returns : tie.Need-returns Inv-loop μ-loop
 returns c =
     let l = c .before .loop in

@@ -3,10 +3,10 @@
 use mathlib.Core.Path.{_≡_, sym, _∙_, ap}
 use mathlib.Core.Bool.{Bool}
 use mathlib.Core.List.{List}
-use Prim.Native.Nat.{ℕ, _≤_}
+use Prim.Native.Nat.{ℕ}
 use native.Mathlib.Omega.{arith}
 use denote.Ref.{now}
-use lib.ListN.{length, take}
+use lib.ListN.{take}
 use Rattle.pdi.specs.Offset.{movedOf}
 use Rattle.pdi.specs.Segment.{segment, lessGroup, placedOf}
 use Rattle.pdi.specs.declared.PdiSegment.{PdiSegment}
@@ -20,14 +20,6 @@ use Rattle.entries.proofs.Decided.{Looked, wrong-area-refused, too-long
 use borrow.Author.Needs.{needs}
 use Rattle.entries.proofs.write_entries.Statement.{statement}
 use Rattle.entries.proofs.write_entries.Tie as tie
-use Rattle.entries.proofs.write_entries.Reads as reads
-use Rattle.entries.proofs.write_entries.Lts as lts
-use Rattle.entries.proofs.end_of.Reads as end-of-reads
-use Rattle.entries.proofs.lay.Reads as lay-reads
-use Rattle.pdi.proofs.PdiOffset.up_to.Reads as up-to-reads
-use Rattle.pdi.proofs.PdiSegment.less.Reads as less-reads
-use Rattle.uses.proofs.mappings_of.Reads as mappings-of-reads
-use Rattle.uses.proofs.too_long.Reads as too-long-reads
 
 -- what is known after the test for 8, whatever its answer
 looked : (c : tie.After-too-long) (d : Bool) → c .too-long .result ≡ d → Looked
@@ -35,47 +27,36 @@ looked : (c : tie.After-too-long) (d : Bool) → c .too-long .result ≡ d → L
     (now (c .before .before .before .before .before .args .area)) (mappedUses (c .before .before .mappings-of .result)) d
 looked c d e = record { whole = omega arith; same = ap mappedUses (c .before .before .mappings-of .ensures .0) ∙ held-back _; is = sym (c .too-long .ensures) ∙ e }
 
--- src/lib.rt:51:9
 returns : tie.Need-returns
 returns c = wrong-area-refused _ _ _ _ _ (λ e. omega arith)
 
--- src/lib.rt:53:9
 mappings-of-requires : tie.Need-mappings-of-requires
 mappings-of-requires c κs = search needs
 
--- src/lib.rt:54:8
 too-long-requires : tie.Need-too-long-requires
 too-long-requires c κs = search needs
 
--- src/lib.rt:55:9
 same-length : tie.Need-same-length
 same-length c = search needs
 
--- src/lib.rt:55:9
 returns-2 : tie.Need-returns-2
 returns-2 c = too-long-refused _ _ _ _ _ (looked (c .before) _ (c .if2 .taken))
 
--- src/lib.rt:58:11
 end-of-requires : tie.Need-end-of-requires
 end-of-requires c κs = search needs
 
--- src/lib.rt:59:19
 enum-known-next : tie.Need-enum-known-next
 enum-known-next c = search needs
 
--- src/lib.rt:59:34
 up-to-requires : tie.Need-up-to-requires
 up-to-requires c κs = search needs
 
--- src/lib.rt:59:34
 less-requires : tie.Need-less-requires
 less-requires c κs = search needs
 
--- src/lib.rt:60:29
 enum-known-segment : tie.Need-enum-known-segment
 enum-known-segment c = search needs
 
--- src/lib.rt:61:17
 lay-requires : tie.Need-lay-requires
 lay-requires c κs =
     let t = c .before .before .before .before .before .before .before .before .before .before .before .before in
@@ -86,19 +67,15 @@ lay-requires c κs =
     let s = stepped (a .place .offset .«start_address») _ _ e in
     (m .1, m .2, k .whole, sym (ap (λ (l : List ℕ). tooLong (mappedUses (t .before .before .mappings-of .result)) (entriesOf 16 l)) (area-whole 256 (now (a .area)) (k .whole))) ∙ k .is, omega arith)
 
--- src/lib.rt:64:29
 enum-known-number : tie.Need-enum-known-number
 enum-known-number c = search needs
 
--- src/lib.rt:66:24
 enum-known-number-2 : tie.Need-enum-known-number-2
 enum-known-number-2 c = search needs
 
--- src/lib.rt:39:1
 same-length-2 : tie.Need-same-length-2
 same-length-2 c = search needs
 
--- src/lib.rt:39:1
 returns-3 : tie.Need-returns-3
 returns-3 c =
     let t = c .before .before .before .before .before .before .before .before .before .before .before .before .before .before .before in
@@ -109,11 +86,9 @@ returns-3 c =
     let l = c .before .before .lay .ensures in
     entries-written _ _ _ _ _ k _ e (s .0 .0) _ g (l .0) (l .1)
 
--- src/lib.rt:39:1
 same-length-3 : tie.Need-same-length-3
 same-length-3 c = search needs
 
--- src/lib.rt:39:1
 returns-4 : tie.Need-returns-4
 returns-4 c =
     let t = c .before .before .before .before .before .before .before .before .before .before .before in
@@ -123,11 +98,9 @@ returns-4 c =
     let g = sym (ap placedOf (n .1)) ∙ c .before .before .before .less .ensures ∙ ap (λ (x : PdiSegment). lessGroup x (t .before .before .before .before .before .args .place .group)) (c .before .before .before .before .up-to .ensures) in
     below-group-refused _ _ _ _ _ k _ e (n .0 .0) g
 
--- src/lib.rt:39:1
 same-length-4 : tie.Need-same-length-4
 same-length-4 c = search needs
 
--- src/lib.rt:39:1
 returns-5 : tie.Need-returns-5
 returns-5 c =
     let k = looked (c .before .before .before .before .before .before) _ (c .before .before .before .before .before .if2 .left) in

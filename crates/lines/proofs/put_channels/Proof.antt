@@ -1,12 +1,12 @@
 -- `put_channels`: typing the lines that are left where the loop stands is typing all of them from the start.
 -- Assumes nothing.
 use mathlib.Core.Path.{_≡_, refl, sym, _∙_, ap}
-use mathlib.Core.List.{List, []}
-use Prim.Native.Nat.{ℕ, _-_, _<_, _≤_, min}
+use mathlib.Core.List.{[]}
+use Prim.Native.Nat.{_-_, _<_, _≤_, min}
 use native.Mathlib.Nat.{min-le-left, min-le-right}
 use native.Mathlib.Omega.{arith}
 use denote.Ref.{now}
-use lib.ListN.{length, getD, take, drop, length-take}
+use lib.ListN.{length, take, drop, length-take}
 use lib.Seq.{getD-take}
 use Rattle.wire.specs.Text.{page, typedAll}
 use Rattle.area.specs.Area.{areaOf, entriesOf}

@@ -1,11 +1,11 @@
 -- `put_entries`: typing the lines that are left where the loop stands is typing all of them from the start.
 -- Assumes nothing.
-use mathlib.Core.Path.{_≡_, refl, sym, _∙_, ap}
-use mathlib.Core.List.{List, []}
-use Prim.Native.Nat.{ℕ, _-_, _≤_}
+use mathlib.Core.Path.{_≡_, refl, sym, _∙_}
+use mathlib.Core.List.{[]}
+use Prim.Native.Nat.{_-_, _≤_}
 use native.Mathlib.Omega.{arith}
 use denote.Ref.{now}
-use lib.ListN.{length, getD, drop}
+use lib.ListN.{length, drop}
 use Rattle.wire.specs.Text.{page, typedAll}
 use Rattle.area.specs.Area.{areaOf, entriesOf}
 use Rattle.area.proofs.Flat.{length-chunks}

@@ -7,63 +7,45 @@ use borrow.Author.Needs.{needs}
 use Rattle.pdo.proofs.Records.{bits-coe, bits-eeprom}
 use Rattle.pdo.proofs.pdo_bits.Statement.{statement}
 use Rattle.pdo.proofs.pdo_bits.Tie as tie
-use Rattle.pdo.proofs.pdo_bits.Reads as reads
-use Rattle.pdo.proofs.pdo_bits.Lts as lts
-use Rattle.pdo.proofs.byte_at.Reads as byte-at-reads
-use Rattle.pdo.proofs.sum_of.Reads as sum-of-reads
-use Rattle.wire.proofs.be16.Reads as be16-reads
 
--- src/lib.rt:95:8
 shared-slice-read-if1 : tie.Need-shared-slice-read-if1
 shared-slice-read-if1 c = search needs
 
--- src/lib.rt:96:30
 add-sum-of : tie.Need-add-sum-of
 add-sum-of c = search needs
 
--- src/lib.rt:96:44
 add-sum-of-2 : tie.Need-add-sum-of-2
 add-sum-of-2 c = search needs
 
--- src/lib.rt:96:38
 shared-slice-read-sum-of : tie.Need-shared-slice-read-sum-of
 shared-slice-read-sum-of c = search needs
 
--- src/lib.rt:96:9
 sum-of-requires : tie.Need-sum-of-requires
 sum-of-requires c κs = search needs
 
--- src/lib.rt:96:9
 returns : tie.Need-returns
 returns c =
     let a = c .before .before .before .before .before .args in
     (bits-coe (now (a .bytes)) (a .at) _ _ (c .sum-of .result) refl (c .before .before .if1 .taken) refl (c .sum-of .ensures .0), omega arith)
 
--- src/lib.rt:98:31
 add-byte-at : tie.Need-add-byte-at
 add-byte-at c = search needs
 
--- src/lib.rt:98:16
 byte-at-requires : tie.Need-byte-at-requires
 byte-at-requires c κs = search needs
 
--- src/lib.rt:98:55
 add-byte-at-2 : tie.Need-add-byte-at-2
 add-byte-at-2 c = search needs
 
--- src/lib.rt:98:40
 byte-at-requires-2 : tie.Need-byte-at-requires-2
 byte-at-requires-2 c κs = search needs
 
--- src/lib.rt:98:5
 be16-requires : tie.Need-be16-requires
 be16-requires c κs = search needs
 
--- src/lib.rt:98:5
 cast-result : tie.Need-cast-result
 cast-result c = search needs
 
--- src/lib.rt:91:1
 returns-2 : tie.Need-returns-2
 returns-2 c =
     let a = c .before .before .before .before .before .before .args in

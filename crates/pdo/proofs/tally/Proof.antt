@@ -1,6 +1,6 @@
 -- `tally`: the sums so far, and what the records ahead add, are the whole.
 -- Assumes nothing.
-use mathlib.Core.Path.{_≡_, _∙_}
+use mathlib.Core.Path.{_≡_}
 use Prim.Native.Nat.{_+_, _-_}
 use native.Mathlib.Omega.{arith}
 use denote.Ref.{now}
@@ -8,10 +8,6 @@ use lib.ListN.{length}
 use Rattle.pdo.proofs.Sums.{Tallied, tallied-start, tallied-turn, tallied-past, tallied-end}
 use Rattle.pdo.proofs.tally.Statement.{statement}
 use Rattle.pdo.proofs.tally.Tie as tie
-use Rattle.pdo.proofs.tally.Reads as reads
-use Rattle.pdo.proofs.tally.Lts as lts
-use Rattle.pdo.proofs.part_of.Reads as part-of-reads
-use Rattle.wire.proofs.wide.Reads as wide-reads
 
 abbrev Inv-loop : tie.InvT-loop
 Inv-loop bytes at p kind asked multipliers sums₀ last place₀ i₀ count sums place i =
@@ -20,102 +16,79 @@ Inv-loop bytes at p kind asked multipliers sums₀ last place₀ i₀ count sums
 abbrev μ-loop : tie.MeasureT-loop
 μ-loop bytes at p kind asked multipliers sums₀ last place₀ i₀ count sums place i = count - i
 
--- src/lib.rt:149:9
 returns : tie.Need-returns Inv-loop μ-loop
 returns c =
     let a = c .before .before .before .args in
     tallied-past (now (a .bytes)) (now (a .multipliers)) (a .kind) (a .asked) (tallied-start (now (a .bytes)) (now (a .multipliers)) (a .kind) (a .asked) (a .p) (a .at)) (omega arith)
 
--- src/lib.rt:152:16
 sub-last : tie.Need-sub-last Inv-loop μ-loop
 sub-last c = omega arith
 
--- src/lib.rt:155:9
 wide-requires : tie.Need-wide-requires Inv-loop μ-loop
 wide-requires c κs = tt
 
--- src/lib.rt:156:5
 loop-holds : tie.Need-loop-holds Inv-loop μ-loop
 loop-holds c =
     let a = c .before .before .before .before .args in
     (omega arith, tallied-start (now (a .bytes)) (now (a .multipliers)) (a .kind) (a .asked) (a .p) (a .at))
 
--- src/lib.rt:158:13
 returns-2 : tie.Need-returns-2 Inv-loop μ-loop
 returns-2 c = let l = c .before .before .loop in tallied-past _ _ _ _ (l .inv .1) (omega arith)
 
--- src/lib.rt:160:37
 add-wide : tie.Need-add-wide Inv-loop μ-loop
 add-wide c = omega arith
 
--- src/lib.rt:160:31
 shared-slice-read-wide : tie.Need-shared-slice-read-wide Inv-loop μ-loop
 shared-slice-read-wide c = omega arith
 
--- src/lib.rt:160:13
 wide-requires-2 : tie.Need-wide-requires-2 Inv-loop μ-loop
 wide-requires-2 c κs = tt
 
--- src/lib.rt:161:22
 mul-before : tie.Need-mul-before Inv-loop μ-loop
 mul-before c = omega arith
 
--- src/lib.rt:161:13
 element-copy-out-before : tie.Need-element-copy-out-before Inv-loop μ-loop
 element-copy-out-before c = omega arith
 
--- src/lib.rt:162:38
 part-of-requires : tie.Need-part-of-requires Inv-loop μ-loop
 part-of-requires c κs = omega arith
 
--- src/lib.rt:162:29
 add-t25 : tie.Need-add-t25 Inv-loop μ-loop
 add-t25 c = let l = c .before .before .before .before .before .loop in omega (arith, l .inv .1 .small (c .before .wide2 .result) (omega arith))
 
--- src/lib.rt:162:9
 mul-sums : tie.Need-mul-sums Inv-loop μ-loop
 mul-sums c = omega arith
 
--- src/lib.rt:162:9
 array-set-from-sums : tie.Need-array-set-from-sums Inv-loop μ-loop
 array-set-from-sums c = omega arith
 
--- src/lib.rt:163:17
 add-place : tie.Need-add-place Inv-loop μ-loop
 add-place c = omega arith
 
--- src/lib.rt:163:46
 add-wide-2 : tie.Need-add-wide-2 Inv-loop μ-loop
 add-wide-2 c = omega arith
 
--- src/lib.rt:163:40
 shared-slice-read-wide-2 : tie.Need-shared-slice-read-wide-2 Inv-loop μ-loop
 shared-slice-read-wide-2 c = omega arith
 
--- src/lib.rt:163:29
 wide-requires-3 : tie.Need-wide-requires-3 Inv-loop μ-loop
 wide-requires-3 c κs = tt
 
--- src/lib.rt:163:17
 add-place-2 : tie.Need-add-place-2 Inv-loop μ-loop
 add-place-2 c = omega arith
 
--- src/lib.rt:164:9
 add-i : tie.Need-add-i Inv-loop μ-loop
 add-i c = omega arith
 
--- src/lib.rt:156:5
 loop-less : tie.Need-loop-less Inv-loop μ-loop
 loop-less c = omega arith
 
--- src/lib.rt:156:5
 loop-again : tie.Need-loop-again Inv-loop μ-loop
 loop-again c =
     let o = c .before .before in
     let l = c .before .before .before .before .before .before .before .loop in
     (l .inv .0, tallied-turn _ _ _ _ (l .inv .1) (l .place + 5 + c .wide3 .result) (o .before .wide2 .result) (o .part-of .result) (omega arith) (omega arith) (omega arith) (o .part-of .ensures .0) (o .part-of .ensures .1))
 
--- src/lib.rt:137:1
 returns-3 : tie.Need-returns-3 Inv-loop μ-loop
 returns-3 c = tallied-end _ _ _ _ (c .before .loop .inv .1) (omega arith)
 

@@ -1,12 +1,12 @@
 -- `translation::first_said`: what the rest says is what all say, as long as nothing was said.
 -- Assumes nothing.
 use mathlib.Core.Path.{_≡_, refl, sym, _∙_, ap}
-use mathlib.Core.List.{[], map}
+use mathlib.Core.List.{map}
 use Prim.Native.Nat.{_+_, _-_, _≤_}
 use native.Mathlib.Omega.{arith}
 use denote.Ref.{now}
 use borrow.Author.Needs.{needs}
-use lib.ListN.{length, getD, drop}
+use lib.ListN.{drop}
 use Rattle.translation.specs.Translate.{says, firstSaid, orNone, reachedOf, saidOf}
 use Rattle.translation.proofs.Saying.{entries, next, none-left, said-here, said-later, said-nowhere}
 use Rattle.translation.proofs.first_said.Statement.{statement}

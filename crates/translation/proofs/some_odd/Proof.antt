@@ -1,11 +1,10 @@
 -- `translation::some_odd`: whether one of the rest is such is whether one of all is.
 -- Assumes nothing.
 use mathlib.Core.Path.{_≡_, refl, sym, _∙_, ap}
-use mathlib.Core.List.{[]}
 use Prim.Native.Nat.{_+_, _-_, _≤_}
 use native.Mathlib.Omega.{arith}
 use denote.Ref.{now}
-use lib.ListN.{length, getD, drop}
+use lib.ListN.{drop}
 use Rattle.pdo.specs.Bits.{someOf}
 use Rattle.pdo.proofs.Some.{some-here, some-not-here}
 use Rattle.translation.specs.Translate.{odd}

@@ -13,9 +13,6 @@ use Rattle.pdo.specs.Bits.{askedFor}
 use Rattle.wanted.proofs.Turns.{blank, used, taken-at, asked-turn}
 use Rattle.wanted.proofs.asked_of.Statement.{statement}
 use Rattle.wanted.proofs.asked_of.Tie as tie
-use Rattle.wanted.proofs.asked_of.Reads as reads
-use Rattle.wanted.proofs.asked_of.Lts as lts
-use Rattle.wire.proofs.least.Reads as least-reads
 
 none : length (replicate 16 false) ≡ 16
 none = refl
@@ -27,35 +24,27 @@ Inv-loop n usage managers asked₀ count k₀ asked k =
 abbrev μ-loop : tie.MeasureT-loop
 μ-loop n usage managers asked₀ count k₀ asked k = count - k
 
--- src/lib.rt:193:9
 least-requires : tie.Need-least-requires Inv-loop μ-loop
 least-requires c κs = tt
 
--- src/lib.rt:195:5
 loop-holds : tie.Need-loop-holds Inv-loop μ-loop
 loop-holds c = (omega arith, c .least .ensures, c .before .good .0 .1 .0 .1, none, λ j h. absurd (not-suc-le-zero h))
 
--- src/lib.rt:196:17
 mul-m : tie.Need-mul-m Inv-loop μ-loop
 mul-m c = omega arith
 
--- src/lib.rt:196:17
 array-copy-out-m : tie.Need-array-copy-out-m Inv-loop μ-loop
 array-copy-out-m c = omega arith
 
--- src/lib.rt:197:9
 array-write-asked : tie.Need-array-write-asked Inv-loop μ-loop
 array-write-asked c = omega arith
 
--- src/lib.rt:198:9
 add-k : tie.Need-add-k Inv-loop μ-loop
 add-k c = omega arith
 
--- src/lib.rt:195:5
 loop-less : tie.Need-loop-less Inv-loop μ-loop
 loop-less c = omega arith
 
--- src/lib.rt:195:5
 loop-again : tie.Need-loop-again Inv-loop μ-loop
 loop-again c =
     let l = c .before .before .before .loop in
@@ -70,7 +59,6 @@ loop-again c =
       asked-turn (l .asked) (λ j. eqb (getD (take (a .n) (a .t1)) j noManager .«usage_type») (a .usage)) (l .k) _ (omega arith) (l .inv .4) (ap (λ (x : SyncManager). eqb (x .«usage_type») (a .usage)) (sym m)),
     )
 
--- src/lib.rt:189:1
 returns : tie.Need-returns Inv-loop μ-loop
 returns c =
     let l = c .before .loop in

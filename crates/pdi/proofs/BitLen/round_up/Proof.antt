@@ -1,21 +1,19 @@
+-- `BitLen::round_up`: 6, or the bits rounded up.
+-- Assumes nothing.
 use borrow.Author.Tests.{lt-ltb, le-ltb}
 use borrow.Author.Needs.{needs}
 use Rattle.pdi.proofs.BitLen.round_up.Statement.{statement}
 use Rattle.pdi.proofs.BitLen.round_up.Tie as tie
 
--- src/lib.rt:30:13
 returns : tie.Need-returns
 returns c = search (lt-ltb, le-ltb)
 
--- src/lib.rt:32:34
 add-t4 : tie.Need-add-t4
 add-t4 c = search needs
 
--- src/lib.rt:32:32
 cast-t6 : tie.Need-cast-t6
 cast-t6 c = search needs
 
--- src/lib.rt:25:5
 returns-2 : tie.Need-returns-2
 returns-2 c = search (lt-ltb, le-ltb)
 

@@ -1,29 +1,25 @@
+-- `PdiOffset::increment`: 9, or the next offset.
+-- Assumes nothing.
 use borrow.Author.Tests.{lt-ltb, le-ltb}
 use borrow.Author.Needs.{needs}
 use Rattle.pdi.proofs.PdiOffset.increment.Statement.{statement}
 use Rattle.pdi.proofs.PdiOffset.increment.Tie as tie
 
--- src/lib.rt:62:20
 cast-end : tie.Need-cast-end
 cast-end c = search needs
 
--- src/lib.rt:62:50
 cast-end-2 : tie.Need-cast-end-2
 cast-end-2 c = search needs
 
--- src/lib.rt:62:19
 add-end : tie.Need-add-end
 add-end c = search needs
 
--- src/lib.rt:64:13
 returns : tie.Need-returns
 returns c = search (lt-ltb, le-ltb)
 
--- src/lib.rt:67:28
 cast-t7 : tie.Need-cast-t7
 cast-t7 c = search needs
 
--- src/lib.rt:59:5
 returns-2 : tie.Need-returns-2
 returns-2 c = search (lt-ltb, le-ltb)
 

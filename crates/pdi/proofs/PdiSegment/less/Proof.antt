@@ -1,16 +1,15 @@
+-- `PdiSegment::less`: 10, or the segment counted from the group start.
+-- Assumes nothing.
 use borrow.Author.Tests.{lt-ltb, le-ltb}
 use Rattle.pdi.proofs.PdiSegment.less.Statement.{statement}
 use Rattle.pdi.proofs.PdiSegment.less.Tie as tie
 
--- src/lib.rt:114:13
 returns : tie.Need-returns
 returns c = search (lt-ltb, le-ltb)
 
--- src/lib.rt:117:13
 returns-2 : tie.Need-returns-2
 returns-2 c = search (lt-ltb, le-ltb)
 
--- src/lib.rt:108:5
 returns-3 : tie.Need-returns-3
 returns-3 c = search (lt-ltb, le-ltb)
 
