@@ -25,7 +25,7 @@ use Rattle.agreement.proofs.Basics.{either, each-map, said-by}
 use Rattle.agreement.proofs.Straight.{lay, Fresh, straight-same, straight-iff}
 use Rattle.agreement.proofs.Run.{said, plan-leaves}
 use Rattle.agreement.proofs.Uses.{uses-total, apart}
-use Rattle.agreement.proofs.Areas.{length-chunks}
+use Rattle.area.proofs.Flat.{length-chunks}
 use Rattle.agreement.proofs.Demand3.{one, two, sizeBy, Facts, lays, among, translated, other-unseen}
 
 -- after two such passes translation is never refused, neither with 11 nor with 1

@@ -26,7 +26,8 @@ use Rattle.agreement.proofs.Straight.{lay, Lays, goOn, goOn-total, lay-
 use Rattle.agreement.proofs.Step.{Silent, off-silent, says-silent, odd-silent}
 use Rattle.agreement.proofs.Run.{said, none-odd, other-silents}
 use Rattle.agreement.proofs.Uses.{uses-total}
-use Rattle.agreement.proofs.Areas.{length-chunks, planned-long, planned-entries}
+use Rattle.area.proofs.Flat.{length-chunks}
+use Rattle.agreement.proofs.Areas.{planned-long, planned-entries}
 use Rattle.agreement.proofs.Demand3.{one-of-two, two, ownBy, sizeBy, Facts, facts, sane-uses, lays, counted-own, counted-lay, disabled-off, disabled-start}
 
 -- an address of the range at which laying names a device address

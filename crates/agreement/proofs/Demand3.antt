@@ -35,7 +35,8 @@ use Rattle.agreement.proofs.Straight.{lay, Lays, apart-flip}
 use Rattle.agreement.proofs.Step.{Off, off-silent}
 use Rattle.agreement.proofs.Run.{Start, Alike, agree-iff, none-odd, other-after, other-before}
 use Rattle.agreement.proofs.Uses.{spot-lay, count-lay, uses-total, apart, Sane, sane}
-use Rattle.agreement.proofs.Areas.{length-chunks, planned-long, planned-entries}
+use Rattle.area.proofs.Flat.{length-chunks}
+use Rattle.agreement.proofs.Areas.{planned-long, planned-entries}
 use Rattle.agreement.proofs.Sheets.{bounded}
 
 -- a direction's wanted sync managers, the empty ones too, and their rounded bytes

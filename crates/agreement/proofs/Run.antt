@@ -21,6 +21,7 @@ use Rattle.entries.specs.Entries.{laid, plan, lengthNow}
 use Rattle.translation.specs.Translate.{named, carries, says, odd, firstSaid, orNone}
 use Rattle.agreement.specs.Agreement.{EndToEnd}
 use Rattle.translation.proofs.Lies.{inside, behind}
+use Rattle.entries.proofs.Kept.{plan-length}
 use Rattle.agreement.proofs.Basics.{either, same-or-not, each-map, each-both, each-of, first-none, first-new, none-at, some-map}
 use Rattle.agreement.proofs.Straight.{lay, Fresh, Next, Grouped, linked, Apart, Lays, fresh-16, reach, goOn, lay-before, straight-same, same-straight, straight-iff}
 use Rattle.agreement.proofs.Step.{Off, Silent, Stand, Good, silent, stands, good-on, good-odd, good-says, says-silent, odd-silent, Stepped, step-off, step-on, silent-laid}
@@ -241,11 +242,6 @@ unfolding plan
 plan-leaves r q [] area k f = refl
 plan-leaves r q (u ∷ us) area k f =
     plan-leaves r (q + u .size) us (after r q u area) k (f .1) ∙ getD-set-other area (u .entry) k _ [] (λ z. f .0 (sym z))
-
-pub plan-length : (r : PdoDirection) (q : ℕ) (us : List Use) (area : List (List ℕ)) → length (plan r q us area) ≡ length area
-unfolding plan
-plan-length r q [] area = refl
-plan-length r q (u ∷ us) area = plan-length r (q + u .size) us (after r q u area) ∙ length-set area (u .entry) _
 
 -- the other direction's pass over entries of no weight: whatever looks alike on such entries looks as before
 pub unseen : {B : Type 0} (r : PdoDirection) (f : List ℕ → B) → ((e e′ : List ℕ) → Silent r e → Silent r e′ → f e ≡ f e′)
