@@ -20,7 +20,7 @@ pub fn count(
 ) -> Counted
     ensures { λ r. ⌜ countedOf r ≡ meaning.count direction address (now (sheet .entry)) (multipliersOf (now (table .entry)) (sheetData (now (sheet .entry)) .pdos)) (offset .«start_address») ⌝ }
 {
-    let indexes = oversampling::indexes_in(sheet);
+    let indexes = oversampling::indexes_in(sheet, table.len());
     let multipliers = oversampling::multipliers_for(table, indexes);
     counting::count(sheet, multipliers, offset, direction, address)
 }

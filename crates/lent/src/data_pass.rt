@@ -22,7 +22,7 @@ pub fn configure_fmmus(
 ) -> Placed
     ensures { λ r. ⌜ Passes (now (sheet .entry)) (multipliersOf (now (table .entry)) (sheetData (now (sheet .entry)) .pdos)) direction (now (offset .entry)) «group_start_address» (now (fmmus .entry)) (now (channels .entry)) r (now (offset .exit)) (now (fmmus .exit)) (now (channels .exit)) ⌝ }
 {
-    let indexes = oversampling::indexes_in(sheet);
+    let indexes = oversampling::indexes_in(sheet, table.len());
     let multipliers = oversampling::multipliers_for(table, indexes);
     let place = Place {
         offset: *offset,

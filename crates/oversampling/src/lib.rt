@@ -3,7 +3,7 @@ ghost use mathlib.Core.Path.{_≡_};
 ghost use Rattle.sheet.specs.Device.{pdosFrom};
 ghost use Rattle.sheet.specs.Sheet.{sheetData};
 ghost use Rattle.pdo.specs.Bits.{multiplierOf};
-ghost use Rattle.oversampling.specs.Multipliers.{indexesOf, multipliersIn};
+ghost use Rattle.oversampling.specs.Multipliers.{indexesOf, indexesFor, multipliersIn};
 use pdo::Oversampling;
 
 // The PDO indexes of a sheet, in its order: `count` of them, then 0.
@@ -49,10 +49,16 @@ pub fn indexes_of(bytes: &[u8], at: usize, p: u8) -> Indexes
     Indexes { list, count: p }
 }
 
-// Those of a sheet, accepted or not: its three counts say where its PDOs stand.
-pub fn indexes_in(sheet: &[u8]) -> Indexes
-    ensures { λ r. ⌜ r ≡ indexesOf (sheetData (now (sheet .entry)) .pdos) ⌝ }
+// Those of a sheet, accepted or not: its three counts say where its PDOs stand. A table without records needs none.
+pub fn indexes_in(sheet: &[u8], records: usize) -> Indexes
+    ensures { λ r. ⌜ r ≡ indexesFor records (sheetData (now (sheet .entry)) .pdos) ⌝ }
 {
+    if records == 0 {
+        return Indexes {
+            list: [0u16; 255],
+            count: 0,
+        };
+    }
     let n = pdo::byte_at(sheet, 8) as usize;
     let f = pdo::byte_at(sheet, 9) as usize;
     indexes_of(sheet, 11 + 5 * n + f, pdo::byte_at(sheet, 10))
