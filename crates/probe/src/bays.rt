@@ -32,58 +32,58 @@ fn manager(m: SyncManager) -> [u64; 4] {
     ]
 }
 
-fn managers(line: Line, list: [SyncManager; 16], n: usize) -> Line {
-    let mut longer = line.and(&[say::MANAGERS]);
+fn managers(list: [SyncManager; 16], n: usize) {
     let count = wire::least(n, 16);
     let mut k = 0;
     while k < count {
         let m = list[k];
-        longer = longer.and(&manager(m));
+        say::then(&manager(m));
         k += 1;
     }
-    longer
 }
 
-fn usages(line: Line, list: [u8; 16], f: usize) -> Line {
-    let mut longer = line.and(&[say::USAGES]);
+fn usages(list: [u8; 16], f: usize) {
     let count = wire::least(f, 16);
     let mut k = 0;
     while k < count {
-        longer = longer.and(&[list[k] as u64]);
+        say::then(&[list[k] as u64]);
         k += 1;
     }
-    longer
 }
 
-fn device(d: Device) -> Line {
-    let flags = say::row(
-        &[
-            say::flag(d.has_mailbox),
-            say::flag(d.coe_protocol),
-            say::flag(d.complete_access),
-            d.receive_size.0 as u64,
-            d.send_size.0 as u64,
-        ],
-    );
+fn device(d: Device) {
     let list = d.managers;
     let codes = d.usages;
-    usages(managers(flags, list, d.n), codes, d.f).and(&[say::PDOS, d.p as u64])
+    say::first(
+        &[
+            d.has_mailbox as u64,
+            d.coe_protocol as u64,
+            d.complete_access as u64,
+            d.receive_size.0 as u64,
+            d.send_size.0 as u64,
+            say::MANAGERS,
+        ],
+    );
+    managers(list, d.n);
+    say::then(&[say::USAGES]);
+    usages(codes, d.f);
+    say::then(&[say::PDOS, d.p as u64]);
 }
 
-pub fn read(read: SheetRead) -> Line {
+pub fn read(read: SheetRead) {
     let answer = read.answer;
-    if let Answer::Refused(number) = answer {
-        return say::refused(number);
-    }
     let d = read.device;
-    device(d)
+    match answer {
+        Answer::Refused(number) => say::first(&say::refused(number)),
+        Answer::Accepted => device(d),
+    }
 }
 
 // A mailbox: address, size, sync manager.
-fn slot(line: Line, slot: Slot) -> Line {
+fn slot(slot: Slot) {
     match slot {
-        Slot::None => line.and(&[say::NONE]),
-        Slot::At(mailbox) => line.and(
+        Slot::None => say::then(&[say::NONE]),
+        Slot::At(mailbox) => say::then(
             &[
                 mailbox.address as u64,
                 say::SLASH + (mailbox.len.0 as u64),
@@ -93,38 +93,38 @@ fn slot(line: Line, slot: Slot) -> Line {
     }
 }
 
-fn config(c: MailboxConfig) -> Line {
+fn config(c: MailboxConfig) {
     let read = c.read;
     let write = c.write;
-    slot(slot(say::one(say::OK), read), write).and(
-        &[say::flag(c.has_coe), say::flag(c.complete_access)],
-    )
+    say::first(&[say::OK]);
+    slot(read);
+    slot(write);
+    say::then(&[c.has_coe as u64, c.complete_access as u64]);
 }
 
-fn recorded(answer: MailboxRead) -> Line {
+fn recorded(answer: MailboxRead) {
     match answer {
         MailboxRead::Config(c) => config(c),
-        MailboxRead::Refused(number) => say::refused(number),
+        MailboxRead::Refused(number) => say::first(&say::refused(number)),
     }
 }
 
 // The mailbox pass, over a copy of the channel part.
-pub fn mailboxes(out: &mut [u8], request: &[u8]) -> usize {
+pub fn mailboxes(request: &[u8]) {
     let mut space = [0u8; 512];
     let channels = parts::copied(parts::channels(request), &mut space);
-    let answer = mailboxes::configure_mailboxes(parts::sheet(request), channels);
-    let next = say::put(out, recorded(answer));
-    say::then_bytes(out, next, channels)
+    recorded(mailboxes::configure_mailboxes(parts::sheet(request), channels));
+    say::then_bytes(channels);
 }
 
-fn passed(done: Passed) -> Line {
+fn passed(done: Passed) {
     let answer = done.answer;
     let next = done.next.start_address as u64;
     match answer {
-        Placed::Segment(segment) => say::row(
+        Placed::Segment(segment) => say::first(
             &[say::OK, segment.start as u64, segment.end as u64, next],
         ),
-        Placed::Refused(number) => say::refused(number).and(&[next]),
+        Placed::Refused(number) => say::first(&[say::REFUSED, number as u64, next]),
     }
 }
 
@@ -132,7 +132,7 @@ fn data_pass(request: &[u8], fmmus: &mut [u8], channels: &mut [u8]) -> Passed {
     lent::plan(
         parts::sheet(request),
         parts::table(request),
-        parts::size(request, 22),
+        parts::records(request),
         fmmus,
         channels,
         Place {
@@ -143,23 +143,15 @@ fn data_pass(request: &[u8], fmmus: &mut [u8], channels: &mut [u8]) -> Passed {
     )
 }
 
-fn passed_over(out: &mut [u8], request: &[u8], fmmus: &mut [u8], channels: &mut [u8]) -> usize {
-    let done = data_pass(request, fmmus, channels);
-    let next = say::put(out, passed(done));
-    let end = say::then_bytes(out, next, fmmus);
-    say::then_bytes(out, end, channels)
-}
-
 // The data pass, over copies of both parts.
-pub fn pass(out: &mut [u8], request: &[u8]) -> usize {
+pub fn pass(request: &[u8]) {
     let mut entries = [0u8; 512];
     let mut images = [0u8; 512];
-    passed_over(
-        out,
-        request,
-        parts::copied(parts::fmmus(request), &mut entries),
-        parts::copied(parts::channels(request), &mut images),
-    )
+    let fmmus = parts::copied(parts::fmmus(request), &mut entries);
+    let channels = parts::copied(parts::channels(request), &mut images);
+    passed(data_pass(request, fmmus, channels));
+    say::then_bytes(fmmus);
+    say::then_bytes(channels);
 }
 
 // A device address, or none.
@@ -187,11 +179,9 @@ pub fn counted(answer: Counted) -> Line {
         Counted::In(position) => {
             let device = position.device;
             say::row(
-                &[
-                    position.sync_manager as u64,
-                    position.byte as u64,
-                    reached(device),
-                ],
+                position.sync_manager as u64,
+                position.byte as u64,
+                reached(device),
             )
         }
         Counted::Refused(number) => say::refused(number),
@@ -202,7 +192,7 @@ pub fn count(request: &[u8], address: u32) -> Counted {
     lent::locate(
         parts::sheet(request),
         parts::table(request),
-        parts::size(request, 22),
+        parts::records(request),
         parts::offset(request),
         parts::direction(request),
         address,
@@ -234,7 +224,7 @@ pub fn agree(translated: Translated, counted: Counted) -> Line {
     if one == two {
         return say::one(say::SAME);
     }
-    say::row(&[say::DIFFER, one, two])
+    say::row(say::DIFFER, one, two)
 }
 
 // A text's length less the last line's end. Every report fits, so that none is refused.
@@ -251,10 +241,12 @@ fn without_end(answer: Written) -> usize {
 }
 
 // What lockerplan prints for the sheet.
-pub fn plan(out: &mut [u8], request: &[u8]) -> usize {
+pub fn plan(request: &[u8]) {
     let fmmus = [0u8; 256];
     let channels = [0u8; 128];
-    without_end(report::report(parts::sheet(request), fmmus, channels, out))
+    let mut text = [0u8; 4096];
+    let answer = report::report(parts::sheet(request), fmmus, channels, &mut text);
+    say::text(parts::front(&text, without_end(answer)));
 }
 
 // What a whole plan answers: both segments, or the refusal of the first pass refused.
@@ -327,10 +319,10 @@ fn plan_once(sheet: &[u8], table: [Oversampling; 256], records: usize) -> Planne
     }
 }
 
-fn both(plan: Planned) -> Line {
+fn both(plan: Planned) {
     match plan {
-        Planned::Nothing => say::one(say::NONE),
-        Planned::Segments(inputs, outputs) => say::row(
+        Planned::Nothing => say::first(&[say::NONE]),
+        Planned::Segments(inputs, outputs) => say::first(
             &[
                 inputs.start as u64,
                 inputs.end as u64,
@@ -338,20 +330,20 @@ fn both(plan: Planned) -> Line {
                 outputs.end as u64,
             ],
         ),
-        Planned::Refused(number) => say::refused(number),
+        Planned::Refused(number) => say::first(&say::refused(number)),
     }
 }
 
 // The same plan over and over, for whoever counts its cost.
-pub fn again(request: &[u8]) -> Line {
+pub fn again(request: &[u8]) {
     let sheet = parts::sheet(request);
     let table = parts::table(request);
-    let records = parts::size(request, 22);
+    let records = parts::records(request);
     let mut last = Planned::Nothing;
     let mut left = parts::number4(request, 4);
     while 0 < left {
         last = plan_once(sheet, table, records);
         left -= 1;
     }
-    both(last)
+    both(last);
 }

@@ -11,19 +11,12 @@ use libc::STDOUT_FILENO;
 use say::Line;
 use sync_manager_channel::SyncManagerChannel;
 
-// The answers that are items alone.
-fn line_of(request: &[u8], c: u32) -> Line {
-    let letter = parts::byte_at(request, 0);
+// The answers that can change with c.
+fn line_of(letter: u8, request: &[u8], c: u32) -> Line {
     match letter {
-        b'R' => records::fmmu_read(Fmmu::unpack_from_slice(parts::fmmus(request))),
-        b'Q' => records::channel_read(SyncManagerChannel::unpack_from_slice(parts::channels(
-            request,
-        ))),
-        b'd' => bays::read(sheet::read(parts::sheet(request))),
         b'T' => bays::translated(bays::translate(request, c)),
         b'C' => bays::counted(bays::count(request, c)),
         b'A' => bays::agree(bays::translate(request, c), bays::count(request, c)),
-        b'B' => bays::again(request),
         _ => numbers::answer(
             letter,
             parts::number4(request, 4),
@@ -33,72 +26,76 @@ fn line_of(request: &[u8], c: u32) -> Line {
     }
 }
 
-// One answer.
-fn answer(out: &mut [u8], request: &[u8], c: u32) -> usize {
-    let letter = parts::byte_at(request, 0);
+// Whether an answer stays the same whatever c is.
+fn stays(letter: u8) -> bool {
     match letter {
-        b's' | b'f' | b'W' | b'y' | b'Z' => records::roomed(out, request),
-        b'm' => bays::mailboxes(out, request),
-        b'p' => bays::pass(out, request),
-        b'L' => bays::plan(out, request),
-        _ => say::put(out, line_of(request, c)),
+        b's' | b'f' | b'W' | b'y' | b'Z' | b'R' | b'Q' | b'd' | b'm' | b'p' | b'B' | b'L' => true,
+        _ => false,
     }
 }
 
-// Whether two lines are the same.
-fn same(a: &[u8], b: &[u8]) -> bool {
-    if a.len() != b.len() {
-        return false;
+// Writes an answer that stays the same.
+fn answer(letter: u8, request: &[u8]) {
+    match letter {
+        b'R' => records::fmmu_read(Fmmu::unpack_from_slice(parts::fmmus(request))),
+        b'Q' => records::channel_read(SyncManagerChannel::unpack_from_slice(parts::channels(
+            request,
+        ))),
+        b'd' => bays::read(sheet::read(parts::sheet(request))),
+        b'm' => bays::mailboxes(request),
+        b'p' => bays::pass(request),
+        b'B' => bays::again(request),
+        b'L' => bays::plan(request),
+        _ => records::roomed(letter, request),
     }
-    let mut i = 0;
-    while i < a.len() {
-        if parts::byte_at(b, i) != a[i] {
-            return false;
-        }
-        i += 1;
-    }
-    true
 }
 
-// Writes an answer as a line, after the value of c where several are asked.
-fn show(text: &[u8], c: u32, several: bool) {
-    if several {
+// What stands before an answer where several values of c are asked.
+fn begin(c: u32, times: u32) {
+    if 1 < times {
         io::print_decimal(STDOUT_FILENO, c as u64);
-        io::write_all(STDOUT_FILENO, b": ");
+        say::text(b": ");
     }
-    io::write_all(STDOUT_FILENO, text);
-    io::write_all(STDOUT_FILENO, b"\n");
 }
 
-// Shows an answer, unless it is the one before; then keeps it as the one before.
-fn changed(text: &[u8], before: &mut [u8], length: usize, c: u32, several: bool) -> usize {
-    if same(text, parts::front(before, length)) {
-        return length;
-    }
-    show(text, c, several);
-    wire::copy(text, before);
-    text.len()
+fn show(line: Line, c: u32, times: u32) {
+    begin(c, times);
+    say::first(&line);
+    say::text(b"\n");
 }
 
-// Answers a request for one value of c after another.
-fn respond(request: &[u8]) {
-    let times = parts::number4(request, 16);
-    let mut before = [0u8; 4096];
-    let mut length = 0;
-    let mut out = [0u8; 4096];
+// Answers for one value of c after another, but where the answer is the one before.
+fn lines(letter: u8, request: &[u8], start: u32, times: u32) {
+    let mut before = say::EMPTY;
     let mut left = times;
-    let mut c = parts::number4(request, 12);
+    let mut c = start;
     loop {
-        let n = answer(&mut out, request, c);
-        length = changed(parts::front(&out, n), &mut before, length, c, 1 < times);
+        let line = line_of(letter, request, c);
+        if !say::same(line, before) {
+            show(line, c, times);
+        }
         if left < 2 {
             return;
         }
         if 0xffff_fffe < c {
             return;
         }
+        before = line;
         c += 1;
         left -= 1;
+    }
+}
+
+fn respond(request: &[u8]) {
+    let letter = parts::byte_at(request, 0);
+    let c = parts::number4(request, 12);
+    let times = parts::number4(request, 16);
+    if stays(letter) {
+        begin(c, times);
+        answer(letter, request);
+        say::text(b"\n");
+    } else {
+        lines(letter, request, c, times);
     }
 }
 
@@ -138,44 +135,30 @@ fn fill(request: &mut [u8], from: usize, count: usize) -> usize {
     io::read_full(STDIN_FILENO, parts::front_mut(&mut request[start..], count))
 }
 
-fn bad() -> bool {
-    io::write_all(STDOUT_FILENO, b"bad request\n");
-    false
-}
-
-// Reads a part of a request to its place, or says that the input ended.
-fn take(request: &mut [u8], from: usize, count: usize) -> bool {
-    fill(request, from, count) == count
-}
-
-fn take_parts(request: &mut [u8]) -> bool {
-    let records = parts::number2(request, 22) as usize;
-    if !take(request, parts::SHEET, parts::size(request, 20)) {
+// Whether a request is sound, of whose head so much came, and its parts come whole.
+fn taken(request: &mut [u8], got: usize) -> bool {
+    if got < 28 {
         return false;
     }
-    if !take(request, parts::TABLE, 3 * records) {
+    if !sound(request) {
         return false;
     }
-    if !take(request, parts::FMMUS, parts::size(request, 24)) {
-        return false;
-    }
-    take(request, parts::CHANNELS, parts::size(request, 26))
+    let rest = parts::rest(request);
+    fill(request, 28, rest) == rest
 }
 
 // Answers one request, and says whether to go on.
 fn serve(request: &mut [u8]) -> bool {
-    let got = fill(request, 0, parts::HEAD);
+    let got = fill(request, 0, 28);
     if got == 0 {
         return false;
     }
-    if got < parts::HEAD || !sound(request) {
-        return bad();
+    if taken(request, got) {
+        respond(request);
+        return true;
     }
-    if !take_parts(request) {
-        return bad();
-    }
-    respond(request);
-    true
+    say::text(b"bad request\n");
+    false
 }
 
 fn main() {

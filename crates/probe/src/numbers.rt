@@ -35,72 +35,68 @@ fn moved(answer: Moved) -> Line {
 fn up_to(start: PdiOffset, end: u32) -> Line {
     let between = start.up_to(PdiOffset { start_address: end });
     say::row(
-        &[
-            between.start as u64,
-            between.end as u64,
-            between.len() as u64,
-        ],
+        between.start as u64,
+        between.end as u64,
+        between.len() as u64,
     )
 }
 
 fn less(answer: Placed) -> Line {
     match answer {
-        Placed::Segment(counted) => say::row(&[counted.start as u64, counted.end as u64]),
+        Placed::Segment(counted) => say::two(counted.start as u64, counted.end as u64),
         Placed::Refused(number) => say::refused(number),
     }
 }
 
-pub fn control_flags(control: Control) -> [u64; 5] {
+// The fields of each register in turn, and then what is written of it again.
+pub fn control_items(control: Control) -> Line {
     let mode = control.operation_mode;
     let direction = control.direction;
     [
         mode.number() as u64,
         direction.number() as u64,
-        say::flag(control.ecat_event_enable),
-        say::flag(control.dls_user_event_enable),
-        say::flag(control.watchdog_enable),
+        control.ecat_event_enable as u64,
+        control.dls_user_event_enable as u64,
+        control.watchdog_enable as u64,
+        say::byte(control.pack()),
+        say::END,
+        say::END,
     ]
 }
 
-pub fn status_flags(status: Status) -> [u64; 6] {
+pub fn status_items(status: Status) -> Line {
     let state = status.buffer_state;
     [
-        say::flag(status.has_write_event),
-        say::flag(status.has_read_event),
-        say::flag(status.mailbox_full),
+        status.has_write_event as u64,
+        status.has_read_event as u64,
+        status.mailbox_full as u64,
         state.number() as u64,
-        say::flag(status.read_buffer_open),
-        say::flag(status.write_buffer_open),
+        status.read_buffer_open as u64,
+        status.write_buffer_open as u64,
+        say::byte(status.pack()),
+        say::END,
     ]
 }
 
-pub fn enable_flags(enable: Enable) -> [u64; 6] {
+pub fn enable_items(enable: Enable) -> Line {
+    let again = enable.pack();
     [
-        say::flag(enable.enable),
-        say::flag(enable.repeat),
-        say::flag(enable.enable_dc_event_bus_write),
-        say::flag(enable.enable_dc_event_local_write),
-        say::flag(enable.channel_pdi_disabled),
-        say::flag(enable.repeat_ack),
+        enable.enable as u64,
+        enable.repeat as u64,
+        enable.enable_dc_event_bus_write as u64,
+        enable.enable_dc_event_local_write as u64,
+        enable.channel_pdi_disabled as u64,
+        enable.repeat_ack as u64,
+        say::byte(again[0]),
+        say::next_byte(again[1]),
     ]
 }
 
 fn control(answer: ControlRead) -> Line {
     match answer {
-        ControlRead::Named(read) => {
-            say::row(&control_flags(read)).and(&[say::byte(read.pack())])
-        }
+        ControlRead::Named(read) => control_items(read),
         ControlRead::Refused(number) => say::refused(number),
     }
-}
-
-fn status(read: Status) -> Line {
-    say::row(&status_flags(read)).and(&[say::byte(read.pack())])
-}
-
-fn enable(read: Enable) -> Line {
-    let again = read.pack();
-    say::row(&enable_flags(read)).and(&[say::byte(again[0]), say::next_byte(again[1])])
 }
 
 pub fn answer(letter: u8, a: u32, b: u32, c: u32) -> Line {
@@ -113,8 +109,8 @@ pub fn answer(letter: u8, a: u32, b: u32, c: u32) -> Line {
         b'u' => up_to(start, c),
         b'g' => less((PdiSegment { start: a, end: b }).less(c)),
         b'k' => control(Control::unpack(byte)),
-        b'j' => status(Status::unpack(byte)),
-        b'e' => enable(Enable::unpack(byte, (c / 256 % 256) as u8)),
+        b'j' => status_items(Status::unpack(byte)),
+        b'e' => enable_items(Enable::unpack(byte, (c / 256 % 256) as u8)),
         _ => say::one(say::UNKNOWN),
     }
 }

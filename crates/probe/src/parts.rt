@@ -1,17 +1,7 @@
-// What stands where in a request: its head, and then each part, at a place with room for the longest.
+// What stands where in a request: a head of 28 bytes, then its parts without gaps.
 use pdi::PdiOffset;
 use pdo::Oversampling;
 use pdo::PdoDirection;
-
-pub const HEAD: usize = 28;
-
-pub const SHEET: usize = 28;
-
-pub const TABLE: usize = 16415;
-
-pub const FMMUS: usize = 17183;
-
-pub const CHANNELS: usize = 17695;
 
 // The byte at a place, or 0 past the end.
 pub fn byte_at(bytes: &[u8], at: usize) -> u8 {
@@ -37,8 +27,13 @@ pub fn number4(bytes: &[u8], at: u16) -> u32 {
     )
 }
 
-pub fn size(request: &[u8], at: u16) -> usize {
-    number2(request, at) as usize
+// How many bytes the parts have.
+pub fn rest(request: &[u8]) -> usize {
+    let sheet = number2(request, 20) as usize;
+    let records = number2(request, 22) as usize;
+    let fmmus = number2(request, 24) as usize;
+    let channels = number2(request, 26) as usize;
+    sheet + 3 * records + fmmus + channels
 }
 
 // The front of a buffer.
@@ -63,15 +58,28 @@ pub fn part(bytes: &[u8], from: usize, count: usize) -> &[u8] {
 }
 
 pub fn sheet(request: &[u8]) -> &[u8] {
-    part(request, SHEET, size(request, 20))
+    part(request, 28, number2(request, 20) as usize)
 }
 
 pub fn fmmus(request: &[u8]) -> &[u8] {
-    part(request, FMMUS, size(request, 24))
+    let sheet = number2(request, 20) as usize;
+    let records = number2(request, 22) as usize;
+    part(
+        request,
+        28 + sheet + 3 * records,
+        number2(request, 24) as usize,
+    )
 }
 
 pub fn channels(request: &[u8]) -> &[u8] {
-    part(request, CHANNELS, size(request, 26))
+    let sheet = number2(request, 20) as usize;
+    let records = number2(request, 22) as usize;
+    let fmmus = number2(request, 24) as usize;
+    part(
+        request,
+        28 + sheet + 3 * records + fmmus,
+        number2(request, 26) as usize,
+    )
 }
 
 // A part's bytes copied to the front of a buffer, which is lent on.
@@ -80,16 +88,21 @@ pub fn copied<'a>(part: &[u8], to: &'a mut [u8]) -> &'a mut [u8] {
     front_mut(to, part.len())
 }
 
-// The table's records, of which the first `size(request, 22)` are the request's.
+pub fn records(request: &[u8]) -> usize {
+    number2(request, 22) as usize
+}
+
+// The table's records, of which as many as `records` says are the request's.
 pub fn table(request: &[u8]) -> [Oversampling; 256] {
     let mut table = [Oversampling {
         pdo_index: 0,
         multiplier: 0,
     }; 256];
-    let count = wire::least(size(request, 22), 256);
+    let from = 28 + (number2(request, 20) as usize);
+    let count = wire::least(records(request), 256);
     let mut k = 0;
     while k < count {
-        let at = TABLE + 3 * k;
+        let at = from + 3 * k;
         table[k] = Oversampling {
             pdo_index: wire::be16(byte_at(request, at), byte_at(request, at + 1)),
             multiplier: byte_at(request, at + 2),

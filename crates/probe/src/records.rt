@@ -103,105 +103,96 @@ fn channel_of(bytes: &[u8]) -> SyncManagerChannel {
     }
 }
 
-fn fmmu_fields(f: Fmmu) -> Line {
-    say::row(
-        &[
-            f.logical_start_address as u64,
-            f.length_bytes.0 as u64,
-            f.logical_start_bit as u64,
-            f.logical_end_bit as u64,
-            f.physical_start_address as u64,
-            f.physical_start_bit as u64,
-            say::flag(f.read_enable),
-            say::flag(f.write_enable),
-            say::flag(f.enable),
-        ],
-    )
-}
-
-pub fn fmmu_read(answer: FmmuRead) -> Line {
+pub fn fmmu_read(answer: FmmuRead) {
     match answer {
-        FmmuRead::Entry(f) => fmmu_fields(f),
-        FmmuRead::Refused(number) => say::refused(number),
+        FmmuRead::Entry(f) => say::first(
+            &[
+                f.logical_start_address as u64,
+                f.length_bytes.0 as u64,
+                f.logical_start_bit as u64,
+                f.logical_end_bit as u64,
+                f.physical_start_address as u64,
+                f.physical_start_bit as u64,
+                f.read_enable as u64,
+                f.write_enable as u64,
+                f.enable as u64,
+            ],
+        ),
+        FmmuRead::Refused(number) => say::first(&say::refused(number)),
     }
 }
 
-fn channel_fields(channel: SyncManagerChannel) -> Line {
+fn channel_fields(channel: SyncManagerChannel) {
     let control = channel.control;
     let status = channel.status;
     let enable = channel.enable;
-    say::row(
-            &[
-                channel.physical_start_address as u64,
-                channel.length_bytes.0 as u64,
-            ],
-        )
-        .and(&numbers::control_flags(control))
-        .and(&numbers::status_flags(status))
-        .and(&numbers::enable_flags(enable))
+    say::first(
+        &[
+            channel.physical_start_address as u64,
+            channel.length_bytes.0 as u64,
+        ],
+    );
+    say::put(&numbers::control_items(control), 5, true);
+    say::put(&numbers::status_items(status), 6, true);
+    say::put(&numbers::enable_items(enable), 6, true);
 }
 
-pub fn channel_read(answer: ChannelRead) -> Line {
+pub fn channel_read(answer: ChannelRead) {
     match answer {
         ChannelRead::Channel(channel) => channel_fields(channel),
-        ChannelRead::Refused(number) => say::refused(number),
-    }
-}
-
-// Whether an image is written into the room, and not a text.
-fn writes_image(letter: u8) -> bool {
-    letter == b'W' || letter == b'Z'
-}
-
-fn segment_of(request: &[u8]) -> PdiSegment {
-    PdiSegment {
-        start: parts::number4(request, 4),
-        end: parts::number4(request, 8),
+        ChannelRead::Refused(number) => say::first(&say::refused(number)),
     }
 }
 
 // Writes a text or an image into lent room.
-fn write(request: &[u8], room: &mut [u8]) -> Written {
-    let letter = parts::byte_at(request, 0);
+fn write(
+    letter: u8,
+    segment: PdiSegment,
+    fmmu: Fmmu,
+    channel: SyncManagerChannel,
+    room: &mut [u8],
+) -> Written {
     match letter {
-        b's' => segment_of(request).fmt(room),
-        b'f' => fmmu_of(parts::fmmus(request)).fmt(room),
-        b'W' => fmmu_of(parts::fmmus(request)).pack_to_slice(room),
-        b'y' => channel_of(parts::channels(request)).fmt(room),
-        _ => channel_of(parts::channels(request)).pack_to_slice(room),
+        b's' => segment.fmt(room),
+        b'f' => fmmu.fmt(room),
+        b'W' => fmmu.pack_to_slice(room),
+        b'y' => channel.fmt(room),
+        _ => channel.pack_to_slice(room),
     }
 }
 
 fn written(answer: Written, image: bool) -> Line {
     match answer {
-        Written::Len(length) => {
-            if image {
-                return say::one(say::OK);
-            }
-            say::one(length as u64)
-        }
+        Written::Len(length) => say::one(if image { say::OK } else { length as u64 }),
         Written::Refused(number) => say::refused(number),
     }
 }
 
-// What the room is filled with first.
-fn filler(image: bool) -> u8 {
-    if image { 0xff } else { b'~' }
-}
-
-fn tell(out: &mut [u8], answer: Written, image: bool, room: &[u8]) -> usize {
-    let next = say::put(out, written(answer, image));
+// What writing into the room answers, and the room.
+fn tell(answer: Written, image: bool, room: &[u8]) {
+    say::first(&written(answer, image));
     if image {
-        return say::then_bytes(out, next, room);
+        say::then_bytes(room);
+    } else {
+        say::then_room(room);
     }
-    say::then_room(out, next, room)
 }
 
-// What a text or an image in lent room answers, and the room.
-pub fn roomed(out: &mut [u8], request: &[u8]) -> usize {
-    let image = writes_image(parts::byte_at(request, 0));
-    let mut space = [filler(image); 512];
-    let room = parts::front_mut(&mut space, parts::size(request, 2));
-    let answer = write(request, room);
-    tell(out, answer, image, room)
+// The entry points that are lent room, filled with 0xff first for an image and with `~` for a text.
+pub fn roomed(letter: u8, request: &[u8]) {
+    let image = letter == b'W' || letter == b'Z';
+    let mut space = [if image { 0xff } else { b'~' }; 512];
+    let room = parts::front_mut(&mut space, parts::number2(request, 2) as usize);
+    let segment = PdiSegment {
+        start: parts::number4(request, 4),
+        end: parts::number4(request, 8),
+    };
+    let answer = write(
+        letter,
+        segment,
+        fmmu_of(parts::fmmus(request)),
+        channel_of(parts::channels(request)),
+        room,
+    );
+    tell(answer, image, room);
 }

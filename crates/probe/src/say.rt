@@ -1,5 +1,6 @@
-// The line that is answered: its items first, as numbers, and then their text.
+// What is answered: items, which are numbers, and how each is written.
 use crate::parts;
+use libc::STDOUT_FILENO;
 
 // An item below 2^32 is a number after a space. What is added to it says how else it is shown.
 const KIND: u64 = 0x1_0000_0000;
@@ -13,7 +14,7 @@ pub const R: u64 = 0x3_0000_0000;
 pub const HEX: u64 = 0x4_0000_0000;
 
 // as a word of `word`: 32 times its row there, and its length
-pub const WORD: u64 = 0x8_0000_0000;
+const WORD: u64 = 0x8_0000_0000;
 
 pub const OK: u64 = WORD + 2;
 
@@ -33,42 +34,40 @@ pub const PDOS: u64 = WORD + 224 + 4;
 
 pub const UNKNOWN: u64 = WORD + 256 + 19;
 
-// The longest line has the data of a device: 5 numbers, 16 sync managers of 4 items, 16 usages, 3 words and a count.
-pub struct Line {
-    list: [u64; 96],
-    n: usize,
-}
+// After the last item.
+pub const END: u64 = 0x10_0000_0000;
 
-impl Line {
-    pub fn and(self, more: &[u64]) -> Line {
-        let mut list = self.list;
-        let mut n = self.n;
-        let mut i = 0;
-        while i < more.len() {
-            if 95 < n {
-                return Line { list, n };
-            }
-            list[n] = more[i];
-            n += 1;
-            i += 1;
-        }
-        Line { list, n }
-    }
-}
+// An answer that can change with c, so that two can be compared.
+pub type Line = [u64; 8];
 
-pub fn row(items: &[u64]) -> Line {
-    (Line {
-        list: [0; 96],
-        n: 0,
-    }).and(items)
+pub const EMPTY: Line = [END; 8];
+
+pub fn row(a: u64, b: u64, c: u64) -> Line {
+    [a, b, c, END, END, END, END, END]
 }
 
 pub fn one(item: u64) -> Line {
-    row(&[item])
+    row(item, END, END)
+}
+
+pub fn two(a: u64, b: u64) -> Line {
+    row(a, b, END)
 }
 
 pub fn refused(number: u8) -> Line {
-    row(&[REFUSED, number as u64])
+    two(REFUSED, number as u64)
+}
+
+// Whether two lines are the same.
+pub fn same(a: Line, b: Line) -> bool {
+    let mut k = 0;
+    while k < 8 {
+        if a[k] != b[k] {
+            return false;
+        }
+        k += 1;
+    }
+    true
 }
 
 // A byte as two hexadecimal digits, after a space or close to the one before.
@@ -80,14 +79,63 @@ pub fn next_byte(x: u8) -> u64 {
     CLOSE + HEX + (x as u64)
 }
 
-pub fn flag(on: bool) -> u64 {
-    if on { 1 } else { 0 }
+pub fn text(bytes: &[u8]) {
+    io::write_all(STDOUT_FILENO, bytes);
 }
 
-fn number(out: &mut [u8], at: usize, x: u64) -> usize {
-    let mut digits = [0u8; 20];
-    let n = wire::least(io::decimal(x, &mut digits), 20);
-    wire::put_bytes(out, at, &digits[..n])
+// What stands before an item.
+fn lead(kind: u64) {
+    match kind {
+        0 => text(b" "),
+        1 => text(b"/"),
+        2 => text(b""),
+        _ => text(b" r"),
+    }
+}
+
+// The words stand in rows of eight bytes; the last takes three.
+fn word(item: u64) {
+    let rows =
+        b"ok      none    refused same    differ  managersusages  pdos    no such entry point";
+    let row = (item % KIND / 32) as usize;
+    text(parts::part(rows, 8 * row, (item % 32) as usize));
+}
+
+fn put_item(item: u64) {
+    if item < HEX {
+        io::print_decimal(STDOUT_FILENO, item % KIND);
+    } else if item < WORD {
+        io::print_hex(STDOUT_FILENO, item % 256, 2);
+    } else {
+        word(item);
+    }
+}
+
+// The first `count` items of a list; nothing stands before the first, unless the line has begun.
+pub fn put(list: &[u64], count: usize, begun: bool) {
+    let n = wire::least(count, list.len());
+    let mut inside = begun;
+    let mut k = 0;
+    while k < n {
+        let item = list[k];
+        if item == END {
+            return;
+        }
+        if inside {
+            lead(item / KIND % 4);
+        }
+        put_item(item);
+        inside = true;
+        k += 1;
+    }
+}
+
+pub fn first(list: &[u64]) {
+    put(list, list.len(), false);
+}
+
+pub fn then(list: &[u64]) {
+    put(list, list.len(), true);
 }
 
 fn digit(x: u8) -> u8 {
@@ -98,71 +146,32 @@ fn digit(x: u8) -> u8 {
     b'a' + (low - 10)
 }
 
-fn hex(out: &mut [u8], at: usize, x: u8) -> usize {
-    wire::put_bytes(out, at, &[digit(x / 16), digit(x)])
-}
-
-// The words stand in rows of eight bytes; the last takes three.
-fn word(out: &mut [u8], at: usize, item: u64) -> usize {
-    let rows =
-        b"ok      none    refused same    differ  managersusages  pdos    no such entry point";
-    let row = (item % KIND / 32) as usize;
-    wire::put_bytes(out, at, parts::part(rows, 8 * row, (item % 32) as usize))
-}
-
-// What stands before an item: no space where the line is still empty.
-fn lead(out: &mut [u8], at: usize, kind: u64) -> usize {
-    if at == 0 {
-        return 0;
-    }
-    match kind {
-        1 => wire::put_byte(out, at, b'/'),
-        2 => at,
-        3 => wire::put_bytes(out, at, b" r"),
-        _ => wire::put_byte(out, at, b' '),
-    }
-}
-
-fn put_item(out: &mut [u8], at: usize, item: u64) -> usize {
-    let next = lead(out, at, item / KIND % 4);
-    if item < HEX {
-        return number(out, next, item % KIND);
-    }
-    if item < WORD {
-        return hex(out, next, (item % 256) as u8);
-    }
-    word(out, next, item)
-}
-
-pub fn put(out: &mut [u8], line: Line) -> usize {
-    let list = line.list;
-    let count = wire::least(line.n, 96);
-    let mut at = 0;
-    let mut k = 0;
-    while k < count {
-        at = put_item(out, at, list[k]);
-        k += 1;
-    }
-    at
-}
-
-// The next bytes of a line; `-` where there are none.
-pub fn then_bytes(out: &mut [u8], at: usize, bytes: &[u8]) -> usize {
-    let mut next = wire::put_byte(out, at, b' ');
-    if bytes.len() == 0 {
-        return wire::put_byte(out, next, b'-');
-    }
+fn hex_of(bytes: &[u8]) -> [u8; 1024] {
+    let mut text = [0u8; 1024];
+    let n = wire::least(bytes.len(), 512);
     let mut i = 0;
-    while i < bytes.len() {
-        next = hex(out, next, bytes[i]);
+    while i < n {
+        let x = bytes[i];
+        text[2 * i] = digit(x / 16);
+        text[2 * i + 1] = digit(x);
         i += 1;
     }
-    next
+    text
+}
+
+// The next bytes of a line, at most 512; `-` where there are none.
+pub fn then_bytes(bytes: &[u8]) {
+    let n = wire::least(bytes.len(), 512);
+    text(b" ");
+    if n == 0 {
+        text(b"-");
+    }
+    text(parts::front(&hex_of(bytes), 2 * n));
 }
 
 // The room lent for a text, between two bars.
-pub fn then_room(out: &mut [u8], at: usize, room: &[u8]) -> usize {
-    let next = wire::put_bytes(out, at, b" |");
-    let end = wire::put_bytes(out, next, room);
-    wire::put_byte(out, end, b'|')
+pub fn then_room(room: &[u8]) {
+    text(b" |");
+    text(room);
+    text(b"|");
 }

@@ -1,3 +1,5 @@
+-- `probe::bays::again`: ends after as many turns as are asked.
+-- Assumes nothing.
 use borrow.Author.Needs.{needs}
 use native.Mathlib.Omega.{arith}
 use Rattle.probe.proofs.bays.again.Statement.{statement}
@@ -6,8 +8,8 @@ use Rattle.probe.proofs.bays.again.Lts as lts
 use Rattle.probe.proofs.bays.both.Reads as both-reads
 use Rattle.probe.proofs.bays.plan_once.Reads as plan-once-reads
 use Rattle.probe.proofs.parts.number4.Reads as number4-reads
+use Rattle.probe.proofs.parts.records.Reads as records-reads
 use Rattle.probe.proofs.parts.sheet.Reads as sheet-reads
-use Rattle.probe.proofs.parts.size.Reads as size-reads
 use Rattle.probe.proofs.parts.table.Reads as table-reads
 
 abbrev Inv-loop : tie.InvT-loop
@@ -22,8 +24,8 @@ sheet-requires c κs = search needs
 table-requires : tie.Need-table-requires Inv-loop μ-loop
 table-requires c κs = search needs
 
-size-requires : tie.Need-size-requires Inv-loop μ-loop
-size-requires c κs = search needs
+records-requires : tie.Need-records-requires Inv-loop μ-loop
+records-requires c κs = search needs
 
 number4-requires : tie.Need-number4-requires Inv-loop μ-loop
 number4-requires c κs = search needs
@@ -57,7 +59,7 @@ again-spec =
     μ-loop
     sheet-requires
     table-requires
-    size-requires
+    records-requires
     number4-requires
     loop-holds
     plan-once-requires

@@ -8,26 +8,20 @@ use Rattle.probe.proofs.bays.managers.Statement.{statement}
 use Rattle.probe.proofs.bays.managers.Tie as tie
 use Rattle.probe.proofs.bays.managers.Lts as lts
 use Rattle.probe.proofs.bays.manager.Reads as manager-reads
-use Rattle.probe.proofs.say.Line.and.Reads as and-reads
+use Rattle.probe.proofs.say.then.Reads as then-reads
 use Rattle.wire.proofs.least.Reads as least-reads
 
 abbrev Inv-loop : tie.InvT-loop
-Inv-loop n list longer₀ count k₀ longer k = (k ≤ count) × (count ≤ 16) × (length list ≡ 16)
+Inv-loop n list count k₀ k = (k ≤ count) × (count ≤ 16) × (length list ≡ 16)
 
 abbrev μ-loop : tie.MeasureT-loop
-μ-loop n list longer₀ count k₀ longer k = count - k
-
-slice-aggregate-and : tie.Need-slice-aggregate-and Inv-loop μ-loop
-slice-aggregate-and c = search needs
-
-and-requires : tie.Need-and-requires Inv-loop μ-loop
-and-requires c κs = search needs
+μ-loop n list count k₀ k = count - k
 
 least-requires : tie.Need-least-requires Inv-loop μ-loop
 least-requires c κs = search needs
 
 loop-holds : tie.Need-loop-holds Inv-loop μ-loop
-loop-holds c = (omega arith, omega (arith, c .least .ensures, min-le-right (c .before .before .before .args .n) 16), search needs)
+loop-holds c = (omega arith, omega (arith, c .least .ensures, min-le-right (c .before .args .n) 16), search needs)
 
 mul-m : tie.Need-mul-m Inv-loop μ-loop
 mul-m c = omega arith
@@ -38,11 +32,11 @@ array-copy-out-m c = omega arith
 manager-requires : tie.Need-manager-requires Inv-loop μ-loop
 manager-requires c κs = search needs
 
-slice-aggregate-and-2 : tie.Need-slice-aggregate-and-2 Inv-loop μ-loop
-slice-aggregate-and-2 c = search needs
+slice-aggregate-then : tie.Need-slice-aggregate-then Inv-loop μ-loop
+slice-aggregate-then c = search needs
 
-and-requires-2 : tie.Need-and-requires-2 Inv-loop μ-loop
-and-requires-2 c κs = search needs
+then-requires : tie.Need-then-requires Inv-loop μ-loop
+then-requires c κs = search needs
 
 add-k : tie.Need-add-k Inv-loop μ-loop
 add-k c = omega arith
@@ -62,15 +56,13 @@ managers-spec =
     (tie.spec
     Inv-loop
     μ-loop
-    slice-aggregate-and
-    and-requires
     least-requires
     loop-holds
     mul-m
     array-copy-out-m
     manager-requires
-    slice-aggregate-and-2
-    and-requires-2
+    slice-aggregate-then
+    then-requires
     add-k
     loop-less
     loop-again

@@ -1,44 +1,38 @@
-use borrow.Author.Needs.{needs}
 use Prim.Native.Nat.{_-_, _≤_}
 use native.Mathlib.Nat.{min-le-right}
 use mathlib.Core.Path.{_≡_}
 use lib.ListN.{length}
+use borrow.Author.Needs.{needs}
 use native.Mathlib.Omega.{arith}
 use Rattle.probe.proofs.bays.usages.Statement.{statement}
 use Rattle.probe.proofs.bays.usages.Tie as tie
 use Rattle.probe.proofs.bays.usages.Lts as lts
-use Rattle.probe.proofs.say.Line.and.Reads as and-reads
+use Rattle.probe.proofs.say.then.Reads as then-reads
 use Rattle.wire.proofs.least.Reads as least-reads
 
 abbrev Inv-loop : tie.InvT-loop
-Inv-loop f list longer₀ count k₀ longer k = (k ≤ count) × (count ≤ 16) × (length list ≡ 16)
+Inv-loop f list count k₀ k = (k ≤ count) × (count ≤ 16) × (length list ≡ 16)
 
 abbrev μ-loop : tie.MeasureT-loop
-μ-loop f list longer₀ count k₀ longer k = count - k
-
-slice-aggregate-and : tie.Need-slice-aggregate-and Inv-loop μ-loop
-slice-aggregate-and c = search needs
-
-and-requires : tie.Need-and-requires Inv-loop μ-loop
-and-requires c κs = search needs
+μ-loop f list count k₀ k = count - k
 
 least-requires : tie.Need-least-requires Inv-loop μ-loop
 least-requires c κs = search needs
 
 loop-holds : tie.Need-loop-holds Inv-loop μ-loop
-loop-holds c = (omega arith, omega (arith, c .least .ensures, min-le-right (c .before .before .before .args .f) 16), search needs)
+loop-holds c = (omega arith, omega (arith, c .least .ensures, min-le-right (c .before .args .f) 16), search needs)
 
-array-read-t15 : tie.Need-array-read-t15 Inv-loop μ-loop
-array-read-t15 c = omega arith
+array-read-t11 : tie.Need-array-read-t11 Inv-loop μ-loop
+array-read-t11 c = omega arith
 
-cast-t16 : tie.Need-cast-t16 Inv-loop μ-loop
-cast-t16 c = search needs
+cast-t12 : tie.Need-cast-t12 Inv-loop μ-loop
+cast-t12 c = search needs
 
-slice-aggregate-and-2 : tie.Need-slice-aggregate-and-2 Inv-loop μ-loop
-slice-aggregate-and-2 c = search needs
+slice-aggregate-then : tie.Need-slice-aggregate-then Inv-loop μ-loop
+slice-aggregate-then c = search needs
 
-and-requires-2 : tie.Need-and-requires-2 Inv-loop μ-loop
-and-requires-2 c κs = search needs
+then-requires : tie.Need-then-requires Inv-loop μ-loop
+then-requires c κs = search needs
 
 add-k : tie.Need-add-k Inv-loop μ-loop
 add-k c = omega arith
@@ -58,14 +52,12 @@ usages-spec =
     (tie.spec
     Inv-loop
     μ-loop
-    slice-aggregate-and
-    and-requires
     least-requires
     loop-holds
-    array-read-t15
-    cast-t16
-    slice-aggregate-and-2
-    and-requires-2
+    array-read-t11
+    cast-t12
+    slice-aggregate-then
+    then-requires
     add-k
     loop-less
     loop-again

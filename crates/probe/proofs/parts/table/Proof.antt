@@ -8,24 +8,34 @@ use Rattle.probe.proofs.parts.table.Statement.{statement}
 use Rattle.probe.proofs.parts.table.Tie as tie
 use Rattle.probe.proofs.parts.table.Lts as lts
 use Rattle.probe.proofs.parts.byte_at.Reads as byte-at-reads
-use Rattle.probe.proofs.parts.size.Reads as size-reads
+use Rattle.probe.proofs.parts.number2.Reads as number2-reads
+use Rattle.probe.proofs.parts.records.Reads as records-reads
 use Rattle.wire.proofs.be16.Reads as be16-reads
 use Rattle.wire.proofs.least.Reads as least-reads
 
 abbrev Inv-loop : tie.InvT-loop
-Inv-loop request table₀ count k₀ table k = (k ≤ count) × (count ≤ 256) × (length table ≡ 256)
+Inv-loop request table₀ from count k₀ table k = (k ≤ count) × (count ≤ 256) × (from ≤ 65563) × (length table ≡ 256)
 
 abbrev μ-loop : tie.MeasureT-loop
-μ-loop request table₀ count k₀ table k = count - k
+μ-loop request table₀ from count k₀ table k = count - k
 
-size-requires : tie.Need-size-requires Inv-loop μ-loop
-size-requires c κs = search needs
+number2-requires : tie.Need-number2-requires Inv-loop μ-loop
+number2-requires c κs = search needs
+
+cast-from : tie.Need-cast-from Inv-loop μ-loop
+cast-from c = search needs
+
+add-from : tie.Need-add-from Inv-loop μ-loop
+add-from c = search needs
+
+records-requires : tie.Need-records-requires Inv-loop μ-loop
+records-requires c κs = search needs
 
 least-requires : tie.Need-least-requires Inv-loop μ-loop
 least-requires c κs = search needs
 
 loop-holds : tie.Need-loop-holds Inv-loop μ-loop
-loop-holds c = (omega arith, omega (arith, c .least .ensures, min-le-right (c .before .size .result) 256), search needs)
+loop-holds c = (omega arith, omega (arith, c .least .ensures, min-le-right (c .before .records .result) 256), omega arith, search needs)
 
 mul-at : tie.Need-mul-at Inv-loop μ-loop
 mul-at c = omega arith
@@ -64,7 +74,7 @@ loop-less : tie.Need-loop-less Inv-loop μ-loop
 loop-less c = omega arith
 
 loop-again : tie.Need-loop-again Inv-loop μ-loop
-loop-again c = (omega arith, omega arith, search needs)
+loop-again c = (omega arith, omega arith, omega arith, search needs)
 
 returns : tie.Need-returns Inv-loop μ-loop
 returns c = tt
@@ -75,7 +85,10 @@ table-spec =
     (tie.spec
     Inv-loop
     μ-loop
-    size-requires
+    number2-requires
+    cast-from
+    add-from
+    records-requires
     least-requires
     loop-holds
     mul-at

@@ -1,32 +1,39 @@
+use denote.Ref.{now}
 use Prim.Native.Nat.{_-_, _≤_}
 use native.Mathlib.Nat.{min-le-right}
-use mathlib.Core.Path.{_≡_}
 use lib.ListN.{length}
 use borrow.Author.Needs.{needs}
 use native.Mathlib.Omega.{arith}
 use Rattle.probe.proofs.say.put.Statement.{statement}
 use Rattle.probe.proofs.say.put.Tie as tie
 use Rattle.probe.proofs.say.put.Lts as lts
+use Rattle.probe.proofs.say.lead.Reads as lead-reads
 use Rattle.probe.proofs.say.put_item.Reads as put-item-reads
 use Rattle.wire.proofs.least.Reads as least-reads
 
 abbrev Inv-loop : tie.InvT-loop
-Inv-loop out₀ list count at₀ k₀ out at k = (k ≤ count) × (count ≤ 96) × (length list ≡ 96) × (length out ≡ length out₀)
+Inv-loop list count begun n inside₀ k₀ inside k = (k ≤ n) × (n ≤ length list)
 
 abbrev μ-loop : tie.MeasureT-loop
-μ-loop out₀ list count at₀ k₀ out at k = count - k
+μ-loop list count begun n inside₀ k₀ inside k = n - k
 
 least-requires : tie.Need-least-requires Inv-loop μ-loop
 least-requires c κs = search needs
 
 loop-holds : tie.Need-loop-holds Inv-loop μ-loop
-loop-holds c = (omega arith, omega (arith, c .least .ensures, min-le-right (c .before .before .before .args .line .n) 96), search needs, omega arith)
+loop-holds c = (omega arith, omega (arith, c .least .ensures, min-le-right (c .before .before .args .count) (length (now (c .before .before .args .list)))))
 
-mul-put-item : tie.Need-mul-put-item Inv-loop μ-loop
-mul-put-item c = omega arith
+mul-item : tie.Need-mul-item Inv-loop μ-loop
+mul-item c = omega arith
 
-array-read-put-item : tie.Need-array-read-put-item Inv-loop μ-loop
-array-read-put-item c = omega arith
+shared-slice-read-item : tie.Need-shared-slice-read-item Inv-loop μ-loop
+shared-slice-read-item c = omega arith
+
+returns : tie.Need-returns Inv-loop μ-loop
+returns c = tt
+
+lead-requires : tie.Need-lead-requires Inv-loop μ-loop
+lead-requires c κs = search needs
 
 put-item-requires : tie.Need-put-item-requires Inv-loop μ-loop
 put-item-requires c κs = search needs
@@ -38,13 +45,10 @@ loop-less : tie.Need-loop-less Inv-loop μ-loop
 loop-less c = omega arith
 
 loop-again : tie.Need-loop-again Inv-loop μ-loop
-loop-again c = (omega arith, omega arith, search needs, omega arith)
+loop-again c = (omega arith, omega arith)
 
-same-length : tie.Need-same-length Inv-loop μ-loop
-same-length c = omega arith
-
-returns : tie.Need-returns Inv-loop μ-loop
-returns c = tt
+returns-2 : tie.Need-returns-2 Inv-loop μ-loop
+returns-2 c = tt
 
 pub put-spec : {M : Type 1} → statement M
 put-spec =
@@ -54,11 +58,12 @@ put-spec =
     μ-loop
     least-requires
     loop-holds
-    mul-put-item
-    array-read-put-item
+    mul-item
+    shared-slice-read-item
+    returns
+    lead-requires
     put-item-requires
     add-k
     loop-less
     loop-again
-    same-length
-    returns)
+    returns-2)
