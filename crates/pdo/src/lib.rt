@@ -113,12 +113,12 @@ fn part_of(
     bytes: &[u8],
     at: usize,
     kind: u8,
-    asked: [bool; 16],
+    asked: &[bool; 16],
     multipliers: &[u8],
     i: usize,
 ) -> u64
-    requires { ⌜ at + 5 ≤ length (now bytes) ⌝ }
-    ensures { λ r. ⌜ (r ≡ partOf kind asked (pdoAt (now (bytes .entry)) at) (getD (now (multipliers .entry)) i 1)) × (r ≤ 16711425) ⌝ }
+    requires { ⌜ (at + 5 ≤ length (now bytes)) × (length (now asked) ≡ 16) ⌝ }
+    ensures { λ r. ⌜ (r ≡ partOf kind (now (asked .entry)) (pdoAt (now (bytes .entry)) at) (getD (now (multipliers .entry)) i 1)) × (r ≤ 16711425) ⌝ }
 {
     if bytes[at] != kind {
         return 0;
@@ -159,7 +159,7 @@ pub fn tally(
         }
         let slot = wire::wide(bytes[place + 1] % 16);
         let before = sums[slot].0;
-        sums[slot] = BitLen(before + part_of(bytes, place, kind, asked, multipliers, i));
+        sums[slot] = BitLen(before + part_of(bytes, place, kind, &asked, multipliers, i));
         place = place + 5 + wire::wide(bytes[place + 4]);
         i += 1;
     }

@@ -18,7 +18,7 @@ shared-slice-read-if1 c = search needs
 returns : tie.Need-returns
 returns c =
     let a = c .before .before .before .before .args in
-    (part-other (a .kind) (a .t4) _ _ (getD (now (a .multipliers)) (a .i) 1) (pdoAt (now (a .bytes)) (a .at)) refl refl (c .if1 .taken), omega arith)
+    (part-other (a .kind) (now (a .asked)) _ _ (getD (now (a .multipliers)) (a .i) 1) (pdoAt (now (a .bytes)) (a .at)) refl refl (c .if1 .taken), omega arith)
 
 add-wide : tie.Need-add-wide
 add-wide c = search needs
@@ -32,15 +32,15 @@ wide-requires c κs = search needs
 returns-2 : tie.Need-returns-2
 returns-2 c =
     let a = c .before .before .before .before .before .before .before .args in
-    (part-nowhere (a .kind) (a .t4) _ (c .before .wide .result) (getD (now (a .multipliers)) (a .i) 1) (pdoAt (now (a .bytes)) (a .at)) refl (c .before .wide .ensures .0) (c .before .before .before .if1 .left) (c .if2 .taken), omega arith)
+    (part-nowhere (a .kind) (now (a .asked)) _ (c .before .wide .result) (getD (now (a .multipliers)) (a .i) 1) (pdoAt (now (a .bytes)) (a .at)) refl (c .before .wide .ensures .0) (c .before .before .before .if1 .left) (c .if2 .taken), omega arith)
 
-array-read-if3 : tie.Need-array-read-if3
-array-read-if3 c = search needs
+element-copy-out-if3 : tie.Need-element-copy-out-if3
+element-copy-out-if3 c = search needs
 
 returns-3 : tie.Need-returns-3
 returns-3 c =
-    let a = c .before .before .before .before .before .before .before .before .args in
-    (part-unasked (a .kind) (a .t4) _ (c .before .before .wide .result) (getD (now (a .multipliers)) (a .i) 1) (pdoAt (now (a .bytes)) (a .at)) refl (c .before .before .wide .ensures .0) (c .before .before .before .before .if1 .left) (omega arith) (not-true _ (c .if3 .taken)), omega arith)
+    let a = c .before .before .before .before .before .before .before .before .before .args in
+    (part-unasked (a .kind) (now (a .asked)) _ (c .before .before .before .wide .result) (getD (now (a .multipliers)) (a .i) 1) (pdoAt (now (a .bytes)) (a .at)) refl (c .before .before .before .wide .ensures .0) (c .before .before .before .before .before .if1 .left) (omega arith) (not-true _ (c .if3 .taken)), omega arith)
 
 pdo-bits-requires : tie.Need-pdo-bits-requires
 pdo-bits-requires c κs = search needs
@@ -53,10 +53,10 @@ mul-result c = omega (arith, product-bounded (c .before .pdo-bits .result) (c .m
 
 returns-4 : tie.Need-returns-4
 returns-4 c =
-    let a = c .before .before .before .before .before .before .before .before .before .before .args in
-    let w = c .before .before .before .before .wide in (
+    let a = c .before .before .before .before .before .before .before .before .before .before .before .args in
+    let w = c .before .before .before .before .before .wide in (
       ap (λ (x : ℕ). c .before .pdo-bits .result * x) (c .multiplier-at .ensures .0)
-          ∙ part-here (a .kind) (a .t4) _ (w .result) (getD (now (a .multipliers)) (a .i) 1) (pdoAt (now (a .bytes)) (a .at)) refl (w .ensures .0) (c .before .pdo-bits .result) (c .before .before .before .before .before .before .if1 .left) (omega arith) (not-false _ (c .before .before .if3 .left)) (c .before .pdo-bits .ensures .0),
+          ∙ part-here (a .kind) (now (a .asked)) _ (w .result) (getD (now (a .multipliers)) (a .i) 1) (pdoAt (now (a .bytes)) (a .at)) refl (w .ensures .0) (c .before .pdo-bits .result) (c .before .before .before .before .before .before .before .if1 .left) (omega arith) (not-false _ (c .before .before .if3 .left)) (c .before .pdo-bits .ensures .0),
       product-bounded (c .before .pdo-bits .result) (c .multiplier-at .result) (omega arith) (omega arith),
     )
 
@@ -70,7 +70,7 @@ part-of-spec =
     shared-slice-read-wide
     wide-requires
     returns-2
-    array-read-if3
+    element-copy-out-if3
     returns-3
     pdo-bits-requires
     multiplier-at-requires

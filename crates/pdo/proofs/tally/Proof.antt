@@ -10,16 +10,16 @@ use Rattle.pdo.proofs.tally.Statement.{statement}
 use Rattle.pdo.proofs.tally.Tie as tie
 
 abbrev Inv-loop : tie.InvT-loop
-Inv-loop bytes at p kind asked multipliers sums₀ last place₀ i₀ count sums place i =
-    (last + 5 ≡ length bytes) × Tallied bytes multipliers kind asked p at sums place i
+Inv-loop bytes at p kind multipliers asked sums₀ last place₀ i₀ count sums place i =
+    (last + 5 ≡ length bytes) × (length asked ≡ 16) × Tallied bytes multipliers kind asked p at sums place i
 
 abbrev μ-loop : tie.MeasureT-loop
-μ-loop bytes at p kind asked multipliers sums₀ last place₀ i₀ count sums place i = count - i
+μ-loop bytes at p kind multipliers asked sums₀ last place₀ i₀ count sums place i = count - i
 
 returns : tie.Need-returns Inv-loop μ-loop
 returns c =
     let a = c .before .before .before .args in
-    tallied-past (now (a .bytes)) (now (a .multipliers)) (a .kind) (a .asked) (tallied-start (now (a .bytes)) (now (a .multipliers)) (a .kind) (a .asked) (a .p) (a .at)) (omega arith)
+    tallied-past (now (a .bytes)) (now (a .multipliers)) (a .kind) (a .t5) (tallied-start (now (a .bytes)) (now (a .multipliers)) (a .kind) (a .t5) (a .p) (a .at)) (omega arith)
 
 sub-last : tie.Need-sub-last Inv-loop μ-loop
 sub-last c = omega arith
@@ -30,10 +30,10 @@ wide-requires c κs = tt
 loop-holds : tie.Need-loop-holds Inv-loop μ-loop
 loop-holds c =
     let a = c .before .before .before .before .args in
-    (omega arith, tallied-start (now (a .bytes)) (now (a .multipliers)) (a .kind) (a .asked) (a .p) (a .at))
+    (omega arith, c .before .before .before .before .good .1 .1 .1 .1 .0 .1 .0 .1, tallied-start (now (a .bytes)) (now (a .multipliers)) (a .kind) (a .t5) (a .p) (a .at))
 
 returns-2 : tie.Need-returns-2 Inv-loop μ-loop
-returns-2 c = let l = c .before .before .loop in tallied-past _ _ _ _ (l .inv .1) (omega arith)
+returns-2 c = let l = c .before .before .loop in tallied-past _ _ _ _ (l .inv .2) (omega arith)
 
 add-wide : tie.Need-add-wide Inv-loop μ-loop
 add-wide c = omega arith
@@ -51,10 +51,10 @@ element-copy-out-before : tie.Need-element-copy-out-before Inv-loop μ-loop
 element-copy-out-before c = omega arith
 
 part-of-requires : tie.Need-part-of-requires Inv-loop μ-loop
-part-of-requires c κs = omega arith
+part-of-requires c κs = let l = c .before .before .before .before .before .loop in (omega arith, l .inv .1)
 
-add-t25 : tie.Need-add-t25 Inv-loop μ-loop
-add-t25 c = let l = c .before .before .before .before .before .loop in omega (arith, l .inv .1 .small (c .before .wide2 .result) (omega arith))
+add-t27 : tie.Need-add-t27 Inv-loop μ-loop
+add-t27 c = let l = c .before .before .before .before .before .before .loop in omega (arith, l .inv .2 .small (c .before .before .wide2 .result) (omega arith))
 
 mul-sums : tie.Need-mul-sums Inv-loop μ-loop
 mul-sums c = omega arith
@@ -86,11 +86,11 @@ loop-less c = omega arith
 loop-again : tie.Need-loop-again Inv-loop μ-loop
 loop-again c =
     let o = c .before .before in
-    let l = c .before .before .before .before .before .before .before .loop in
-    (l .inv .0, tallied-turn _ _ _ _ (l .inv .1) (l .place + 5 + c .wide3 .result) (o .before .wide2 .result) (o .part-of .result) (omega arith) (omega arith) (omega arith) (o .part-of .ensures .0) (o .part-of .ensures .1))
+    let l = c .before .before .before .before .before .before .before .before .loop in
+    (l .inv .0, l .inv .1, tallied-turn _ _ _ _ (l .inv .2) (l .place + 5 + c .wide3 .result) (o .before .before .wide2 .result) (o .part-of .result) (omega arith) (omega arith) (omega arith) (o .part-of .ensures .0) (o .part-of .ensures .1))
 
 returns-3 : tie.Need-returns-3 Inv-loop μ-loop
-returns-3 c = tallied-end _ _ _ _ (c .before .loop .inv .1) (omega arith)
+returns-3 c = tallied-end _ _ _ _ (c .before .loop .inv .2) (omega arith)
 
 pub tally-spec : {M : Type 1} → statement M
 tally-spec =
@@ -109,7 +109,7 @@ tally-spec =
     mul-before
     element-copy-out-before
     part-of-requires
-    add-t25
+    add-t27
     mul-sums
     array-set-from-sums
     add-place
