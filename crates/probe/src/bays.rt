@@ -14,7 +14,6 @@ use pdo::Oversampling;
 use pdo::PdoDirection;
 use sheet::Answer;
 use sheet::Device;
-use sheet::SheetRead;
 use sheet::SyncManager;
 use subdevice::Passed;
 use translation::Reached;
@@ -70,11 +69,12 @@ fn device(d: Device) {
     say::then(&[say::PDOS, d.p as u64]);
 }
 
-pub fn read(read: SheetRead) {
+pub fn read(sheet: &[u8]) {
+    let read = sheet::read(sheet);
     let answer = read.answer;
     let d = read.device;
     match answer {
-        Answer::Refused(number) => say::first(&say::refused(number)),
+        Answer::Refused(number) => say::refuse(number),
         Answer::Accepted => device(d),
     }
 }
@@ -105,7 +105,7 @@ fn config(c: MailboxConfig) {
 fn recorded(answer: MailboxRead) {
     match answer {
         MailboxRead::Config(c) => config(c),
-        MailboxRead::Refused(number) => say::first(&say::refused(number)),
+        MailboxRead::Refused(number) => say::refuse(number),
     }
 }
 
@@ -330,7 +330,7 @@ fn both(plan: Planned) {
                 outputs.end as u64,
             ],
         ),
-        Planned::Refused(number) => say::first(&say::refused(number)),
+        Planned::Refused(number) => say::refuse(number),
     }
 }
 

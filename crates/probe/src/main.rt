@@ -5,11 +5,9 @@ mod parts;
 mod records;
 mod say;
 
-use fmmu::Fmmu;
 use libc::STDIN_FILENO;
 use libc::STDOUT_FILENO;
 use say::Line;
-use sync_manager_channel::SyncManagerChannel;
 
 // The answers that can change with c.
 fn line_of(letter: u8, request: &[u8], c: u32) -> Line {
@@ -37,11 +35,9 @@ fn stays(letter: u8) -> bool {
 // Writes an answer that stays the same.
 fn answer(letter: u8, request: &[u8]) {
     match letter {
-        b'R' => records::fmmu_read(Fmmu::unpack_from_slice(parts::fmmus(request))),
-        b'Q' => records::channel_read(SyncManagerChannel::unpack_from_slice(parts::channels(
-            request,
-        ))),
-        b'd' => bays::read(sheet::read(parts::sheet(request))),
+        b'R' => records::fmmu_read(parts::fmmus(request)),
+        b'Q' => records::channel_read(parts::channels(request)),
+        b'd' => bays::read(parts::sheet(request)),
         b'm' => bays::mailboxes(request),
         b'p' => bays::pass(request),
         b'B' => bays::again(request),

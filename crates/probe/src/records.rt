@@ -103,8 +103,8 @@ fn channel_of(bytes: &[u8]) -> SyncManagerChannel {
     }
 }
 
-pub fn fmmu_read(answer: FmmuRead) {
-    match answer {
+pub fn fmmu_read(image: &[u8]) {
+    match Fmmu::unpack_from_slice(image) {
         FmmuRead::Entry(f) => say::first(
             &[
                 f.logical_start_address as u64,
@@ -118,7 +118,7 @@ pub fn fmmu_read(answer: FmmuRead) {
                 f.enable as u64,
             ],
         ),
-        FmmuRead::Refused(number) => say::first(&say::refused(number)),
+        FmmuRead::Refused(number) => say::refuse(number),
     }
 }
 
@@ -137,10 +137,10 @@ fn channel_fields(channel: SyncManagerChannel) {
     say::put(&numbers::enable_items(enable), 6, true);
 }
 
-pub fn channel_read(answer: ChannelRead) {
-    match answer {
+pub fn channel_read(image: &[u8]) {
+    match SyncManagerChannel::unpack_from_slice(image) {
         ChannelRead::Channel(channel) => channel_fields(channel),
-        ChannelRead::Refused(number) => say::first(&say::refused(number)),
+        ChannelRead::Refused(number) => say::refuse(number),
     }
 }
 
@@ -178,10 +178,21 @@ fn tell(answer: Written, image: bool, room: &[u8]) {
     }
 }
 
+fn writes_image(letter: u8) -> bool {
+    match letter {
+        b'W' | b'Z' => true,
+        _ => false,
+    }
+}
+
+fn filler(image: bool) -> u8 {
+    if image { 0xff } else { b'~' }
+}
+
 // The entry points that are lent room, filled with 0xff first for an image and with `~` for a text.
 pub fn roomed(letter: u8, request: &[u8]) {
-    let image = letter == b'W' || letter == b'Z';
-    let mut space = [if image { 0xff } else { b'~' }; 512];
+    let image = writes_image(letter);
+    let mut space = [filler(image); 512];
     let room = parts::front_mut(&mut space, parts::number2(request, 2) as usize);
     let segment = PdiSegment {
         start: parts::number4(request, 4),

@@ -138,6 +138,10 @@ pub fn then(list: &[u64]) {
     put(list, list.len(), true);
 }
 
+pub fn refuse(number: u8) {
+    first(&[REFUSED, number as u64]);
+}
+
 fn digit(x: u8) -> u8 {
     let low = x % 16;
     if low < 10 {

@@ -4,10 +4,6 @@ use borrow.Author.Needs.{needs}
 use native.Mathlib.Omega.{arith}
 use Rattle.probe.proofs.lines.Statement.{statement}
 use Rattle.probe.proofs.lines.Tie as tie
-use Rattle.probe.proofs.lines.Lts as lts
-use Rattle.probe.proofs.line_of.Reads as line-of-reads
-use Rattle.probe.proofs.say.same.Reads as same-reads
-use Rattle.probe.proofs.show.Reads as show-reads
 
 abbrev Inv-loop : tie.InvT-loop
 Inv-loop letter request start times before₀ left₀ c₀ before left c = Unit {0}

@@ -6,8 +6,6 @@ use borrow.Author.Needs.{needs}
 use native.Mathlib.Omega.{arith}
 use Rattle.probe.proofs.main.Statement.{statement}
 use Rattle.probe.proofs.main.Tie as tie
-use Rattle.probe.proofs.main.Lts as lts
-use Rattle.probe.proofs.serve.Reads as serve-reads
 
 abbrev Inv-loop : tie.InvT-loop
 Inv-loop request₀ turns₀ request turns = length request ≡ 18207

@@ -4,13 +4,6 @@ use borrow.Author.Needs.{needs}
 use native.Mathlib.Omega.{arith}
 use Rattle.probe.proofs.bays.again.Statement.{statement}
 use Rattle.probe.proofs.bays.again.Tie as tie
-use Rattle.probe.proofs.bays.again.Lts as lts
-use Rattle.probe.proofs.bays.both.Reads as both-reads
-use Rattle.probe.proofs.bays.plan_once.Reads as plan-once-reads
-use Rattle.probe.proofs.parts.number4.Reads as number4-reads
-use Rattle.probe.proofs.parts.records.Reads as records-reads
-use Rattle.probe.proofs.parts.sheet.Reads as sheet-reads
-use Rattle.probe.proofs.parts.table.Reads as table-reads
 
 abbrev Inv-loop : tie.InvT-loop
 Inv-loop request sheet table records last₀ left₀ last left = Unit {0}

@@ -6,10 +6,6 @@ use borrow.Author.Needs.{needs}
 use native.Mathlib.Omega.{arith}
 use Rattle.probe.proofs.bays.managers.Statement.{statement}
 use Rattle.probe.proofs.bays.managers.Tie as tie
-use Rattle.probe.proofs.bays.managers.Lts as lts
-use Rattle.probe.proofs.bays.manager.Reads as manager-reads
-use Rattle.probe.proofs.say.then.Reads as then-reads
-use Rattle.wire.proofs.least.Reads as least-reads
 
 abbrev Inv-loop : tie.InvT-loop
 Inv-loop n list count k₀ k = (k ≤ count) × (count ≤ 16) × (length list ≡ 16)

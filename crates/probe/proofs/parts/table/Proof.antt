@@ -6,12 +6,6 @@ use borrow.Author.Needs.{needs}
 use native.Mathlib.Omega.{arith}
 use Rattle.probe.proofs.parts.table.Statement.{statement}
 use Rattle.probe.proofs.parts.table.Tie as tie
-use Rattle.probe.proofs.parts.table.Lts as lts
-use Rattle.probe.proofs.parts.byte_at.Reads as byte-at-reads
-use Rattle.probe.proofs.parts.number2.Reads as number2-reads
-use Rattle.probe.proofs.parts.records.Reads as records-reads
-use Rattle.wire.proofs.be16.Reads as be16-reads
-use Rattle.wire.proofs.least.Reads as least-reads
 
 abbrev Inv-loop : tie.InvT-loop
 Inv-loop request table₀ from count k₀ table k = (k ≤ count) × (count ≤ 256) × (from ≤ 65563) × (length table ≡ 256)

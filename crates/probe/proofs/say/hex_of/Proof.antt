@@ -7,9 +7,6 @@ use borrow.Author.Needs.{needs}
 use native.Mathlib.Omega.{arith}
 use Rattle.probe.proofs.say.hex_of.Statement.{statement}
 use Rattle.probe.proofs.say.hex_of.Tie as tie
-use Rattle.probe.proofs.say.hex_of.Lts as lts
-use Rattle.probe.proofs.say.digit.Reads as digit-reads
-use Rattle.wire.proofs.least.Reads as least-reads
 
 abbrev Inv-loop : tie.InvT-loop
 Inv-loop bytes text₀ n i₀ text i = (i ≤ n) × (n ≤ 512) × (n ≤ length bytes) × (length text ≡ 1024)

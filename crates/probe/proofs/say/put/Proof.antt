@@ -6,10 +6,6 @@ use borrow.Author.Needs.{needs}
 use native.Mathlib.Omega.{arith}
 use Rattle.probe.proofs.say.put.Statement.{statement}
 use Rattle.probe.proofs.say.put.Tie as tie
-use Rattle.probe.proofs.say.put.Lts as lts
-use Rattle.probe.proofs.say.lead.Reads as lead-reads
-use Rattle.probe.proofs.say.put_item.Reads as put-item-reads
-use Rattle.wire.proofs.least.Reads as least-reads
 
 abbrev Inv-loop : tie.InvT-loop
 Inv-loop list count begun n inside₀ k₀ inside k = (k ≤ n) × (n ≤ length list)

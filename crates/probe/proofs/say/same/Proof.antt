@@ -5,7 +5,6 @@ use borrow.Author.Needs.{needs}
 use native.Mathlib.Omega.{arith}
 use Rattle.probe.proofs.say.same.Statement.{statement}
 use Rattle.probe.proofs.say.same.Tie as tie
-use Rattle.probe.proofs.say.same.Lts as lts
 
 abbrev Inv-loop : tie.InvT-loop
 Inv-loop a b k₀ k = (k ≤ 8) × (length a ≡ 8) × (length b ≡ 8)
