@@ -2,18 +2,22 @@
 use crate::parts;
 use libc::STDOUT_FILENO;
 
-// An item below 2^32 is a number after a space. What is added to it says how else it is shown.
+// An item below 2^32 is a number after a space. What is added to it says how else it is written.
 const KIND: u64 = 0x1_0000_0000;
 
+// After a slash.
 pub const SLASH: u64 = 0x1_0000_0000;
 
+// Close to what stands before it.
 const CLOSE: u64 = 0x2_0000_0000;
-// after a space and an r
+
+// After a space and an r.
 pub const R: u64 = 0x3_0000_0000;
-// as two hexadecimal digits
+
+// As two hexadecimal digits.
 pub const HEX: u64 = 0x4_0000_0000;
 
-// as a word of `word`: 32 times its row there, and its length
+// As one of the words in `word`: 32 times its row there, and its length.
 const WORD: u64 = 0x8_0000_0000;
 
 pub const OK: u64 = WORD + 2;
