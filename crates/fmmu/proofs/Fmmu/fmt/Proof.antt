@@ -1,4 +1,4 @@
--- `fmmu::Fmmu::fmt`: the text is typed to one side in three parts, where it always fits, and then written.
+-- `fmmu::Fmmu::fmt`: the text is typed to one side in its two halves, where it always fits, and then written.
 -- Assumes nothing.
 use mathlib.Core.Path.{sym}
 use lib.Seq.{length-take-le}
@@ -21,19 +21,12 @@ slice-aggregate-put-physical c = search needs
 put-physical-requires : tie.Need-put-physical-requires
 put-physical-requires c κs = search needs
 
-slice-aggregate-put-state : tie.Need-slice-aggregate-put-state
-slice-aggregate-put-state c = search needs
-
-put-state-requires : tie.Need-put-state-requires
-put-state-requires c κs = search needs
-
 -- what stands in the array
-held : (c : tie.After-put-state) → Holds (c .put-state .last .1 .0) (c .put-state .result) (fmmuText (c .before .before .before .before .before .before .before .before .before .args .self))
+held : (c : tie.After-put-physical) → Holds (c .put-physical .last .0) (c .put-physical .result) (fmmuText (c .before .before .before .before .before .before .args .self))
 unfolding fmmuText
 held c =
-    let physical = c .before .before .before in
-    let logical = physical .before .before .before in
-    holds (fmmu-length (c .before .before .before .before .before .before .before .before .before .args .self)) (then (then (logical .put-logical .ensures) (physical .put-physical .ensures)) (c .put-state .ensures))
+    let logical = c .before .before .before in
+    holds (fmmu-length (logical .before .before .before .args .self)) (then (logical .put-logical .ensures) (c .put-physical .ensures))
 
 array-share-prefix-text : tie.Need-array-share-prefix-text
 array-share-prefix-text c = held (c .before) .fits
@@ -58,8 +51,6 @@ fmt-spec =
     put-logical-requires
     slice-aggregate-put-physical
     put-physical-requires
-    slice-aggregate-put-state
-    put-state-requires
     array-share-prefix-text
     slice-aggregate-write-text
     write-text-requires

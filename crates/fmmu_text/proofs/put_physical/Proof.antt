@@ -1,10 +1,10 @@
--- `fmmu::Fmmu::put_physical`: each part is typed after the one before it.
+-- `fmmu_text::put_physical`: each part is typed after the one before it.
 -- Assumes nothing.
 use Rattle.wire.proofs.Typing.{then}
-use Rattle.fmmu.specs.Text.{physicalText}
+use Rattle.fmmu_text.specs.Text.{physicalText}
 use borrow.Author.Needs.{needs}
-use Rattle.fmmu.proofs.Fmmu.put_physical.Statement.{statement}
-use Rattle.fmmu.proofs.Fmmu.put_physical.Tie as tie
+use Rattle.fmmu_text.proofs.put_physical.Statement.{statement}
+use Rattle.fmmu_text.proofs.put_physical.Tie as tie
 
 slice-aggregate-put-hex4 : tie.Need-slice-aggregate-put-hex4
 slice-aggregate-put-hex4 c = search needs
@@ -15,11 +15,11 @@ put-hex4-requires c κs = search needs
 slice-aggregate-put-decimal : tie.Need-slice-aggregate-put-decimal
 slice-aggregate-put-decimal c = search needs
 
-cast-put-decimal : tie.Need-cast-put-decimal
-cast-put-decimal c = search needs
-
 put-decimal-requires : tie.Need-put-decimal-requires
 put-decimal-requires c κs = search needs
+
+put-state-requires : tie.Need-put-state-requires
+put-state-requires c κs = search needs
 
 same-length : tie.Need-same-length
 same-length c = search needs
@@ -27,9 +27,10 @@ same-length c = search needs
 returns : tie.Need-returns
 unfolding physicalText
 returns c =
-    let bit = c .before .before in
-    let address = bit .before .before .before .before .before .before in
-    then (address .put-hex4 .ensures) (bit .put-decimal .ensures)
+    let state = c .before .before in
+    let bit = state .before .before .before .before in
+    let address = bit .before .before .before .before .before in
+    then (then (address .put-hex4 .ensures) (bit .put-decimal .ensures)) (state .put-state .ensures)
 
 pub put-physical-spec : {M : Type 1} → statement M
 put-physical-spec =
@@ -38,7 +39,7 @@ put-physical-spec =
     slice-aggregate-put-hex4
     put-hex4-requires
     slice-aggregate-put-decimal
-    cast-put-decimal
     put-decimal-requires
+    put-state-requires
     same-length
     returns)

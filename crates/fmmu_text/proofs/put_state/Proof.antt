@@ -1,10 +1,10 @@
--- `fmmu::Fmmu::put_state`: each part is typed after the one before it.
+-- `fmmu_text::put_state`: each part is typed after the one before it.
 -- Assumes nothing.
 use Rattle.wire.proofs.Typing.{then}
-use Rattle.fmmu.specs.Text.{stateText}
+use Rattle.fmmu_text.specs.Text.{stateText}
 use borrow.Author.Needs.{needs}
-use Rattle.fmmu.proofs.Fmmu.put_state.Statement.{statement}
-use Rattle.fmmu.proofs.Fmmu.put_state.Tie as tie
+use Rattle.fmmu_text.proofs.put_state.Statement.{statement}
+use Rattle.fmmu_text.proofs.put_state.Tie as tie
 
 slice-aggregate-put-either : tie.Need-slice-aggregate-put-either
 slice-aggregate-put-either c = search needs

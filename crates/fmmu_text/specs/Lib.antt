@@ -1,0 +1,2 @@
+-- The text of an FMMU entry, over plain numbers and flags.
+pub mod Text
