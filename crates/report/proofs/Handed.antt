@@ -1,8 +1,9 @@
--- A pass's answer with its offset beside it promises what the pass promises.
+-- A pass's answer with its offset beside it promises what the pass promises; and no oversampling is a multiplier of 1 for each PDO.
 -- Assumes nothing.
 use mathlib.Core.Path.{_≡_, sym, _∙_, ap}
 use mathlib.Core.List.{List, []}
-use Prim.Native.Nat.{ℕ}
+use Prim.Native.Nat.{ℕ, _<_}
+use lib.ListN.{take, replicate}
 use Rattle.wire.specs.Outcome.{Outcome, refused, accepted}
 use Rattle.wire.proofs.Order.{never, passed-answer}
 use Rattle.pdi.specs.declared.PdiOffset.{PdiOffset}
@@ -13,7 +14,10 @@ use Rattle.pdo.specs.declared.PdoDirection.{PdoDirection}
 use Rattle.entries.specs.declared.Configured.{Configured}
 use Rattle.entries.specs.Entries.{Planned, configuredOf}
 use Rattle.subdevice.specs.Pass.{dataPass, segmentOf, offsetAfter, Configures, Passes}
-use Rattle.report.specs.Plan.{configuredWith}
+use Rattle.sheet.specs.Sheet.{pdoCount}
+use Rattle.oversampling.specs.Multipliers.{padded}
+use Rattle.oversampling.proofs.Made.{made-sheet}
+use Rattle.report.specs.Plan.{once, configuredWith}
 
 same : (x : Placed) (offset next : PdiOffset) (o : Outcome Planned) → placedOf x ≡ segmentOf o → next ≡ offsetAfter o offset → configuredOf (configuredWith x next) ≡ o
 same (placed.Segment s) offset next (accepted p) h m =
@@ -33,3 +37,8 @@ passes-configures sheet ws r offset group fmmus channels x next y fmmusThen chan
       entries = p .entries;
       images = p .images;
     }
+
+-- the empty table's multipliers are as many times 1 as there are PDOs
+pub once-each : (s : List ℕ) → pdoCount s < 256 → take (pdoCount s) (replicate 255 1) ≡ once s
+unfolding padded
+once-each s m = made-sheet [] s m

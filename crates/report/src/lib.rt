@@ -10,7 +10,6 @@ use mailboxes::MailboxRead;
 use pdi::PdiOffset;
 use pdi::PdiSegment;
 use pdi::Placed;
-use pdo::Oversampling;
 use pdo::PdoDirection;
 use subdevice::Passed;
 use wire::Written;
@@ -21,10 +20,8 @@ enum Plan {
     Refused(u8),
 }
 
-const NO_TABLE: [Oversampling; 256] = [Oversampling {
-    pdo_index: 0,
-    multiplier: 0,
-}; 256];
+// No oversampling: the bits of each PDO count once.
+const ONCE: [u8; 255] = [1; 255];
 
 // A pass's answer with its offset beside it.
 fn configured(done: Passed) -> Configured
@@ -48,10 +45,9 @@ fn data_pass(
 ) -> Configured
     ensures { λ r. ⌜ Configures (now (sheet .entry)) (once (now (sheet .entry))) direction (offset .«start_address») 0 (now (fmmus .entry)) (now (channels .entry)) r (now (fmmus .exit)) (now (channels .exit)) ⌝ }
 {
-    let done = lent::plan(
+    let done = subdevice::pass(
         sheet,
-        NO_TABLE,
-        0,
+        ONCE,
         fmmus,
         channels,
         Place { offset, group: 0 },
