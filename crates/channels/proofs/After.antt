@@ -1,16 +1,18 @@
--- The images after some sync managers are written: a turn of the loop, its end, who gets which size said in two ways, and how many bytes they are.
+-- The images after some sync managers are written: a turn of the loop, its end, the wish of a number, who gets which size said in two ways, and how many bytes they are.
 -- Assumes nothing.
 use mathlib.Core.Path.{_≡_, refl, sym, _∙_, ap, subst}
 use mathlib.Core.Bool.{Bool, true, false, cond}
 use mathlib.Core.List.{List, [], _∷_}
 use mathlib.Core.Option.{Option, none, some}
-use Prim.Native.Nat.{ℕ, suc, _+_, _*_, _<_, _≤_, min}
+use Prim.Native.Nat.{ℕ, suc, _+_, _*_, _-_, _<_, _≤_, min}
 use native.Mathlib.Nat.{zero-add, add-zero, zero-lt-suc}
 use native.Mathlib.Numerals.{add-one}
 use native.Mathlib.Omega.{arith}
-use lib.ListN.{length, getD, set, take, drop, length-set, length-take, drop-of-length-le}
+use lib.ListN.{length, getD, set, take, drop, replicate, length-set, length-take, drop-of-length-le}
 use lib.Seq.{drop-cons, getD-take}
 use borrow.Author.Tests.{eq-eqb, ne-eqb}
+use Rattle.grammar.proofs.Lists.{at-number}
+use Rattle.sheet.specs.Sheet.{noManager}
 use Rattle.sheet.specs.declared.SyncManager.{SyncManager}
 use Rattle.sync_manager_channel.specs.Image.{imageOf}
 use Rattle.sync_manager_channel.proofs.RoundTrip.{image-length}
@@ -18,7 +20,7 @@ use Rattle.area.specs.Area.{entriesOf, storedAt, flat}
 use Rattle.area.proofs.Entry.{length-stored, stored-entry}
 use Rattle.area.proofs.Flat.{Rows, rows-set, flat-chunks}
 use Rattle.channels.specs.declared.Wish.{Wish}
-use Rattle.channels.specs.Channels.{channelFor, written, channelsAfter, noWish, wishOf, wished, channelArea}
+use Rattle.channels.specs.Channels.{channelFor, written, channelsAfter, noWish, wishOf, wished, filled, channelArea}
 
 -- a sync manager's image stored at its place, and one that isn't wished
 module _ (k : ℕ) (m : SyncManager) (w : Wish) (area : List ℕ) (long : length area ≡ 128) where
@@ -72,6 +74,12 @@ after-all ws managers n k room area h whole long inv =
     sym (flat-chunks 8 16 area long)
     ∙ ap flat (sym (after-end ws managers n k (entriesOf 8 area) h) ∙ inv)
     ∙ sym (channel-area-whole (take n managers) ws room whole)
+
+-- what sixteen filled places hold at a number
+pub filled-at : (f : SyncManager → ℕ → Wish) (ms : List SyncManager) (j : ℕ) → j < length ms → getD (filled f ms) j noWish ≡ f (getD ms j noManager) j
+filled-at f ms j h =
+    let at : ℕ → Wish = λ k. f (getD ms k noManager) k in
+    at-number at (length ms) j (replicate (16 - length ms) noWish) noWish h
 
 -- two ways to say who gets which size, which agree at each sync manager there is
 next : (k i : ℕ) → k + suc i ≡ suc k + i

@@ -1,40 +1,18 @@
 -- The rules of a sheet as the code finds them broken, and what a sheet that keeps them is known to hold.
 -- Assumes nothing.
 use mathlib.Core.Path.{_≡_, refl, sym, _∙_, ap}
-use mathlib.Core.Bool.{Bool, true, false, not, _||_, false≢true}
+use mathlib.Core.Bool.{Bool, true, false, not, _||_, or-true, false≢true}
 use mathlib.Core.List.{List}
 use Prim.Native.Nat.{ℕ, _+_, _*_, _≤_, _<_}
 use native.Mathlib.Omega.{arith}
 use lib.ListN.{length, getD}
-use lib.Dec.{eqb, ltb}
-use borrow.Author.Tests.{eq-eqb, ne-eqb, lt-ltb, le-ltb, ltb-false, eqb-true, not-false}
+use lib.Dec.{ltb}
+use borrow.Author.Tests.{lt-ltb, le-ltb, ltb-false, not-false}
 use Rattle.grammar.specs.Lists.{someBelow}
-use Rattle.grammar.specs.Grammar.{follow, managerCount, usageCount, pdoCount, managerPlace, usagesPlace, pdosPlace, wrongLength, pdosFit, someManagerWrong, someUsageWrong, broken}
+use Rattle.grammar.specs.Grammar.{managerCount, usageCount, pdoCount, managerPlace, usagesPlace, pdosPlace, pdosFit, someManagerWrong, someUsageWrong, broken}
 use Rattle.grammar.proofs.Lists.{some-same}
 
-or-true : (b : Bool) → b || true ≡ true
-or-true true = refl
-or-true false = refl
-
--- 2, as the code finds it: by one of its parts, or by the last after the others
-module _ (s : List ℕ) where
-  pub short : length s < 2 → wrongLength s ≡ true
-  unfolding wrongLength
-  short h = rw (lt-ltb (length s) 2 h) refl
-
-  pub other-length : (length s ≡ follow s + 2 → ⊥) → wrongLength s ≡ true
-  unfolding wrongLength
-  other-length h = rw (ne-eqb (length s) (follow s + 2) h) (or-true (ltb (length s) 2))
-
-  pub too-low : follow s < 9 → wrongLength s ≡ true
-  unfolding wrongLength
-  too-low h = simp (lt-ltb (follow s) 9 h, or-true)
-
-  pub only-high : (f : ℕ) → f ≡ follow s → 2 ≤ length s → length s ≡ follow s + 2 → 9 ≤ follow s → wrongLength s ≡ ltb 16384 f
-  unfolding wrongLength
-  only-high f e h l low = rw (e, le-ltb (length s) 2 h, eq-eqb (length s) (follow s + 2) l, le-ltb (follow s) 9 low) refl
-
--- 4, likewise
+-- 4, as the code finds it: by one of its parts, or by the last after the others
 module _ (s : List ℕ) where
   pub flags-broken : 7 < getD s 3 0 → broken s ≡ true
   unfolding broken
@@ -86,20 +64,6 @@ module _ (s : List ℕ) where
 none : (a b : Bool) → a || b ≡ false → (a ≡ false) × (b ≡ false)
 none true b e = absurd (false≢true (sym e))
 none false b e = (refl, e)
-
--- the length of a sheet that isn't refused with 2
-pub long : (s : List ℕ) → wrongLength s ≡ false → (11 ≤ length s) × (length s ≤ 16386)
-unfolding wrongLength
-long s e = go (ltb (length s) 2) (not (eqb (length s) (follow s + 2))) (ltb (follow s) 9) (ltb 16384 (follow s)) refl refl refl e
-  where
-    go : (a b c d : Bool) → not (eqb (length s) (follow s + 2)) ≡ b → ltb (follow s) 9 ≡ c → ltb 16384 (follow s) ≡ d → a || (b || (c || d)) ≡ false → (11 ≤ length s) × (length s ≤ 16386)
-    go a b c d p q r h =
-        let rest = none b (c || d) (none a (b || (c || d)) h .1) in
-        let range = none c d (rest .1) in
-        let l = eqb-true (length s) (follow s + 2) (not-false (eqb (length s) (follow s + 2)) (p ∙ rest .0)) in
-        let low = ltb-false (follow s) 9 (q ∙ range .0) in
-        let high = ltb-false 16384 (follow s) (r ∙ range .1) in
-        (omega arith, omega arith)
 
 -- what a sheet holds that isn't refused with 4
 pub record Kept (s : List ℕ) : Type 0 where

@@ -58,6 +58,11 @@ getD-listOf f (suc n) k d h = go (eq-or-lt-of-le (le-of-suc-le-suc h)) (λ l. ge
 pub at-number : {A : Type 0} (f : ℕ → A) (n k : ℕ) (rest : List A) (d : A) → k < n → getD (listOf f n ++ rest) k d ≡ f k
 at-number f n k rest d h = List·getD-append (listOf f n) rest d k (omega (arith, length-listOf f n)) ∙ getD-listOf f n k d h
 
+-- none of sixteen is filled yet
+pub none-yet : {A : Type 0} (f : ℕ → A) (d : A) → replicate 16 d ≡ listOf f 0 ++ replicate (16 - 0) d
+unfolding listOf
+none-yet f d = refl
+
 -- a turn of a loop that fills m places, of which i are filled
 pub filled : {A : Type 0} (f : ℕ → A) (d : A) (m i : ℕ) (l : List A) → i < m → l ≡ listOf f i ++ replicate (m - i) d → set l i (f i) ≡ listOf f (i + 1) ++ replicate (m - (i + 1)) d
 unfolding listOf

@@ -1,16 +1,11 @@
--- The rules of the device sheet (document 01, 'The device sheet'), big-endian: where its parts stand, and refusals 2 to 4.
+-- The rules of the device sheet (document 01, 'The device sheet'), after its length: where its parts stand, and refusals 3 and 4.
 -- Assumes nothing.
 use mathlib.Core.Bool.{Bool, not, _&&_, _||_}
 use mathlib.Core.List.{List}
 use Prim.Native.Nat.{ℕ, zero, suc, _+_, _*_}
 use lib.ListN.{length, getD}
 use lib.Dec.{eqb, ltb, leb}
-use Rattle.wire.specs.Number.{bigAt}
 use Rattle.grammar.specs.Lists.{someBelow}
-
--- 0-1: L, the bytes that follow
-abbrev pub follow : List ℕ → ℕ
-follow s = bigAt s 0 2
 
 -- 8: n sync managers; 9: f FMMU usages; 10: p PDOs
 abbrev pub managerCount : List ℕ → ℕ
@@ -35,10 +30,6 @@ pdosPlace s = usagesPlace s + usageCount s
 -- a PDO: kind, sync manager number, PDO index (2), count m, m bytes; then the next one
 abbrev pub nextPdo : List ℕ → ℕ → ℕ
 nextPdo s at = at + 5 + getD s (at + 4) 0
-
--- 2: under 2 bytes, not L+2 long, or L out of range
-unfoldable pub wrongLength : List ℕ → Bool
-wrongLength s = ltb (length s) 2 || (not (eqb (length s) (follow s + 2)) || (ltb (follow s) 9 || ltb 16384 (follow s)))
 
 -- 3: the version isn't 1
 abbrev pub wrongVersion : List ℕ → Bool

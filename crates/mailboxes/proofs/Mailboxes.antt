@@ -4,8 +4,8 @@ use mathlib.Core.Path.{_≡_, refl, sym, _∙_, ap}
 use mathlib.Core.Bool.{Bool, true, false, cond}
 use mathlib.Core.List.{List, []}
 use mathlib.Core.Option.{none, some}
-use Prim.Native.Nat.{ℕ, _-_, _<_}
-use lib.ListN.{length, getD, replicate}
+use Prim.Native.Nat.{ℕ, _<_}
+use lib.ListN.{length, getD}
 use lib.Dec.{eqb}
 use borrow.Author.Tests.{eq-eqb, ne-eqb}
 use Rattle.wire.specs.Outcome.{Outcome, refused, accepted, first}
@@ -16,17 +16,15 @@ use Rattle.sheet.specs.declared.Answer.{Answer}
 use Rattle.sheet.specs.declared.Answer.the-variants as answer
 use Rattle.sheet.specs.declared.SheetRead.{SheetRead}
 use Rattle.sheet.specs.declared.SyncManager.{SyncManager}
-use Rattle.grammar.proofs.Lists.{at-number}
 use Rattle.area.specs.Area.{entriesOf, flat}
 use Rattle.channels.specs.declared.Wish.{Wish}
-use Rattle.channels.specs.Channels.{noWish, wishOf, wished, channelsAfter, channelArea}
-use Rattle.channels.proofs.After.{channels-same, channel-area-whole}
+use Rattle.channels.specs.Channels.{noWish, wish, wishOf, wished, channelsAfter, channelArea}
+use Rattle.channels.proofs.After.{filled-at, channels-same, channel-area-whole}
 use Rattle.pdo.specs.Bits.{byCoe}
 use Rattle.mailboxes.specs.declared.MailboxConfig.{MailboxConfig}
 use Rattle.mailboxes.specs.declared.MailboxRead.the-variants.{Config, Refused}
 use Rattle.mailboxes.specs.declared.Slot.the-variants.{None}
 use Rattle.mailboxes.specs.Mailbox.{mailboxSize, lastOf, configOf, noMailboxes, mailboxPass, mailboxChannels, mailboxArea, ConfiguresMailboxes}
-use Rattle.wanted.specs.Wishes.{wish}
 use Rattle.mailboxes.specs.MailboxWishes.{mailboxWish, mailboxWishes}
 
 -- a wish says the size
@@ -43,8 +41,7 @@ wished-size :
     → wished (mailboxWishes (d .receive) (d .send) (d .managers)) k (getD (d .managers) k noManager) ≡ mailboxSize d k (getD (d .managers) k noManager)
 unfolding mailboxWishes
 wished-size d k h =
-    let f : ℕ → Wish = λ j. mailboxWish (getD (d .managers) j noManager .«usage_type») (d .receive) (d .send) in
-    ap wishOf (at-number f (length (d .managers)) k (replicate (16 - length (d .managers)) noWish) noWish h) ∙ wish-size d k (getD (d .managers) k noManager)
+    ap wishOf (filled-at (λ m j. mailboxWish (m .«usage_type») (d .receive) (d .send)) (d .managers) k h) ∙ wish-size d k (getD (d .managers) k noManager)
 
 -- the wishes written into an area of 128 bytes are what the pass writes
 pub mailboxes-written :

@@ -6,8 +6,7 @@ use Prim.Native.Nat.{ℕ}
 use lib.Dec.{eqb}
 use Rattle.sheet.specs.declared.SyncManager.{SyncManager}
 use Rattle.channels.specs.declared.Wish.{Wish}
-use Rattle.channels.specs.Channels.{noWish}
-use Rattle.wanted.specs.Wishes.{wish, filled}
+use Rattle.channels.specs.Channels.{noWish, wish, filled}
 
 -- usage 1 gets the receive size, usage 2 the send size
 abbrev pub mailboxWish : ℕ → ℕ → ℕ → Wish

@@ -128,7 +128,7 @@ fn mailboxes_of(device: Device, channels: &mut [u8]) -> MailboxConfig
     MailboxConfig {
         read: last_of(managers, n, 2, send),
         write: last_of(managers, n, 1, receive),
-        has_coe: wanted::coe_on(device),
+        has_coe: pdo::coe_on(device),
         complete_access: device.complete_access,
     }
 }

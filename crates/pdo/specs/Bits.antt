@@ -37,9 +37,13 @@ abbrev pub othersOf : List ℕ → List ℕ
 othersOf [] = []
 othersOf (w ∷ ws) = ws
 
+-- some sync manager has the usage
+abbrev pub someUsage : ℕ → List SyncManager → Bool
+someUsage usage ms = someOf (λ (m : SyncManager). eqb (m .«usage_type») usage) ms
+
 -- CoE is on if flag bits 0 and 1 are set and a read mailbox of length above 0 exists
 abbrev pub coeOn : Bool → Bool → ℕ → List SyncManager → Bool
-coeOn mailbox protocol send managers = mailbox && (protocol && (ltb 0 send && someOf (λ (m : SyncManager). eqb (m .«usage_type») 2) managers))
+coeOn mailbox protocol send managers = mailbox && (protocol && (ltb 0 send && someUsage 2 managers))
 
 unfoldable pub byCoe : Data → Bool
 byCoe d = coeOn (d .mailbox) (d .coeProtocol) (d .send) (d .managers)

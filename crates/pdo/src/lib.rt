@@ -1,13 +1,15 @@
-// Directions, and the exact bits of each sync manager, summed in one walk over the PDO records.
+// Directions, whether CoE is on, and the exact bits of each sync manager, summed in one walk over the PDO records.
 ghost use mathlib.Core.Path.{_≡_};
 ghost use Prim.Native.Nat.{_+_, _≤_};
-ghost use lib.ListN.{length, getD};
+ghost use lib.ListN.{length, getD, take};
 ghost use Rattle.grammar.specs.Lists.{listOf};
 ghost use Rattle.sheet.specs.Sound.{sum};
 ghost use Rattle.sheet.specs.Device.{pdoAt, pdosFrom};
 ghost use Rattle.pdo.specs.Direction.{termsOf};
-ghost use Rattle.pdo.specs.Bits.{partOf, sumsOf};
+ghost use Rattle.pdo.specs.Bits.{someUsage, coeOn, partOf, sumsOf};
 use pdi::BitLen;
+use sheet::Device;
+use sheet::SyncManager;
 
 // Which way process data goes.
 pub enum PdoDirection {
@@ -46,6 +48,40 @@ impl PdoDirection {
 pub struct Oversampling {
     pub pdo_index: u16,
     pub multiplier: u8,
+}
+
+// Whether a sync manager has the usage.
+fn some_usage(managers: [SyncManager; 16], n: usize, usage: u8) -> bool
+    ensures { λ r. ⌜ r ≡ someUsage usage (take n managers) ⌝ }
+{
+    let count = wire::least(n, 16);
+    let mut k = 0;
+    while k < count {
+        let m = managers[k];
+        if m.usage_type == usage {
+            return true;
+        }
+        k += 1;
+    }
+    false
+}
+
+// Whether CoE is on: flag bits 0 and 1, and a read mailbox of length above 0.
+pub fn coe_on(device: Device) -> bool
+    ensures { λ r. ⌜ r ≡ coeOn (device .«has_mailbox») (device .«coe_protocol») (device .«send_size» .0) (take (device .n) (device .managers)) ⌝ }
+{
+    if !device.has_mailbox {
+        return false;
+    }
+    if !device.coe_protocol {
+        return false;
+    }
+    let send = device.send_size;
+    if send.0 == 0 {
+        return false;
+    }
+    let managers = device.managers;
+    some_usage(managers, device.n, 2)
 }
 
 // A byte of a slice, 0 past its end.

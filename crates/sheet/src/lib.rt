@@ -191,7 +191,7 @@ fn device_of(sheet: &[u8]) -> SheetRead
 pub fn read(sheet: &[u8]) -> SheetRead
     ensures { λ r. ⌜ ReadsAs (now (sheet .entry)) r ⌝ }
 {
-    if grammar::wrong_length(sheet) {
+    if sheet_length::wrong_length(sheet) {
         return refused(2);
     }
     if sheet[2] != 1 {

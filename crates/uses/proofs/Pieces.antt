@@ -12,7 +12,7 @@ use borrow.Author.Tests.{lt-ltb, le-ltb, ltb-true, ltb-false}
 use Rattle.pdi.specs.Unit.{bytesOf}
 use Rattle.sheet.specs.declared.SyncManager.{SyncManager}
 use Rattle.channels.specs.declared.Wish.{Wish}
-use Rattle.channels.specs.Channels.{noWish}
+use Rattle.channels.specs.Channels.{noWish, wish}
 use Rattle.pdo.specs.Bits.{Piece, piecesFrom}
 use Rattle.uses.specs.declared.Route.{Route}
 use Rattle.uses.specs.Use.{Use, useOf, own, given, total, takes, usesFrom}
@@ -49,7 +49,7 @@ route-total route ps = go (route .coe)
 
 -- the wish for a sync manager: on exactly if it has the usage, and then with the size of its bits
 abbrev pub wishFor : ℕ → SyncManager → ℕ → Wish
-wishFor usage m bits = cond (eqb (m .«usage_type») usage) (record { on = true; size = record { 0 = bytesOf bits } }) noWish
+wishFor usage m bits = cond (eqb (m .«usage_type») usage) (wish (bytesOf bits)) noWish
 
 -- what one wish adds to the uses, and what one sync manager adds to the pieces
 abbrev withWish : Route → ℕ → ℕ → Wish → List Use → List Use
@@ -60,7 +60,7 @@ withPiece b k bits at ps = cond b (record { number = k; bits = bits; address = a
 
 one-use :
     (path : Bool) (entry k bits at : ℕ) (ps : List Piece) (b : Bool)
-    → withWish (record { «coe» = path; entry = entry }) k at (cond b (record { on = true; size = record { 0 = bytesOf bits } }) noWish) (byRoute (record { «coe» = path; entry = entry }) ps)
+    → withWish (record { «coe» = path; entry = entry }) k at (cond b (wish (bytesOf bits)) noWish) (byRoute (record { «coe» = path; entry = entry }) ps)
     ≡ byRoute (record { «coe» = path; entry = entry }) (withPiece b k bits at ps)
 unfolding given own
 one-use path entry k bits at ps false = refl

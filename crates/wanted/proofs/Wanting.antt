@@ -18,9 +18,9 @@ use Rattle.sheet.specs.Sheet.{noManager, answerOf}
 use Rattle.sheet.specs.declared.Answer.{Answer}
 use Rattle.sheet.specs.declared.Answer.the-variants.{Accepted, Refused}
 use Rattle.sheet.specs.declared.SyncManager.{SyncManager}
-use Rattle.grammar.proofs.Lists.{at-number}
 use Rattle.channels.specs.declared.Wish.{Wish}
-use Rattle.channels.specs.Channels.{noWish}
+use Rattle.channels.specs.Channels.{noWish, wish, filled}
+use Rattle.channels.proofs.After.{filled-at}
 use Rattle.pdo.specs.declared.PdoDirection.{PdoDirection}
 use Rattle.pdo.specs.declared.Terms.{Terms}
 use Rattle.pdo.specs.Direction.{usageOf, termsOf}
@@ -28,7 +28,7 @@ use Rattle.pdo.specs.Bits.{byCoe, pathKind, bitsOf, askedFor, sumsOf, Piece, pi
 use Rattle.pdo.proofs.Bits.{tally-at}
 use Rattle.uses.specs.Use.{firstWith, coeEntry}
 use Rattle.wanted.specs.declared.Wanted.{Wanted}
-use Rattle.wanted.specs.Wishes.{AskedFor, wish, bitsIn, dataWish, someTooWide, filled, wishesAfter}
+use Rattle.wanted.specs.Wishes.{AskedFor, bitsIn, dataWish, someTooWide, wishesAfter}
 use Rattle.wanted.specs.Wanted.{someTooMany, noEntry, wantedRefusals, wishesOf, wantedFrom, wantedAfter, Wants}
 use Rattle.wanted.proofs.Turns.{ask, was-refused}
 
@@ -66,12 +66,6 @@ list-same : {A : Type 0} (f g : ℕ → A) (n : ℕ) → ((j : ℕ) → j < n �
 unfolding listOf
 list-same f g zero h = refl
 list-same f g (suc n) h = λ i. list-same f g n (λ j l. h j (omega arith)) i ++ (h n (omega arith) i ∷ [])
-
--- what sixteen filled places hold at a number
-pub filled-at : (f : SyncManager → ℕ → Wish) (ms : List SyncManager) (j : ℕ) → j < length ms → getD (filled f ms) j noWish ≡ f (getD ms j noManager) j
-filled-at f ms j h =
-    let at : ℕ → Wish = λ k. f (getD ms k noManager) k in
-    at-number at (length ms) j (replicate (16 - length ms) noWish) noWish h
 
 -- the wish of a wanted sync manager
 pub wish-at :

@@ -12,13 +12,13 @@ use Rattle.sheet.specs.Device.{Data}
 use Rattle.sheet.specs.declared.Answer.the-variants.{Accepted, Refused}
 use Rattle.sheet.specs.declared.SyncManager.{SyncManager}
 use Rattle.channels.specs.declared.Wish.{Wish}
-use Rattle.channels.specs.Channels.{noWish}
+use Rattle.channels.specs.Channels.{noWish, filled}
 use Rattle.pdo.specs.declared.PdoDirection.{PdoDirection}
 use Rattle.pdo.specs.Direction.{usageOf}
 use Rattle.pdo.specs.Bits.{someOf, Piece, byCoe, pathKind, bitsOf, piecesOf}
 use Rattle.uses.specs.Use.{coeEntry}
 use Rattle.wanted.specs.declared.Wanted.{Wanted}
-use Rattle.wanted.specs.Wishes.{dataWish, filled}
+use Rattle.wanted.specs.Wishes.{dataWish}
 
 -- 6: a wanted sync manager's exact bits exceed 65,528
 unfoldable pub someTooMany : Data → List ℕ → PdoDirection → Bool

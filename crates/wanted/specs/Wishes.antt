@@ -1,32 +1,25 @@
 -- Who gets which size, as code holds it: one wish for each of sixteen numbers.
 -- Assumes nothing.
 use mathlib.Core.Path.{_≡_}
-use mathlib.Core.Bool.{Bool, true, cond}
-use mathlib.Core.List.{List, _++_}
-use Prim.Native.Nat.{ℕ, _-_, _<_}
+use mathlib.Core.Bool.{Bool, cond}
+use mathlib.Core.List.{List}
+use Prim.Native.Nat.{ℕ, _<_}
 use lib.ListN.{length, getD, replicate}
 use lib.Dec.{eqb}
 use Rattle.wire.specs.Outcome.{Outcome, refused, accepted}
 use Rattle.pdi.specs.Unit.{bytesOf, tooManyBits}
 use Rattle.pdi.specs.declared.BitLen.{BitLen}
 use Rattle.sheet.specs.declared.SyncManager.{SyncManager}
-use Rattle.grammar.specs.Lists.{listOf}
 use Rattle.sheet.specs.Sheet.{noManager}
 use Rattle.wanted.specs.declared.Sized.{Sized}
 use Rattle.wanted.specs.declared.Sized.the-variants.{To, Refused}
 use Rattle.channels.specs.declared.Wish.{Wish}
-use Rattle.channels.specs.Channels.{noWish}
+use Rattle.channels.specs.Channels.{noWish, wish, filled}
 use Rattle.pdo.specs.Bits.{someOf, askedFor, Piece, piecesFrom}
-
-abbrev pub someUsage : ℕ → List SyncManager → Bool
-someUsage usage ms = someOf (λ (m : SyncManager). eqb (m .«usage_type») usage) ms
 
 -- exactly those with the usage are asked for
 abbrev pub AskedFor : ℕ → List Bool → List SyncManager → Type 0
 AskedFor usage asked ms = (k : ℕ) → k < length ms → askedFor asked k ≡ eqb (getD ms k noManager .«usage_type») usage
-
-abbrev pub wish : ℕ → Wish
-wish size = record { on = true; size = record { 0 = size } }
 
 -- the exact bits of a number
 abbrev pub bitsIn : List BitLen → ℕ → ℕ
@@ -45,11 +38,7 @@ sizedOf (Refused n) = refused n
 abbrev pub someTooWide : ℕ → List BitLen → List SyncManager → Bool
 someTooWide usage sums ms = someOf (λ (p : Piece). tooManyBits (p .bits)) (piecesFrom usage (bitsIn sums) 0 ms)
 
--- sixteen wishes by number: those of the sync managers, then none
-abbrev pub filled : (SyncManager → ℕ → Wish) → List SyncManager → List Wish
-filled f ms = listOf (λ k. f (getD ms k noManager) k) (length ms) ++ replicate (16 - length ms) noWish
-
--- and none beside a refusal
+-- a wish for each sync manager, and none beside a refusal
 unfoldable pub wishesAfter : ℕ → List BitLen → List SyncManager → List Wish
 wishesAfter wanted sums ms =
     cond (someTooWide wanted sums ms) (replicate 16 noWish) (filled (λ m k. dataWish (m .«usage_type») wanted (bitsIn sums k)) ms)

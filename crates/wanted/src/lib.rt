@@ -10,9 +10,9 @@ ghost use Rattle.wire.specs.Outcome.{when, decide};
 ghost use Rattle.pdi.specs.Unit.{tooManyBits};
 ghost use Rattle.sheet.specs.Device.{dataOf};
 ghost use Rattle.sheet.specs.Sheet.{answerOf};
-ghost use Rattle.pdo.specs.Bits.{coeOn, someOf, piecesFrom};
+ghost use Rattle.pdo.specs.Bits.{someOf, piecesFrom};
 ghost use Rattle.uses.specs.Use.{firstWith};
-ghost use Rattle.wanted.specs.Wishes.{someUsage, AskedFor, bitsIn, sizedOf, dataWish, wishesAfter, someTooWide};
+ghost use Rattle.wanted.specs.Wishes.{AskedFor, bitsIn, sizedOf, dataWish, wishesAfter, someTooWide};
 ghost use Rattle.wanted.specs.Wanted.{wantedAfter, Wants};
 use channels::Wish;
 use pdi::BitLen;
@@ -35,40 +35,6 @@ const NO_WISH: Wish = Wish {
     on: false,
     size: ByteLen(0),
 };
-
-// Whether a sync manager has the usage.
-fn some_usage(managers: [SyncManager; 16], n: usize, usage: u8) -> bool
-    ensures { λ r. ⌜ r ≡ someUsage usage (take n managers) ⌝ }
-{
-    let count = wire::least(n, 16);
-    let mut k = 0;
-    while k < count {
-        let m = managers[k];
-        if m.usage_type == usage {
-            return true;
-        }
-        k += 1;
-    }
-    false
-}
-
-// Whether CoE is on: flag bits 0 and 1, and a read mailbox of length above 0.
-pub fn coe_on(device: Device) -> bool
-    ensures { λ r. ⌜ r ≡ coeOn (device .«has_mailbox») (device .«coe_protocol») (device .«send_size» .0) (take (device .n) (device .managers)) ⌝ }
-{
-    if !device.has_mailbox {
-        return false;
-    }
-    if !device.coe_protocol {
-        return false;
-    }
-    let send = device.send_size;
-    if send.0 == 0 {
-        return false;
-    }
-    let managers = device.managers;
-    some_usage(managers, device.n, 2)
-}
 
 // The place of the first FMMU entry with the usage; the count where there is none.
 fn first_with(usages: [u8; 16], f: usize, usage: u8) -> usize
@@ -224,7 +190,7 @@ pub fn wanted_of(
     ensures { λ r. ⌜ Wants (dataOf device (now (bytes .entry))) (now (multipliers .entry)) direction r ⌝ }
 {
     let terms = direction.filter_terms();
-    let coe = coe_on(device);
+    let coe = pdo::coe_on(device);
     let kind = path_kind(coe, terms.kind);
     let managers = device.managers;
     let asked = asked_of(managers, device.n, terms.usage);

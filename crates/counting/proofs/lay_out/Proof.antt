@@ -5,7 +5,7 @@ use Prim.Native.Nat.{_+_, _-_, _*_, _≤_, _<_, min}
 use native.Mathlib.Nat.{min-le-right}
 use native.Mathlib.Omega.{arith}
 use lib.ListN.{length, getD, take, drop}
-use Rattle.wanted.proofs.Turns.{blank, turn, over}
+use Rattle.pdo.proofs.Turns.{blank, turn, over}
 use Rattle.counting.specs.Count.{endFrom, foundFrom}
 use Rattle.counting.proofs.Counting.{Kept, nothing-yet, kept-turn, kept-end, end-turn, end-end}
 use Rattle.counting.proofs.lay_out.Statement.{statement}

@@ -7,7 +7,7 @@ use native.Mathlib.Omega.{arith}
 use lib.ListN.{length, getD, take, drop}
 use Rattle.mailboxes.specs.declared.Slot.the-variants.{None}
 use Rattle.mailboxes.specs.Mailbox.{lastOf}
-use Rattle.wanted.proofs.Turns.{blank, turn, over}
+use Rattle.pdo.proofs.Turns.{blank, turn, over}
 use Rattle.mailboxes.proofs.Recorded.{last-turn, last-end}
 use Rattle.mailboxes.proofs.last_of.Statement.{statement}
 use Rattle.mailboxes.proofs.last_of.Tie as tie

@@ -14,7 +14,7 @@ use Rattle.grammar.proofs.Lists as lists
 use Rattle.channels.specs.declared.Wish.{Wish}
 use Rattle.channels.specs.Channels.{noWish}
 use Rattle.mailboxes.specs.MailboxWishes.{mailboxWish, mailboxWishes}
-use Rattle.wanted.proofs.Turns.{blank, used, taken-at, none-yet}
+use Rattle.pdo.proofs.Turns.{blank, used, taken-at}
 use Rattle.mailboxes.proofs.mailbox_wishes.Statement.{statement}
 use Rattle.mailboxes.proofs.mailbox_wishes.Tie as tie
 
@@ -33,7 +33,7 @@ least-requires : tie.Need-least-requires Inv-loop μ-loop
 least-requires c κs = tt
 
 loop-holds : tie.Need-loop-holds Inv-loop μ-loop
-loop-holds c = (omega arith, c .least .ensures, c .before .good .0 .1 .0 .1, none-yet (wishAt (c .before .args .receive) (c .before .args .send) (c .before .args .n) (c .before .args .t1)) noWish)
+loop-holds c = (omega arith, c .least .ensures, c .before .good .0 .1 .0 .1, lists.none-yet (wishAt (c .before .args .receive) (c .before .args .send) (c .before .args .n) (c .before .args .t1)) noWish)
 
 -- the loop stays below sixteen
 below : (c : tie.At-loop Inv-loop μ-loop) → c .loop .k < c .before .least .result → c .loop .k < 16

@@ -10,7 +10,8 @@ use lib.Dec.{eqb}
 use Rattle.sheet.specs.Sheet.{noManager}
 use Rattle.sheet.specs.declared.SyncManager.{SyncManager}
 use Rattle.pdo.specs.Bits.{askedFor}
-use Rattle.wanted.proofs.Turns.{blank, used, taken-at, asked-turn}
+use Rattle.pdo.proofs.Turns.{blank, used, taken-at}
+use Rattle.wanted.proofs.Turns.{asked-turn}
 use Rattle.wanted.proofs.asked_of.Statement.{statement}
 use Rattle.wanted.proofs.asked_of.Tie as tie
 

@@ -7,7 +7,7 @@ use borrow.Author.Tests.{eq-eqb, ne-eqb}
 use Rattle.wire.specs.Outcome.{Refusal, refused, accepted, when}
 use Rattle.wire.proofs.Order.{passed, passed-answer, stopped}
 use Rattle.pdi.specs.Unit.{bytesOf, tooManyBits, roundedUp, roundedOf}
-use Rattle.wanted.specs.Wishes.{wish}
+use Rattle.channels.specs.Channels.{wish}
 use borrow.Author.Needs.{needs}
 use Rattle.wanted.proofs.data_wish.Statement.{statement}
 use Rattle.wanted.proofs.data_wish.Tie as tie

@@ -21,7 +21,8 @@ use Rattle.channels.specs.declared.Wish.{Wish}
 use Rattle.channels.specs.Channels.{noWish}
 use Rattle.pdo.specs.Bits.{piecesFrom}
 use Rattle.wanted.specs.Wishes.{bitsIn, dataWish, sizedOf, someTooWide, wishesAfter}
-use Rattle.wanted.proofs.Turns.{blank, ask, used, turn, taken-at, over, none-yet, not-refused, was-refused, ask-on, ask-here, ask-none}
+use Rattle.pdo.proofs.Turns.{blank, used, turn, taken-at, over}
+use Rattle.wanted.proofs.Turns.{ask, not-refused, was-refused, ask-on, ask-here, ask-none}
 use Rattle.wanted.proofs.data_wishes.Statement.{statement}
 use Rattle.wanted.proofs.data_wishes.Tie as tie
 
@@ -44,7 +45,7 @@ least-requires c κs = tt
 loop-holds : tie.Need-loop-holds Inv-loop μ-loop
 loop-holds c =
     let a = c .before .args in
-    (omega arith, c .least .ensures, c .before .good .0 .1 .0 .1, none-yet (wishAt (a .usage) (a .t4) (a .n) (a .t1)) noWish, refl)
+    (omega arith, c .least .ensures, c .before .good .0 .1 .0 .1, lists.none-yet (wishAt (a .usage) (a .t4) (a .n) (a .t1)) noWish, refl)
 
 -- the loop stays below sixteen
 below : (c : tie.In-loop Inv-loop μ-loop) → c .before .loop .k < 16

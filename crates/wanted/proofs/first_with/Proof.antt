@@ -6,7 +6,8 @@ use native.Mathlib.Nat.{min-le-right}
 use native.Mathlib.Omega.{arith}
 use lib.ListN.{length, getD, take, drop}
 use Rattle.uses.specs.Use.{firstWith}
-use Rattle.wanted.proofs.Turns.{turn, over, first-here, first-not-here, first-nowhere}
+use Rattle.pdo.proofs.Turns.{turn, over}
+use Rattle.wanted.proofs.Turns.{first-here, first-not-here, first-nowhere}
 use Rattle.wanted.proofs.first_with.Statement.{statement}
 use Rattle.wanted.proofs.first_with.Tie as tie
 

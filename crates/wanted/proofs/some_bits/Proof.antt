@@ -8,7 +8,8 @@ use lib.ListN.{length, getD, take, drop}
 use lib.Dec.{ltb}
 use Rattle.pdo.specs.Bits.{piecesFrom}
 use Rattle.wanted.specs.Wishes.{bitsIn}
-use Rattle.wanted.proofs.Turns.{blank, ask, turn, over, ask-on, ask-here, ask-none}
+use Rattle.pdo.proofs.Turns.{blank, turn, over}
+use Rattle.wanted.proofs.Turns.{ask, ask-on, ask-here, ask-none}
 use Rattle.wanted.proofs.some_bits.Statement.{statement}
 use Rattle.wanted.proofs.some_bits.Tie as tie
 

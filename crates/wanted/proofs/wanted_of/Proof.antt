@@ -13,7 +13,8 @@ use Rattle.sheet.specs.declared.Answer.{Answer}
 use Rattle.pdo.specs.Bits.{byCoe, sumsOf}
 use Rattle.wanted.specs.Wishes.{someTooWide}
 use Rattle.wanted.specs.Wanted.{noEntry}
-use Rattle.wanted.proofs.Turns.{used, not-refused}
+use Rattle.pdo.proofs.Turns.{used}
+use Rattle.wanted.proofs.Turns.{not-refused}
 use Rattle.wanted.proofs.Wanting.{Known, no-entry-is, six-wants, seven-wants, wants}
 use borrow.Author.Needs.{needs}
 use Rattle.wanted.proofs.wanted_of.Statement.{statement}

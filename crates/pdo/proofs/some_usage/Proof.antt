@@ -1,4 +1,4 @@
--- `wanted::some_usage`: whether one of the rest has the usage is whether one of all has.
+-- `pdo::some_usage`: whether one of the rest has the usage is whether one of all has.
 -- Assumes nothing.
 use mathlib.Core.Path.{_≡_, refl, sym, _∙_, ap}
 use Prim.Native.Nat.{_+_, _-_, _≤_, _<_, min}
@@ -8,11 +8,11 @@ use lib.ListN.{length, getD, take, drop}
 use lib.Dec.{eqb}
 use borrow.Author.Tests.{eq-eqb, ne-eqb}
 use Rattle.sheet.specs.declared.SyncManager.{SyncManager}
-use Rattle.wanted.specs.Wishes.{someUsage}
+use Rattle.pdo.specs.Bits.{someUsage}
 use Rattle.pdo.proofs.Some.{some-here, some-not-here}
-use Rattle.wanted.proofs.Turns.{blank, turn, over}
-use Rattle.wanted.proofs.some_usage.Statement.{statement}
-use Rattle.wanted.proofs.some_usage.Tie as tie
+use Rattle.pdo.proofs.Turns.{blank, turn, over}
+use Rattle.pdo.proofs.some_usage.Statement.{statement}
+use Rattle.pdo.proofs.some_usage.Tie as tie
 
 abbrev Inv-loop : tie.InvT-loop
 Inv-loop n usage managers count k₀ k =

@@ -1,12 +1,12 @@
--- `wanted::coe_on`: each return's test says which part of the condition fails.
+-- `pdo::coe_on`: each return's test says which part of the condition fails.
 -- Assumes nothing.
 use borrow.Author.Tests.{lt-ltb, not-true, not-false}
 use mathlib.Core.Path.{_≡_, refl}
 use Prim.Native.Nat.{ℕ, zero, suc, _<_}
 use native.Mathlib.Omega.{arith}
 use borrow.Author.Needs.{needs}
-use Rattle.wanted.proofs.coe_on.Statement.{statement}
-use Rattle.wanted.proofs.coe_on.Tie as tie
+use Rattle.pdo.proofs.coe_on.Statement.{statement}
+use Rattle.pdo.proofs.coe_on.Tie as tie
 
 positive : (n : ℕ) → (n ≡ 0 → ⊥) → 0 < n
 positive zero h = absurd (h refl)
