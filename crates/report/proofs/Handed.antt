@@ -12,7 +12,7 @@ use Rattle.pdi.specs.Segment.{placedOf}
 use Rattle.pdo.specs.declared.PdoDirection.{PdoDirection}
 use Rattle.entries.specs.declared.Configured.{Configured}
 use Rattle.entries.specs.Entries.{Planned, configuredOf}
-use Rattle.subdevice.specs.Pass.{dataPass, segmentOf, offsetAfter, Configures, Passes}
+use Rattle.passes.specs.Pass.{dataPass, segmentOf, offsetAfter, Configures, Passes}
 use Rattle.report.specs.Plan.{configuredWith}
 
 same : (x : Placed) (offset next : PdiOffset) (o : Outcome Planned) → placedOf x ≡ segmentOf o → next ≡ offsetAfter o offset → configuredOf (configuredWith x next) ≡ o
