@@ -17,7 +17,7 @@ use Rattle.uses.specs.Use.{own, given, firstWith, usesOf, total, totalOn, sizeO
 use Rattle.area.specs.Area.{chunks, flat}
 use Rattle.entries.specs.Entries.{plan, tooLong}
 use Rattle.wanted.specs.Wanted.{someTooMany, noEntry}
-use Rattle.subdevice.specs.Pass.{dataPass}
+use Rattle.passes.specs.Pass.{dataPass}
 use Rattle.translation.specs.Translate.{carries, odd, says, firstSaid, translate}
 use Rattle.counting.specs.Count.{spotIn, count}
 use Rattle.agreement.specs.Bench.{Row, benchCases}

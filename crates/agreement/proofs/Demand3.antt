@@ -26,7 +26,7 @@ use Rattle.uses.specs.Use.{Use, own, totalOn, sizeOf}
 use Rattle.area.specs.Area.{entriesOf, notEntries, notChannels}
 use Rattle.entries.specs.Entries.{plan, lengthNow, Planned, tooLong}
 use Rattle.wanted.specs.Wanted.{someTooMany, noEntry}
-use Rattle.subdevice.specs.Pass.{entriesAfter, segmentOf, Passes, passRefusals, plannedOf, dataPass}
+use Rattle.passes.specs.Pass.{entriesAfter, segmentOf, Passes, passRefusals, plannedOf, dataPass}
 use Rattle.translation.specs.Translate.{says, odd, firstSaid, orNone, translate}
 use Rattle.counting.specs.Count.{spotIn, deviceAlone, countRefusals, count}
 use Rattle.agreement.specs.Agreement.{AllBytes, EveryDisabled, Lent, weights, passOf, Accepted, TwoPasses, laidBy, counted, Demand3, Demand3InReach}

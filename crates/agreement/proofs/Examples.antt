@@ -26,7 +26,7 @@ use Rattle.uses.specs.Use.{own, given, firstWith, usesOf, total, totalOn, sizeO
 use Rattle.area.specs.Area.{chunks, entriesOf, flat}
 use Rattle.entries.specs.Entries.{mapped, plan, Planned, tooLong}
 use Rattle.wanted.specs.Wanted.{someTooMany, noEntry}
-use Rattle.subdevice.specs.Pass.{dataPass}
+use Rattle.passes.specs.Pass.{dataPass}
 use Rattle.translation.specs.Translate.{carries, odd, says, firstSaid, translate}
 use Rattle.counting.specs.Count.{spotIn, count}
 use Rattle.agreement.specs.Agreement.{EveryDisabled, Lent, weights, Accepted, TwoPasses, sharing, EndToEnd, laidBy, counted, Agree}

@@ -18,7 +18,7 @@ use Rattle.pdo.specs.declared.Oversampling.{Oversampling}
 use Rattle.pdo.specs.Bits.{multipliersOf, piecesOf}
 use Rattle.uses.specs.Use.{Use, own, usesOf}
 use Rattle.area.specs.Area.{entriesOf}
-use Rattle.subdevice.specs.Pass.{dataPass, entriesAfter}
+use Rattle.passes.specs.Pass.{dataPass, entriesAfter}
 use Rattle.entries.specs.Entries.{Planned}
 use Rattle.translation.specs.Translate.{translate}
 use Rattle.counting.specs.Count.{countedAddress}

@@ -12,7 +12,7 @@ use Rattle.sheet.specs.Sheet.{sheetData}
 use Rattle.pdo.specs.declared.PdoDirection.the-variants.{MasterRead}
 use Rattle.pdo.specs.Bits.{multipliersOf}
 use Rattle.area.specs.Area.{entriesOf}
-use Rattle.subdevice.specs.Pass.{dataPass, entriesAfter}
+use Rattle.passes.specs.Pass.{dataPass, entriesAfter}
 use Rattle.entries.specs.Entries.{Planned}
 
 -- a case: its number, what is computed, what the document says; answers as lists of numbers

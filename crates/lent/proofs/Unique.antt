@@ -10,8 +10,8 @@ use Rattle.pdi.specs.declared.PdiOffset.{PdiOffset}
 use Rattle.pdi.specs.declared.Placed.{Placed}
 use Rattle.pdo.specs.Bits.{multipliersOf}
 use Rattle.oversampling.proofs.Stated.{Saying, States}
-use Rattle.subdevice.specs.Pass.{Passes}
-use Rattle.subdevice.proofs.Unique.{passes-once}
+use Rattle.passes.specs.Pass.{Passes}
+use Rattle.passes.proofs.Once.{passes-once}
 use Rattle.lent.proofs.data_pass.configure_fmmus as configure-fmmus
 use Rattle.lent.proofs.data_pass.plan.Reads as plan
 use Rattle.counting.specs.Count as meaning

@@ -2,7 +2,7 @@
 ghost use lib.ListN.{take};
 ghost use Rattle.sheet.specs.Sheet.{sheetData};
 ghost use Rattle.pdo.specs.Bits.{multipliersOf};
-ghost use Rattle.subdevice.specs.Pass.{Passes};
+ghost use Rattle.passes.specs.Pass.{Passes};
 use entries::Place;
 use pdi::PdiOffset;
 use pdi::Placed;

@@ -13,7 +13,7 @@ use Rattle.pdi.specs.Segment.{placedOf}
 use Rattle.pdo.specs.declared.PdoDirection.{PdoDirection}
 use Rattle.entries.specs.declared.Configured.{Configured}
 use Rattle.entries.specs.Entries.{Planned, configuredOf}
-use Rattle.subdevice.specs.Pass.{dataPass, segmentOf, offsetAfter, Configures, Passes}
+use Rattle.passes.specs.Pass.{dataPass, segmentOf, offsetAfter, Configures, Passes}
 use Rattle.sheet.specs.Sheet.{pdoCount}
 use Rattle.oversampling.specs.Multipliers.{padded}
 use Rattle.oversampling.proofs.Made.{made-sheet}

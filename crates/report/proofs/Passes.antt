@@ -16,7 +16,7 @@ use Rattle.mailboxes.specs.declared.MailboxConfig.{MailboxConfig}
 use Rattle.mailboxes.specs.declared.MailboxRead.{MailboxRead}
 use Rattle.mailboxes.specs.declared.MailboxRead.the-variants as mailbox
 use Rattle.mailboxes.specs.Mailbox.{mailboxPass, mailboxArea, mailboxOf, ConfiguresMailboxes}
-use Rattle.subdevice.specs.Pass.{entriesAfter, channelAreaAfter, Configures}
+use Rattle.passes.specs.Pass.{entriesAfter, channelAreaAfter, Configures}
 use Rattle.lines.specs.Text.{refusedText, bayText}
 use Rattle.report.specs.declared.Plan.{Plan}
 use Rattle.report.specs.declared.Plan.the-variants as plan

@@ -28,7 +28,7 @@ use Rattle.entries.specs.Entries.{Planned, plan}
 use Rattle.entries.proofs.Kept.{plan-length, rows-plan}
 use Rattle.mailboxes.specs.declared.MailboxConfig.{MailboxConfig}
 use Rattle.mailboxes.specs.Mailbox.{mailboxPass, mailboxSize, mailboxChannels}
-use Rattle.subdevice.specs.Pass.{dataSize}
+use Rattle.passes.specs.Pass.{dataSize}
 use Rattle.lines.specs.Text.{line, inputsFront, outputsFront, channelLine, imageLine, enabledLine, lines, bayText}
 use Rattle.report.specs.Plan.{andThen, Areas, areas, Bay, once, pass, passLeaves, withOutputs, withInputs, mailboxLeaves, planBay, outcomeText, reportText, channelLineOf, plainText}
 

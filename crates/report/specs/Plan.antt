@@ -24,7 +24,7 @@ use Rattle.mailboxes.specs.Mailbox.{mailboxPass, mailboxArea}
 use Rattle.lines.specs.Text.{line, numbered, inputsFront, outputsFront, lines, enabledLine, refusedText, bayText}
 use Rattle.report.specs.declared.Plan.{Plan}
 use Rattle.report.specs.declared.Plan.the-variants.{Segments, Refused}
-use Rattle.subdevice.specs.Pass.{dataPass, entriesAfter, channelAreaAfter}
+use Rattle.passes.specs.Pass.{dataPass, entriesAfter, channelAreaAfter}
 
 -- what comes after an accepted answer; a refusal stays the answer
 abbrev pub andThen : {A B : Type 0} → Outcome A → (A → Outcome B) → Outcome B

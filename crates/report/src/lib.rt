@@ -2,7 +2,7 @@
 ghost use mathlib.Core.Path.{_≡_};
 ghost use Rattle.wire.specs.Room.{InRoom, textIn};
 ghost use Rattle.wire.specs.Text.{page, Types};
-ghost use Rattle.subdevice.specs.Pass.{Configures};
+ghost use Rattle.passes.specs.Pass.{Configures};
 ghost use Rattle.report.specs.Plan.{areas, once, configuredWith, planBay, bayOf, reportText};
 use entries::Configured;
 use entries::Place;

@@ -1,26 +1,9 @@
 -- The pass's contract leaves one answer, and one content of each area lent to it.
 -- Assumes nothing.
-use mathlib.Core.Path.{_≡_}
-use mathlib.Core.List.{List}
-use Prim.Native.Nat.{ℕ}
 use denote.Ref.{now}
-use Rattle.wire.proofs.Pins.{Pins, with-room, same, same-by}
-use Rattle.pdi.specs.declared.PdiOffset.{PdiOffset}
-use Rattle.pdi.specs.declared.Placed.{Placed}
-use Rattle.pdi.specs.Segment.{placedOf}
-use Rattle.pdi.proofs.Unique.{placed-back, placed-determined}
-use Rattle.pdo.specs.declared.PdoDirection.{PdoDirection}
-use Rattle.subdevice.specs.Pass.{Passes}
+use Rattle.wire.proofs.Pins.{Pins, with-room}
+use Rattle.passes.proofs.Once.{passes-once}
 use Rattle.subdevice.proofs.pass.Reads as pass
-
--- two promises of a pass: the same answer, the same offset, the same areas
-pub passes-once :
-    (sheet ws : List ℕ) (r : PdoDirection) (offset : PdiOffset) (group : ℕ) (fmmus channels : List ℕ) (x y : Placed) (o p : PdiOffset) (f g c d : List ℕ)
-    → Passes sheet ws r offset group fmmus channels x o f c → Passes sheet ws r offset group fmmus channels y p g d
-    → _≡_ {A = Placed × PdiOffset × List ℕ × List ℕ} (x, o, f, c) (y, p, g, d)
-passes-once sheet ws r offset group fmmus channels x y o p f g c d m n =
-    let a : x ≡ y = same-by placedOf placed-back placed-determined (m .says) (n .says) in
-    λ i. (a i, same (m .moves) (n .moves) i, same (m .entries) (n .entries) i, same (m .images) (n .images) i)
 
 pub pass-pins : Pins pass.Post (λ κs r s. with-room (with-room r (now (s .1 .1 .0))) (now (s .1 .1 .1 .0)))
 pass-pins κs a x y s t p q =

@@ -3,9 +3,10 @@ ghost use mathlib.Core.Path.{_≡_};
 ghost use lib.ListN.{length, take};
 ghost use Rattle.sheet.specs.Device.{dataOf};
 ghost use Rattle.sheet.specs.Sheet.{pdoCount};
-ghost use Rattle.subdevice.specs.Pass.{Plans, Configures, passedOf, Passes};
+ghost use Rattle.passes.specs.Pass.{Plans, Configures, passedOf, Passes};
 use entries::Configured;
 use entries::Place;
+pub use passes::Passed;
 use pdi::PdiOffset;
 use pdi::Placed;
 use pdo::PdoDirection;
@@ -75,12 +76,6 @@ fn plan_sheet(
         place,
         direction,
     )
-}
-
-// What a pass hands back: its segment or a refusal, and the offset as it then is.
-pub struct Passed {
-    pub answer: Placed,
-    pub next: PdiOffset,
 }
 
 fn passed_with(answer: Configured, offset: PdiOffset) -> Passed

@@ -7,7 +7,7 @@ use denote.Ref.{now}
 use lib.ListN.{take, replicate}
 use borrow.Author.Needs.{needs}
 use Rattle.sheet.specs.Sheet.{pdoCount}
-use Rattle.subdevice.specs.Pass.{Configures}
+use Rattle.passes.specs.Pass.{Configures}
 use Rattle.report.proofs.Handed.{passes-configures, once-each}
 use Rattle.report.proofs.data_pass.Statement.{statement}
 use Rattle.report.proofs.data_pass.Tie as tie

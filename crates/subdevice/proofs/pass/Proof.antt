@@ -3,7 +3,7 @@
 use mathlib.Core.Path.{sym}
 use denote.Ref.{now}
 use lib.Seq.{length-take-le}
-use Rattle.subdevice.proofs.Passing.{configures-passes}
+use Rattle.passes.proofs.Passing.{configures-passes}
 use borrow.Author.Needs.{needs}
 use Rattle.subdevice.proofs.pass.Statement.{statement}
 use Rattle.subdevice.proofs.pass.Tie as tie

@@ -2,7 +2,7 @@
 -- Assumes nothing.
 use denote.Ref.{now}
 use Rattle.sheet.specs.Device.{Data, dataOf}
-use Rattle.subdevice.proofs.Planning.{unwanted-plans, mapped-plans, refused-plans}
+use Rattle.passes.proofs.Planning.{unwanted-plans, mapped-plans, refused-plans}
 use borrow.Author.Needs.{needs}
 use Rattle.subdevice.proofs.plan_data.Statement.{statement}
 use Rattle.subdevice.proofs.plan_data.Tie as tie

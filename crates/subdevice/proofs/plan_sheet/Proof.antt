@@ -7,8 +7,8 @@ use Rattle.wire.specs.Outcome.{accepted}
 use Rattle.sheet.specs.Device.{dataOf}
 use Rattle.sheet.specs.Sheet.{answerOf, readSheet}
 use Rattle.sheet.specs.declared.Answer.{Answer}
-use Rattle.subdevice.specs.Pass.{notAreas}
-use Rattle.subdevice.proofs.Passing.{entries-wrong, channels-wrong, areas-right, one-configures, sheet-configures, plan-configures}
+use Rattle.passes.specs.Pass.{notAreas}
+use Rattle.passes.proofs.Passing.{entries-wrong, channels-wrong, areas-right, one-configures, sheet-configures, plan-configures}
 use borrow.Author.Needs.{needs}
 use Rattle.subdevice.proofs.plan_sheet.Statement.{statement}
 use Rattle.subdevice.proofs.plan_sheet.Tie as tie

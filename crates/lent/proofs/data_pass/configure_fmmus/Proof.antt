@@ -46,14 +46,14 @@ use denote.Exit.{yes}
 use Rattle.sheet.specs.Sheet.{sheetData, pdoCount}
 use Rattle.pdo.specs.Bits.{multipliersOf}
 use Rattle.oversampling.specs.Multipliers.{indexesFor, multipliersIn}
-use Rattle.subdevice.specs.Pass.{Passes}
+use Rattle.passes.specs.Pass.{Passes}
 use Rattle.pdi.specs.declared.PdiOffset.{PdiOffset}
 use Rattle.pdi.specs.declared.Placed.{Placed}
 use Rattle.pdo.specs.declared.Oversampling.{Oversampling}
 use Rattle.pdo.specs.declared.PdoDirection.{PdoDirection}
 use Rattle.oversampling.specs.declared.Indexes.{Indexes}
 use Rattle.entries.specs.declared.Place.{Place}
-use Rattle.subdevice.specs.declared.Passed.{Passed}
+use Rattle.passes.specs.declared.Passed.{Passed}
 use Rattle.oversampling.proofs.Made.{made-sheet}
 use Rattle.pdi.proofs.PdiOffset as T
 use Rattle.pdi.proofs.PdiOffset.Laws as T′
@@ -66,8 +66,8 @@ use Rattle.oversampling.proofs.Indexes as I
 use Rattle.oversampling.proofs.Indexes.Laws as I′
 use Rattle.entries.proofs.Place as P
 use Rattle.entries.proofs.Place.Laws as P′
-use Rattle.subdevice.proofs.Passed as S
-use Rattle.subdevice.proofs.Passed.Laws as S′
+use Rattle.passes.proofs.Passed as S
+use Rattle.passes.proofs.Passed.Laws as S′
 use Rattle.oversampling.proofs.indexes_in as indexes-in
 use Rattle.oversampling.proofs.indexes_in.Symbol as indexes-in-def
 use Rattle.oversampling.proofs.indexes_in.Symbol.{name as #indexes}

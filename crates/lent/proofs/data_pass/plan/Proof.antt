@@ -49,13 +49,13 @@ use denote.Exit.{yes}
 use borrow.Rule.Array.Share.{room-take}
 use Rattle.sheet.specs.Sheet.{sheetData}
 use Rattle.pdo.specs.Bits.{multipliersOf}
-use Rattle.subdevice.specs.Pass.{Passes}
+use Rattle.passes.specs.Pass.{Passes}
 use Rattle.pdi.specs.declared.PdiOffset.{PdiOffset}
 use Rattle.pdi.specs.declared.Placed.{Placed}
 use Rattle.pdo.specs.declared.Oversampling.{Oversampling}
 use Rattle.pdo.specs.declared.PdoDirection.{PdoDirection}
 use Rattle.entries.specs.declared.Place.{Place}
-use Rattle.subdevice.specs.declared.Passed.{Passed}
+use Rattle.passes.specs.declared.Passed.{Passed}
 use Rattle.pdi.proofs.PdiOffset as T
 use Rattle.pdi.proofs.PdiOffset.Laws as T′
 use Rattle.pdi.proofs.Placed as Q
@@ -66,8 +66,8 @@ use Rattle.pdo.proofs.PdoDirection as D
 use Rattle.pdo.proofs.PdoDirection.Laws as D′
 use Rattle.entries.proofs.Place as P
 use Rattle.entries.proofs.Place.Laws as P′
-use Rattle.subdevice.proofs.Passed as S
-use Rattle.subdevice.proofs.Passed.Laws as S′
+use Rattle.passes.proofs.Passed as S
+use Rattle.passes.proofs.Passed.Laws as S′
 use Rattle.wire.proofs.least as least
 use Rattle.wire.proofs.least.Symbol as least-def
 use Rattle.wire.proofs.least.Symbol.{name as #least}

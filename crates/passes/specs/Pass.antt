@@ -25,7 +25,7 @@ use Rattle.pdi.specs.declared.PdiSegment.{PdiSegment}
 use Rattle.pdi.specs.declared.Placed.{Placed}
 use Rattle.pdi.specs.declared.Placed.the-variants as placed
 use Rattle.pdi.specs.Segment.{placedOf}
-use Rattle.subdevice.specs.declared.Passed.{Passed}
+use Rattle.passes.specs.declared.Passed.{Passed}
 use Rattle.wanted.specs.Wanted.{someTooMany, noEntry}
 
 -- 1: an area isn't 256 (FMMU) or 128 (sync manager) bytes

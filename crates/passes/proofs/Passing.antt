@@ -16,8 +16,8 @@ use Rattle.entries.specs.declared.Configured.the-variants.{Mapped, Refused}
 use Rattle.entries.specs.Entries.{Planned, configuredOf}
 use Rattle.pdi.specs.declared.PdiOffset.{PdiOffset}
 use Rattle.pdi.specs.Segment.{placedOf}
-use Rattle.subdevice.specs.declared.Passed.{Passed}
-use Rattle.subdevice.specs.Pass.{notAreas, planOutcome, dataPass, entriesAfter, channelAreaAfter, segmentOf, offsetAfter, passedOf, Plans, Configures, Passes}
+use Rattle.passes.specs.declared.Passed.{Passed}
+use Rattle.passes.specs.Pass.{notAreas, planOutcome, dataPass, entriesAfter, channelAreaAfter, segmentOf, offsetAfter, passedOf, Plans, Configures, Passes}
 
 -- 1 holds if an area has another length, and not if both have theirs
 pub entries-wrong : (fmmus channels : List ℕ) → (length fmmus ≡ 256 → ⊥) → notAreas fmmus channels ≡ true

@@ -31,7 +31,7 @@ use Rattle.uses.proofs.Pieces.{uses-are, route-total}
 use Rattle.wanted.specs.declared.Wanted.{Wanted}
 use Rattle.wanted.specs.Wanted.{wantedRefusals, wishesOf, wantedFrom, Wants}
 use Rattle.wanted.proofs.Wanting.{wish-at, wanted-refused, wanted-accepted}
-use Rattle.subdevice.specs.Pass.{planOutcome, plannedOf, dataSize, entriesAfter, channelAreaAfter, Plans}
+use Rattle.passes.specs.Pass.{planOutcome, plannedOf, dataSize, entriesAfter, channelAreaAfter, Plans}
 
 -- a wish as a size
 wish-size : (b : Bool) (size : ℕ) → wishOf (cond b (record { on = true; size = record { 0 = size } }) noWish) ≡ cond b (some size) none
