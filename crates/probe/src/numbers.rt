@@ -38,6 +38,7 @@ fn up_to(start: PdiOffset, end: u32) -> Line {
         between.start as u64,
         between.end as u64,
         between.len() as u64,
+        say::END,
     )
 }
 
