@@ -157,35 +157,18 @@ pub fn refuse(number: u8) {
     first(&[REFUSED, number as u64]);
 }
 
-fn digit(x: u8) -> u8 {
-    let low = x % 16;
-    if low < 10 {
-        return b'0' + low;
-    }
-    b'a' + (low - 10)
-}
-
-fn hex_of(bytes: &[u8]) -> [u8; 1024] {
-    let mut text = [0u8; 1024];
-    let n = wire::least(bytes.len(), 512);
-    let mut i = 0;
-    while i < n {
-        let x = bytes[i];
-        text[2 * i] = digit(x / 16);
-        text[2 * i + 1] = digit(x);
-        i += 1;
-    }
-    text
-}
-
-// The next bytes of a line, at most 512; `-` where there are none.
+// The next bytes of a line; `-` where there are none.
 pub fn then_bytes(bytes: &[u8]) {
     if bytes.len() == 0 {
         text(b" -");
         return;
     }
     text(b" ");
-    text(parts::front(&hex_of(bytes), 2 * wire::least(bytes.len(), 512)));
+    let mut i = 0;
+    while i < bytes.len() {
+        put_item(byte(bytes[i]));
+        i += 1;
+    }
 }
 
 // The room lent for a text, between two bars.
