@@ -67,8 +67,8 @@ fn device(d: Device) {
     say::item(d.p as u64);
 }
 
-pub fn read(sheet: &[u8]) {
-    let read = sheet::read(sheet);
+pub fn read(request: &[u8]) {
+    let read = sheet::read(parts::sheet(request));
     let answer = read.answer;
     let d = read.device;
     match answer {

@@ -66,9 +66,9 @@ fn lines(letter: u8, request: &[u8], start: u32, times: u32) {
 // An answer that doesn't change with c is written once.
 fn answer(letter: u8, request: &[u8], c: u32, times: u32) {
     match letter {
-        b'R' => records::fmmu_read(parts::fmmus(request)),
-        b'Q' => records::channel_read(parts::channels(request)),
-        b'd' => bays::read(parts::sheet(request)),
+        b'R' => records::fmmu_read(request),
+        b'Q' => records::channel_read(request),
+        b'd' => bays::read(request),
         b'm' => bays::mailboxes(request),
         b'p' => bays::pass(request),
         b'B' => bays::again(request),

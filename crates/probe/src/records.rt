@@ -103,8 +103,8 @@ fn channel_of(bytes: &[u8]) -> SyncManagerChannel {
     }
 }
 
-pub fn fmmu_read(image: &[u8]) {
-    match Fmmu::unpack_from_slice(image) {
+pub fn fmmu_read(request: &[u8]) {
+    match Fmmu::unpack_from_slice(parts::fmmus(request)) {
         FmmuRead::Entry(f) => say::first(
             &[
                 f.logical_start_address as u64,
@@ -133,8 +133,8 @@ fn channel_fields(channel: SyncManagerChannel) {
     say::then(numbers::enable_items(enable), 6);
 }
 
-pub fn channel_read(image: &[u8]) {
-    match SyncManagerChannel::unpack_from_slice(image) {
+pub fn channel_read(request: &[u8]) {
+    match SyncManagerChannel::unpack_from_slice(parts::channels(request)) {
         ChannelRead::Channel(channel) => channel_fields(channel),
         ChannelRead::Refused(number) => say::refuse(number),
     }
