@@ -15,20 +15,17 @@ use pdo::PdoDirection;
 use sheet::Answer;
 use sheet::Device;
 use sheet::SyncManager;
-use subdevice::Passed;
 use translation::Reached;
 use translation::Translated;
 use wire::Written;
 
 // A sync manager of a sheet: address, control byte, ENABLE, usage.
-fn manager(m: SyncManager) -> [u64; 4] {
+fn manager(m: SyncManager) {
     let control = m.control;
-    [
-        m.start_addr as u64,
-        say::SLASH + say::HEX + (control.pack() as u64),
-        say::SLASH + (wire::bit_of(m.enable) as u64),
-        say::SLASH + (m.usage_type as u64),
-    ]
+    say::item(m.start_addr as u64);
+    say::item(say::SLASH + say::HEX + (control.pack() as u64));
+    say::item(say::SLASH + (wire::bit_of(m.enable) as u64));
+    say::item(say::SLASH + (m.usage_type as u64));
 }
 
 fn managers(list: [SyncManager; 16], n: usize) {
@@ -36,7 +33,7 @@ fn managers(list: [SyncManager; 16], n: usize) {
     let mut k = 0;
     while k < count {
         let m = list[k];
-        say::then(&manager(m));
+        manager(m);
         k += 1;
     }
 }
@@ -45,7 +42,7 @@ fn usages(list: [u8; 16], f: usize) {
     let count = wire::least(f, 16);
     let mut k = 0;
     while k < count {
-        say::then(&[list[k] as u64]);
+        say::item(list[k] as u64);
         k += 1;
     }
 }
@@ -53,24 +50,25 @@ fn usages(list: [u8; 16], f: usize) {
 fn device(d: Device) {
     let list = d.managers;
     let codes = d.usages;
-    say::first(
-        &[
-            d.has_mailbox as u64,
-            d.coe_protocol as u64,
-            d.complete_access as u64,
-            d.receive_size.0 as u64,
-            d.send_size.0 as u64,
-            say::MANAGERS,
-        ],
-    );
+    say::line([
+        d.has_mailbox as u64,
+        d.coe_protocol as u64,
+        d.complete_access as u64,
+        d.receive_size.0 as u64,
+        d.send_size.0 as u64,
+        say::MANAGERS,
+        say::END,
+        say::END,
+    ]);
     managers(list, d.n);
-    say::then(&[say::USAGES]);
+    say::item(say::USAGES);
     usages(codes, d.f);
-    say::then(&[say::PDOS, d.p as u64]);
+    say::item(say::PDOS);
+    say::item(d.p as u64);
 }
 
-pub fn read(sheet: &[u8]) {
-    let read = sheet::read(sheet);
+pub fn read(request: &[u8]) {
+    let read = sheet::read(parts::sheet(request));
     let answer = read.answer;
     let d = read.device;
     match answer {
@@ -82,24 +80,23 @@ pub fn read(sheet: &[u8]) {
 // A mailbox: address, size, sync manager.
 fn slot(slot: Slot) {
     match slot {
-        Slot::None => say::then(&[say::NONE]),
-        Slot::At(mailbox) => say::then(
-            &[
-                mailbox.address as u64,
-                say::SLASH + (mailbox.len.0 as u64),
-                say::SLASH + (mailbox.sync_manager as u64),
-            ],
-        ),
+        Slot::None => say::item(say::NONE),
+        Slot::At(mailbox) => {
+            say::item(mailbox.address as u64);
+            say::item(say::SLASH + (mailbox.len.0 as u64));
+            say::item(say::SLASH + (mailbox.sync_manager as u64));
+        }
     }
 }
 
 fn config(c: MailboxConfig) {
     let read = c.read;
     let write = c.write;
-    say::first(&[say::OK]);
+    say::put_item(say::OK);
     slot(read);
     slot(write);
-    say::then(&[c.has_coe as u64, c.complete_access as u64]);
+    say::item(c.has_coe as u64);
+    say::item(c.complete_access as u64);
 }
 
 fn recorded(answer: MailboxRead) {
@@ -117,19 +114,20 @@ pub fn mailboxes(request: &[u8]) {
     say::then_bytes(channels);
 }
 
-fn passed(done: Passed) {
-    let answer = done.answer;
-    let next = done.next.start_address as u64;
+fn passed(answer: Placed, next: u64) -> Line {
     match answer {
-        Placed::Segment(segment) => say::first(
-            &[say::OK, segment.start as u64, segment.end as u64, next],
+        Placed::Segment(segment) => say::row(
+            say::OK,
+            segment.start as u64,
+            segment.end as u64,
+            next,
         ),
-        Placed::Refused(number) => say::first(&[say::REFUSED, number as u64, next]),
+        Placed::Refused(number) => say::row(say::REFUSED, number as u64, next, say::END),
     }
 }
 
-fn data_pass(request: &[u8], fmmus: &mut [u8], channels: &mut [u8]) -> Passed {
-    lent::plan(
+fn data_pass(request: &[u8], fmmus: &mut [u8], channels: &mut [u8]) -> Line {
+    let done = lent::plan(
         parts::sheet(request),
         parts::table(request),
         parts::records(request),
@@ -140,7 +138,9 @@ fn data_pass(request: &[u8], fmmus: &mut [u8], channels: &mut [u8]) -> Passed {
             group: parts::number4(request, 8),
         },
         parts::direction(request),
-    )
+    );
+    let answer = done.answer;
+    passed(answer, done.next.start_address as u64)
 }
 
 // The data pass, over copies of both parts.
@@ -149,7 +149,7 @@ pub fn pass(request: &[u8]) {
     let mut images = [0u8; 512];
     let fmmus = parts::copied(parts::fmmus(request), &mut entries);
     let channels = parts::copied(parts::channels(request), &mut images);
-    passed(data_pass(request, fmmus, channels));
+    say::line(data_pass(request, fmmus, channels));
     say::then_bytes(fmmus);
     say::then_bytes(channels);
 }
@@ -182,6 +182,7 @@ pub fn counted(answer: Counted) -> Line {
                 position.sync_manager as u64,
                 position.byte as u64,
                 reached(device),
+                say::END,
             )
         }
         Counted::Refused(number) => say::refused(number),
@@ -224,7 +225,7 @@ pub fn agree(translated: Translated, counted: Counted) -> Line {
     if one == two {
         return say::one(say::SAME);
     }
-    say::row(say::DIFFER, one, two)
+    say::row(say::DIFFER, one, two, say::END)
 }
 
 // A text's length less the last line's end. Every report fits, so that none is refused.
@@ -249,89 +250,62 @@ pub fn plan(request: &[u8]) {
     say::text(parts::front(&text, without_end(answer)));
 }
 
-// What a whole plan answers: both segments, or the refusal of the first pass refused.
-enum Planned {
-    Nothing,
-    Segments(PdiSegment, PdiSegment),
-    Refused(u8),
-}
-
-// The output pass, from where the input pass ended.
-fn outputs_of(
-    sheet: &[u8],
-    table: [Oversampling; 256],
-    records: usize,
-    fmmus: &mut [u8],
-    channels: &mut [u8],
-    inputs: PdiSegment,
-    offset: PdiOffset,
-) -> Planned {
-    let place = Place { offset, group: 0 };
-    let done = lent::plan(
-        sheet,
-        table,
-        records,
-        fmmus,
-        channels,
-        place,
-        PdoDirection::MasterWrite,
-    );
-    let answer = done.answer;
-    match answer {
-        Placed::Segment(outputs) => Planned::Segments(inputs, outputs),
-        Placed::Refused(number) => Planned::Refused(number),
+// The output pass's answer, after the segment of the input pass.
+fn after(inputs: PdiSegment, outputs: Placed) -> Line {
+    match outputs {
+        Placed::Segment(second) => say::row(
+            inputs.start as u64,
+            inputs.end as u64,
+            second.start as u64,
+            second.end as u64,
+        ),
+        Placed::Refused(number) => say::refused(number),
     }
 }
 
-// Mailbox, input and output pass over areas of zeros, from offset 0 in group 0.
-fn plan_once(sheet: &[u8], table: [Oversampling; 256], records: usize) -> Planned {
+// What a whole plan answers: both segments, or the refusal of the first pass refused.
+fn both(inputs: Placed, outputs: Placed) -> Line {
+    match inputs {
+        Placed::Segment(first) => after(first, outputs),
+        Placed::Refused(number) => say::refused(number),
+    }
+}
+
+// Mailbox, input and output pass over areas of zeros, from offset 0 in group 0. Where the mailbox pass is refused the input
+// pass is too, with the same number, and writes nothing; so only the data passes' answers are looked at.
+fn plan_once(sheet: &[u8], table: [Oversampling; 256], records: usize) -> Line {
     let mut fmmus = [0u8; 256];
     let mut channels = [0u8; 128];
-    if let MailboxRead::Refused(number) = mailboxes::configure_mailboxes(sheet, &mut channels) {
-        return Planned::Refused(number);
-    }
-    let place = Place {
+    mailboxes::configure_mailboxes(sheet, &mut channels);
+    let start = Place {
         offset: PdiOffset { start_address: 0 },
         group: 0,
     };
-    let done = lent::plan(
+    let inputs = lent::plan(
         sheet,
         table,
         records,
         &mut fmmus,
         &mut channels,
-        place,
+        start,
         PdoDirection::MasterRead,
     );
-    let next = done.next;
-    let answer = done.answer;
-    match answer {
-        Placed::Segment(inputs) => outputs_of(
-            sheet,
-            table,
-            records,
-            &mut fmmus,
-            &mut channels,
-            inputs,
-            next,
-        ),
-        Placed::Refused(number) => Planned::Refused(number),
-    }
-}
-
-fn both(plan: Planned) {
-    match plan {
-        Planned::Nothing => say::first(&[say::NONE]),
-        Planned::Segments(inputs, outputs) => say::first(
-            &[
-                inputs.start as u64,
-                inputs.end as u64,
-                outputs.start as u64,
-                outputs.end as u64,
-            ],
-        ),
-        Planned::Refused(number) => say::refuse(number),
-    }
+    let next = inputs.next;
+    let outputs = lent::plan(
+        sheet,
+        table,
+        records,
+        &mut fmmus,
+        &mut channels,
+        Place {
+            offset: next,
+            group: 0,
+        },
+        PdoDirection::MasterWrite,
+    );
+    let first = inputs.answer;
+    let second = outputs.answer;
+    both(first, second)
 }
 
 // The same plan over and over, for whoever counts its cost.
@@ -339,11 +313,11 @@ pub fn again(request: &[u8]) {
     let sheet = parts::sheet(request);
     let table = parts::table(request);
     let records = parts::records(request);
-    let mut last = Planned::Nothing;
+    let mut last = say::one(say::NONE);
     let mut left = parts::number4(request, 4);
     while 0 < left {
         last = plan_once(sheet, table, records);
         left -= 1;
     }
-    both(last);
+    say::line(last);
 }

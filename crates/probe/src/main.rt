@@ -24,28 +24,6 @@ fn line_of(letter: u8, request: &[u8], c: u32) -> Line {
     }
 }
 
-// Whether an answer stays the same whatever c is.
-fn stays(letter: u8) -> bool {
-    match letter {
-        b's' | b'f' | b'W' | b'y' | b'Z' | b'R' | b'Q' | b'd' | b'm' | b'p' | b'B' | b'L' => true,
-        _ => false,
-    }
-}
-
-// Writes an answer that stays the same.
-fn answer(letter: u8, request: &[u8]) {
-    match letter {
-        b'R' => records::fmmu_read(parts::fmmus(request)),
-        b'Q' => records::channel_read(parts::channels(request)),
-        b'd' => bays::read(parts::sheet(request)),
-        b'm' => bays::mailboxes(request),
-        b'p' => bays::pass(request),
-        b'B' => bays::again(request),
-        b'L' => bays::plan(request),
-        _ => records::roomed(letter, request),
-    }
-}
-
 // What stands before an answer where several values of c are asked.
 fn begin(c: u32, times: u32) {
     if 1 < times {
@@ -54,45 +32,58 @@ fn begin(c: u32, times: u32) {
     }
 }
 
-fn show(line: Line, c: u32, times: u32) {
-    begin(c, times);
-    say::first(&line);
+// A further value's answer, on a line of its own, but where it is the one before.
+fn further(line: Line, before: Line, c: u32, times: u32) {
+    if say::same(line, before) {
+        return;
+    }
     say::text(b"\n");
+    begin(c, times);
+    say::line(line);
 }
 
-// Answers for one value of c after another, but where the answer is the one before.
+// Answers for one value of c after another.
 fn lines(letter: u8, request: &[u8], start: u32, times: u32) {
-    let mut before = say::EMPTY;
+    let mut before = line_of(letter, request, start);
+    say::line(before);
     let mut left = times;
     let mut c = start;
     loop {
-        let line = line_of(letter, request, c);
-        if !say::same(line, before) {
-            show(line, c, times);
-        }
         if left < 2 {
             return;
         }
         if 0xffff_fffe < c {
             return;
         }
-        before = line;
         c += 1;
         left -= 1;
+        let line = line_of(letter, request, c);
+        further(line, before, c, times);
+        before = line;
+    }
+}
+
+// An answer that doesn't change with c is written once.
+fn answer(letter: u8, request: &[u8], c: u32, times: u32) {
+    match letter {
+        b'R' => records::fmmu_read(request),
+        b'Q' => records::channel_read(request),
+        b'd' => bays::read(request),
+        b'm' => bays::mailboxes(request),
+        b'p' => bays::pass(request),
+        b'B' => bays::again(request),
+        b'L' => bays::plan(request),
+        b's' | b'f' | b'W' | b'y' | b'Z' => records::roomed(letter, request),
+        _ => lines(letter, request, c, times),
     }
 }
 
 fn respond(request: &[u8]) {
-    let letter = parts::byte_at(request, 0);
     let c = parts::number4(request, 12);
     let times = parts::number4(request, 16);
-    if stays(letter) {
-        begin(c, times);
-        answer(letter, request);
-        say::text(b"\n");
-    } else {
-        lines(letter, request, c, times);
-    }
+    begin(c, times);
+    answer(parts::byte_at(request, 0), request, c, times);
+    say::text(b"\n");
 }
 
 // Whether there is room for what is asked.

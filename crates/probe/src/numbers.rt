@@ -18,8 +18,8 @@ fn joined(high: u32, low: u32) -> u64 {
     (high as u64) * 0x1_0000_0000 + (low as u64)
 }
 
-fn rounded(answer: Rounded) -> Line {
-    match answer {
+fn rounded(bits: u64) -> Line {
+    match BitLen(bits).round_up() {
         Rounded::Bytes(bytes) => say::one(bytes.0 as u64),
         Rounded::Refused(number) => say::refused(number),
     }
@@ -32,17 +32,34 @@ fn moved(answer: Moved) -> Line {
     }
 }
 
-fn up_to(start: PdiOffset, end: u32) -> Line {
-    let between = start.up_to(PdiOffset { start_address: end });
+fn increment(start: u32, bytes: u32) -> Line {
+    let offset = PdiOffset {
+        start_address: start,
+    };
+    moved(offset.increment(ByteLen((bytes % 65536) as u16)))
+}
+
+fn increment_byte_aligned(start: u32, bits: u64) -> Line {
+    let offset = PdiOffset {
+        start_address: start,
+    };
+    moved(offset.increment_byte_aligned(BitLen(bits)))
+}
+
+fn up_to(start: u32, end: u32) -> Line {
+    let between = (PdiOffset {
+        start_address: start,
+    }).up_to(PdiOffset { start_address: end });
     say::row(
         between.start as u64,
         between.end as u64,
         between.len() as u64,
+        say::END,
     )
 }
 
-fn less(answer: Placed) -> Line {
-    match answer {
+fn less(start: u32, end: u32, group: u32) -> Line {
+    match (PdiSegment { start, end }).less(group) {
         Placed::Segment(counted) => say::two(counted.start as u64, counted.end as u64),
         Placed::Refused(number) => say::refused(number),
     }
@@ -92,25 +109,23 @@ pub fn enable_items(enable: Enable) -> Line {
     ]
 }
 
-fn control(answer: ControlRead) -> Line {
-    match answer {
+fn control(byte: u8) -> Line {
+    match Control::unpack(byte) {
         ControlRead::Named(read) => control_items(read),
         ControlRead::Refused(number) => say::refused(number),
     }
 }
 
 pub fn answer(letter: u8, a: u32, b: u32, c: u32) -> Line {
-    let start = PdiOffset { start_address: a };
-    let byte = (c % 256) as u8;
     match letter {
-        b'r' => rounded(BitLen(joined(a, c)).round_up()),
-        b'i' => moved(start.increment(ByteLen((c % 65536) as u16))),
-        b'b' => moved(start.increment_byte_aligned(BitLen(joined(b, c)))),
-        b'u' => up_to(start, c),
-        b'g' => less((PdiSegment { start: a, end: b }).less(c)),
-        b'k' => control(Control::unpack(byte)),
-        b'j' => status_items(Status::unpack(byte)),
-        b'e' => enable_items(Enable::unpack(byte, (c / 256 % 256) as u8)),
+        b'r' => rounded(joined(a, c)),
+        b'i' => increment(a, c),
+        b'b' => increment_byte_aligned(a, joined(b, c)),
+        b'u' => up_to(a, c),
+        b'g' => less(a, b, c),
+        b'k' => control((c % 256) as u8),
+        b'j' => status_items(Status::unpack((c % 256) as u8)),
+        b'e' => enable_items(Enable::unpack((c % 256) as u8, (c / 256 % 256) as u8)),
         _ => say::one(say::UNKNOWN),
     }
 }

@@ -92,6 +92,13 @@ pub fn records(request: &[u8]) -> usize {
     number2(request, 22) as usize
 }
 
+fn record(bytes: &[u8]) -> Oversampling {
+    Oversampling {
+        pdo_index: number2(bytes, 0),
+        multiplier: byte_at(bytes, 2),
+    }
+}
+
 // The table's records, of which as many as `records` says are the request's.
 pub fn table(request: &[u8]) -> [Oversampling; 256] {
     let mut table = [Oversampling {
@@ -102,11 +109,7 @@ pub fn table(request: &[u8]) -> [Oversampling; 256] {
     let count = wire::least(records(request), 256);
     let mut k = 0;
     while k < count {
-        let at = from + 3 * k;
-        table[k] = Oversampling {
-            pdo_index: wire::be16(byte_at(request, at), byte_at(request, at + 1)),
-            multiplier: byte_at(request, at + 2),
-        };
+        table[k] = record(part(request, from + 3 * k, 3));
         k += 1;
     }
     table

@@ -103,8 +103,8 @@ fn channel_of(bytes: &[u8]) -> SyncManagerChannel {
     }
 }
 
-pub fn fmmu_read(image: &[u8]) {
-    match Fmmu::unpack_from_slice(image) {
+pub fn fmmu_read(request: &[u8]) {
+    match Fmmu::unpack_from_slice(parts::fmmus(request)) {
         FmmuRead::Entry(f) => say::first(
             &[
                 f.logical_start_address as u64,
@@ -126,19 +126,15 @@ fn channel_fields(channel: SyncManagerChannel) {
     let control = channel.control;
     let status = channel.status;
     let enable = channel.enable;
-    say::first(
-        &[
-            channel.physical_start_address as u64,
-            channel.length_bytes.0 as u64,
-        ],
-    );
-    say::put(&numbers::control_items(control), 5, true);
-    say::put(&numbers::status_items(status), 6, true);
-    say::put(&numbers::enable_items(enable), 6, true);
+    say::put_item(channel.physical_start_address as u64);
+    say::item(channel.length_bytes.0 as u64);
+    say::then(numbers::control_items(control), 5);
+    say::then(numbers::status_items(status), 6);
+    say::then(numbers::enable_items(enable), 6);
 }
 
-pub fn channel_read(image: &[u8]) {
-    match SyncManagerChannel::unpack_from_slice(image) {
+pub fn channel_read(request: &[u8]) {
+    match SyncManagerChannel::unpack_from_slice(parts::channels(request)) {
         ChannelRead::Channel(channel) => channel_fields(channel),
         ChannelRead::Refused(number) => say::refuse(number),
     }
@@ -170,7 +166,7 @@ fn written(answer: Written, image: bool) -> Line {
 
 // What writing into the room answers, and the room.
 fn tell(answer: Written, image: bool, room: &[u8]) {
-    say::first(&written(answer, image));
+    say::line(written(answer, image));
     if image {
         say::then_bytes(room);
     } else {

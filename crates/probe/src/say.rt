@@ -44,18 +44,16 @@ pub const END: u64 = 0x10_0000_0000;
 // An answer that can change with c, so that two can be compared.
 pub type Line = [u64; 8];
 
-pub const EMPTY: Line = [END; 8];
-
-pub fn row(a: u64, b: u64, c: u64) -> Line {
-    [a, b, c, END, END, END, END, END]
+pub fn row(a: u64, b: u64, c: u64, d: u64) -> Line {
+    [a, b, c, d, END, END, END, END]
 }
 
 pub fn one(item: u64) -> Line {
-    row(item, END, END)
+    row(item, END, END, END)
 }
 
 pub fn two(a: u64, b: u64) -> Line {
-    row(a, b, END)
+    row(a, b, END, END)
 }
 
 pub fn refused(number: u8) -> Line {
@@ -105,7 +103,8 @@ fn word(item: u64) {
     text(parts::part(rows, 8 * row, (item % 32) as usize));
 }
 
-fn put_item(item: u64) {
+// The first item of a line.
+pub fn put_item(item: u64) {
     if item < HEX {
         io::print_decimal(STDOUT_FILENO, item % KIND);
     } else if item < WORD {
@@ -115,8 +114,14 @@ fn put_item(item: u64) {
     }
 }
 
+// One item more of a line.
+pub fn item(item: u64) {
+    lead(item / KIND % 4);
+    put_item(item);
+}
+
 // The first `count` items of a list; nothing stands before the first, unless the line has begun.
-pub fn put(list: &[u64], count: usize, begun: bool) {
+fn put(list: &[u64], count: usize, begun: bool) {
     let n = wire::least(count, list.len());
     let mut inside = begun;
     let mut k = 0;
@@ -138,43 +143,32 @@ pub fn first(list: &[u64]) {
     put(list, list.len(), false);
 }
 
-pub fn then(list: &[u64]) {
-    put(list, list.len(), true);
+// By value, as a caller that lends an array is dear to prove.
+pub fn line(line: Line) {
+    first(&line);
+}
+
+// The first items of a line, after what stands before them.
+pub fn then(line: Line, count: usize) {
+    put(&line, count, true);
 }
 
 pub fn refuse(number: u8) {
     first(&[REFUSED, number as u64]);
 }
 
-fn digit(x: u8) -> u8 {
-    let low = x % 16;
-    if low < 10 {
-        return b'0' + low;
+// The next bytes of a line; `-` where there are none.
+pub fn then_bytes(bytes: &[u8]) {
+    if bytes.len() == 0 {
+        text(b" -");
+        return;
     }
-    b'a' + (low - 10)
-}
-
-fn hex_of(bytes: &[u8]) -> [u8; 1024] {
-    let mut text = [0u8; 1024];
-    let n = wire::least(bytes.len(), 512);
+    text(b" ");
     let mut i = 0;
-    while i < n {
-        let x = bytes[i];
-        text[2 * i] = digit(x / 16);
-        text[2 * i + 1] = digit(x);
+    while i < bytes.len() {
+        put_item(byte(bytes[i]));
         i += 1;
     }
-    text
-}
-
-// The next bytes of a line, at most 512; `-` where there are none.
-pub fn then_bytes(bytes: &[u8]) {
-    let n = wire::least(bytes.len(), 512);
-    text(b" ");
-    if n == 0 {
-        text(b"-");
-    }
-    text(parts::front(&hex_of(bytes), 2 * n));
 }
 
 // The room lent for a text, between two bars.

@@ -11,17 +11,14 @@ Inv-loop letter request start times before₀ left₀ c₀ before left c = Unit 
 abbrev μ-loop : tie.MeasureT-loop
 μ-loop letter request start times before₀ left₀ c₀ before left c = left
 
-loop-holds : tie.Need-loop-holds Inv-loop μ-loop
-loop-holds c = tt
-
 line-of-requires : tie.Need-line-of-requires Inv-loop μ-loop
 line-of-requires c κs = search needs
 
-same-requires : tie.Need-same-requires Inv-loop μ-loop
-same-requires c κs = search needs
+line-requires : tie.Need-line-requires Inv-loop μ-loop
+line-requires c κs = search needs
 
-show-requires : tie.Need-show-requires Inv-loop μ-loop
-show-requires c κs = search needs
+loop-holds : tie.Need-loop-holds Inv-loop μ-loop
+loop-holds c = tt
 
 returns : tie.Need-returns Inv-loop μ-loop
 returns c = tt
@@ -35,6 +32,12 @@ add-c c = omega arith
 sub-left : tie.Need-sub-left Inv-loop μ-loop
 sub-left c = omega arith
 
+line-of-requires-2 : tie.Need-line-of-requires-2 Inv-loop μ-loop
+line-of-requires-2 c κs = search needs
+
+further-requires : tie.Need-further-requires Inv-loop μ-loop
+further-requires c κs = search needs
+
 loop-less : tie.Need-loop-less Inv-loop μ-loop
 loop-less c = omega arith
 
@@ -47,13 +50,14 @@ lines-spec =
     (tie.spec
     Inv-loop
     μ-loop
-    loop-holds
     line-of-requires
-    same-requires
-    show-requires
+    line-requires
+    loop-holds
     returns
     returns-2
     add-c
     sub-left
+    line-of-requires-2
+    further-requires
     loop-less
     loop-again)

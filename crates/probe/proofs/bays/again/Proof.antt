@@ -20,6 +20,9 @@ table-requires c κs = search needs
 records-requires : tie.Need-records-requires Inv-loop μ-loop
 records-requires c κs = search needs
 
+one-requires : tie.Need-one-requires Inv-loop μ-loop
+one-requires c κs = search needs
+
 number4-requires : tie.Need-number4-requires Inv-loop μ-loop
 number4-requires c κs = search needs
 
@@ -38,8 +41,8 @@ loop-less c = omega arith
 loop-again : tie.Need-loop-again Inv-loop μ-loop
 loop-again c = tt
 
-both-requires : tie.Need-both-requires Inv-loop μ-loop
-both-requires c κs = search needs
+line-requires : tie.Need-line-requires Inv-loop μ-loop
+line-requires c κs = search needs
 
 returns : tie.Need-returns Inv-loop μ-loop
 returns c = tt
@@ -53,11 +56,12 @@ again-spec =
     sheet-requires
     table-requires
     records-requires
+    one-requires
     number4-requires
     loop-holds
     plan-once-requires
     sub-left
     loop-less
     loop-again
-    both-requires
+    line-requires
     returns)

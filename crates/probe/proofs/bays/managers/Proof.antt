@@ -28,12 +28,6 @@ array-copy-out-m c = omega arith
 manager-requires : tie.Need-manager-requires Inv-loop μ-loop
 manager-requires c κs = search needs
 
-slice-aggregate-then : tie.Need-slice-aggregate-then Inv-loop μ-loop
-slice-aggregate-then c = search needs
-
-then-requires : tie.Need-then-requires Inv-loop μ-loop
-then-requires c κs = search needs
-
 add-k : tie.Need-add-k Inv-loop μ-loop
 add-k c = omega arith
 
@@ -57,8 +51,6 @@ managers-spec =
     mul-m
     array-copy-out-m
     manager-requires
-    slice-aggregate-then
-    then-requires
     add-k
     loop-less
     loop-again

@@ -19,17 +19,14 @@ least-requires c κs = search needs
 loop-holds : tie.Need-loop-holds Inv-loop μ-loop
 loop-holds c = (omega arith, omega (arith, c .least .ensures, min-le-right (c .before .args .f) 16), search needs)
 
-array-read-t11 : tie.Need-array-read-t11 Inv-loop μ-loop
-array-read-t11 c = omega arith
+array-read-item : tie.Need-array-read-item Inv-loop μ-loop
+array-read-item c = omega arith
 
-cast-t12 : tie.Need-cast-t12 Inv-loop μ-loop
-cast-t12 c = search needs
+cast-item : tie.Need-cast-item Inv-loop μ-loop
+cast-item c = search needs
 
-slice-aggregate-then : tie.Need-slice-aggregate-then Inv-loop μ-loop
-slice-aggregate-then c = search needs
-
-then-requires : tie.Need-then-requires Inv-loop μ-loop
-then-requires c κs = search needs
+item-requires : tie.Need-item-requires Inv-loop μ-loop
+item-requires c κs = search needs
 
 add-k : tie.Need-add-k Inv-loop μ-loop
 add-k c = omega arith
@@ -51,10 +48,9 @@ usages-spec =
     μ-loop
     least-requires
     loop-holds
-    array-read-t11
-    cast-t12
-    slice-aggregate-then
-    then-requires
+    array-read-item
+    cast-item
+    item-requires
     add-k
     loop-less
     loop-again

@@ -31,29 +31,17 @@ least-requires c κs = search needs
 loop-holds : tie.Need-loop-holds Inv-loop μ-loop
 loop-holds c = (omega arith, omega (arith, c .least .ensures, min-le-right (c .before .records .result) 256), omega arith, search needs)
 
-mul-at : tie.Need-mul-at Inv-loop μ-loop
-mul-at c = omega arith
+mul-part : tie.Need-mul-part Inv-loop μ-loop
+mul-part c = omega arith
 
-add-at : tie.Need-add-at Inv-loop μ-loop
-add-at c = omega arith
+add-part : tie.Need-add-part Inv-loop μ-loop
+add-part c = omega arith
 
-byte-at-requires : tie.Need-byte-at-requires Inv-loop μ-loop
-byte-at-requires c κs = search needs
+part-requires : tie.Need-part-requires Inv-loop μ-loop
+part-requires c κs = search needs
 
-add-byte-at : tie.Need-add-byte-at Inv-loop μ-loop
-add-byte-at c = omega arith
-
-byte-at-requires-2 : tie.Need-byte-at-requires-2 Inv-loop μ-loop
-byte-at-requires-2 c κs = search needs
-
-be16-requires : tie.Need-be16-requires Inv-loop μ-loop
-be16-requires c κs = search needs
-
-add-byte-at-2 : tie.Need-add-byte-at-2 Inv-loop μ-loop
-add-byte-at-2 c = omega arith
-
-byte-at-requires-3 : tie.Need-byte-at-requires-3 Inv-loop μ-loop
-byte-at-requires-3 c κs = search needs
+record-requires : tie.Need-record-requires Inv-loop μ-loop
+record-requires c κs = search needs
 
 mul-table : tie.Need-mul-table Inv-loop μ-loop
 mul-table c = omega arith
@@ -85,14 +73,10 @@ table-spec =
     records-requires
     least-requires
     loop-holds
-    mul-at
-    add-at
-    byte-at-requires
-    add-byte-at
-    byte-at-requires-2
-    be16-requires
-    add-byte-at-2
-    byte-at-requires-3
+    mul-part
+    add-part
+    part-requires
+    record-requires
     mul-table
     array-set-from-table
     add-k
