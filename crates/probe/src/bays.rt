@@ -276,7 +276,9 @@ fn both(inputs: Placed, outputs: Placed) -> Line {
 fn plan_once(sheet: &[u8], table: [Oversampling; 256], records: usize) -> Line {
     let mut fmmus = [0u8; 256];
     let mut channels = [0u8; 128];
-    mailboxes::configure_mailboxes(sheet, &mut channels);
+    if let MailboxRead::Refused(number) = mailboxes::configure_mailboxes(sheet, &mut channels) {
+        return say::refused(number);
+    }
     let start = Place {
         offset: PdiOffset { start_address: 0 },
         group: 0,
@@ -290,20 +292,20 @@ fn plan_once(sheet: &[u8], table: [Oversampling; 256], records: usize) -> Line {
         start,
         PdoDirection::MasterRead,
     );
-    let next = inputs.next;
+    let first = inputs.answer;
+    if let Placed::Refused(number) = first {
+        return say::refused(number);
+    }
+    let offset = inputs.next;
     let outputs = lent::plan(
         sheet,
         table,
         records,
         &mut fmmus,
         &mut channels,
-        Place {
-            offset: next,
-            group: 0,
-        },
+        Place { offset, group: 0 },
         PdoDirection::MasterWrite,
     );
-    let first = inputs.answer;
     let second = outputs.answer;
     both(first, second)
 }
