@@ -13,8 +13,8 @@ use borrow.Author.Tests.{ltb-true, ltb-false, le-leb, eq-eqb}
 use Rattle.wire.specs.Outcome.{accepted}
 use Rattle.sheet.specs.Sound.{Each}
 use Rattle.sheet.specs.Sheet.{sheetData}
-use Rattle.pdo.specs.declared.PdoDirection.{PdoDirection}
-use Rattle.pdo.specs.Direction.{other}
+use Rattle.direction.specs.declared.PdoDirection.{PdoDirection}
+use Rattle.direction.specs.Direction.{other}
 use Rattle.uses.specs.Use.{Use, total, sizeOf}
 use Rattle.area.specs.Area.{entriesOf, flat}
 use Rattle.entries.specs.Entries.{plan}

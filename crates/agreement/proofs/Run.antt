@@ -13,8 +13,8 @@ use lib.Seq.{getD-set-same, getD-set-other, map-set-same}
 use borrow.Author.Tests.{ltb-true, ltb-false, eq-eqb, ne-eqb}
 use Rattle.fmmu.specs.Image.{fieldsOf, imageOf}
 use Rattle.sheet.specs.Sound.{Each}
-use Rattle.pdo.specs.declared.PdoDirection.{PdoDirection}
-use Rattle.pdo.specs.Direction.{other}
+use Rattle.direction.specs.declared.PdoDirection.{PdoDirection}
+use Rattle.direction.specs.Direction.{other}
 use Rattle.pdo.specs.Bits.{someOf}
 use Rattle.uses.specs.Use.{Use, total, totalOn}
 use Rattle.entries.specs.Entries.{laid, plan, lengthNow}

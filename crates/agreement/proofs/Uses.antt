@@ -15,9 +15,9 @@ use Rattle.pdi.specs.Unit.{bytesOf}
 use Rattle.sheet.specs.declared.SyncManager.{SyncManager}
 use Rattle.sheet.specs.Device.{Data}
 use Rattle.sheet.specs.Sound.{Each}
-use Rattle.pdo.specs.declared.PdoDirection.{PdoDirection}
-use Rattle.pdo.specs.declared.PdoDirection.the-variants.{MasterRead, MasterWrite}
-use Rattle.pdo.specs.Direction.{usageOf, fmmuUsageOf, other}
+use Rattle.direction.specs.declared.PdoDirection.{PdoDirection}
+use Rattle.direction.specs.declared.PdoDirection.the-variants.{MasterRead, MasterWrite}
+use Rattle.direction.specs.Direction.{usageOf, fmmuUsageOf, other}
 use Rattle.pdo.specs.Bits.{someOf, Piece, byCoe, pathKind, bitsOf, piecesFrom, piecesOf}
 use Rattle.uses.specs.Use.{Use, useOf, own, given, firstWith, coeEntry, usesOf, total, sizeOf}
 use Rattle.wanted.specs.Wanted.{noEntry}

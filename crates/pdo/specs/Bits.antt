@@ -11,8 +11,8 @@ use Rattle.grammar.specs.Lists.{listOf}
 use Rattle.sheet.specs.Sound.{sum}
 use Rattle.sheet.specs.declared.SyncManager.{SyncManager}
 use Rattle.pdo.specs.declared.Oversampling.{Oversampling}
-use Rattle.pdo.specs.declared.PdoDirection.{PdoDirection}
-use Rattle.pdo.specs.Direction.{usageOf, kindOf}
+use Rattle.direction.specs.declared.PdoDirection.{PdoDirection}
+use Rattle.direction.specs.Direction.{usageOf, kindOf}
 
 -- some element has it
 abbrev pub someOf : {A : Type 0} → (A → Bool) → List A → Bool

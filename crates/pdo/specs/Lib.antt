@@ -1,3 +1,2 @@
--- Directions, and the exact bits of each sync manager.
-pub mod Direction
+-- The exact bits of each sync manager.
 pub mod Bits

@@ -1,48 +1,16 @@
-// Directions, whether CoE is on, and the exact bits of each sync manager, summed in one walk over the PDO records.
+// Whether CoE is on, and the exact bits of each sync manager, summed in one walk over the PDO records.
 ghost use mathlib.Core.Path.{_≡_};
 ghost use Prim.Native.Nat.{_+_, _≤_};
 ghost use lib.ListN.{length, getD, take};
 ghost use Rattle.grammar.specs.Lists.{listOf};
 ghost use Rattle.sheet.specs.Sound.{sum};
 ghost use Rattle.sheet.specs.Device.{pdoAt, pdosFrom};
-ghost use Rattle.pdo.specs.Direction.{termsOf};
 ghost use Rattle.pdo.specs.Bits.{someUsage, coeOn, partOf, sumsOf};
+pub use direction::PdoDirection;
+pub use direction::Terms;
 use pdi::BitLen;
 use sheet::Device;
 use sheet::SyncManager;
-
-// Which way process data goes.
-pub enum PdoDirection {
-    MasterRead,
-    MasterWrite,
-}
-
-// What a direction takes: the usage of its sync managers, of its FMMU entry, and its kind of EEPROM PDO.
-pub struct Terms {
-    pub usage: u8,
-    pub fmmu_usage: u8,
-    pub kind: u8,
-}
-
-impl PdoDirection {
-    // What this direction takes.
-    pub fn filter_terms(self) -> Terms
-        ensures { λ r. ⌜ r ≡ termsOf self ⌝ }
-    {
-        match self {
-            PdoDirection::MasterRead => Terms {
-                usage: 4,
-                fmmu_usage: 2,
-                kind: 1,
-            },
-            PdoDirection::MasterWrite => Terms {
-                usage: 3,
-                fmmu_usage: 1,
-                kind: 2,
-            },
-        }
-    }
-}
 
 // An oversampling record: a PDO index, and how many times its bits count.
 pub struct Oversampling {

@@ -20,7 +20,7 @@ use Rattle.sheet.specs.Sheet.{sheetData, managerCount}
 use Rattle.sheet.specs.declared.SyncManager.{SyncManager}
 use Rattle.area.specs.Area.{chunks, entriesOf, flat}
 use Rattle.area.proofs.Flat.{length-chunks, rows-chunks, chunks-flat, flat-bytes, area-whole}
-use Rattle.pdo.specs.declared.PdoDirection.{PdoDirection}
+use Rattle.direction.specs.declared.PdoDirection.{PdoDirection}
 use Rattle.channels.specs.Channels.{channelFor, written, channelsAfter}
 use Rattle.channels.proofs.After.{channels-kept}
 use Rattle.uses.specs.Use.{usesOf}

@@ -13,8 +13,8 @@ use Rattle.sheet.specs.declared.Answer.the-variants.{Accepted, Refused}
 use Rattle.sheet.specs.declared.SyncManager.{SyncManager}
 use Rattle.channels.specs.declared.Wish.{Wish}
 use Rattle.channels.specs.Channels.{noWish, filled}
-use Rattle.pdo.specs.declared.PdoDirection.{PdoDirection}
-use Rattle.pdo.specs.Direction.{usageOf}
+use Rattle.direction.specs.declared.PdoDirection.{PdoDirection}
+use Rattle.direction.specs.Direction.{usageOf}
 use Rattle.pdo.specs.Bits.{someOf, Piece, byCoe, pathKind, bitsOf, piecesOf}
 use Rattle.uses.specs.Use.{coeEntry}
 use Rattle.wanted.specs.declared.Wanted.{Wanted}

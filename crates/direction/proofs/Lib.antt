@@ -1,0 +1,2 @@
+-- The one law that belongs to no function.
+pub mod Unique

@@ -1,0 +1,2 @@
+-- What a direction takes.
+pub mod Direction
