@@ -1,3 +1,5 @@
+-- `bays::managers`: a turn writes one sync manager; what is left of the count falls.
+-- Assumes nothing.
 use Prim.Native.Nat.{_-_, _≤_}
 use native.Mathlib.Nat.{min-le-right}
 use mathlib.Core.Path.{_≡_}

@@ -1,3 +1,5 @@
+-- `bays::usages`: a turn writes one usage; what is left of the count falls.
+-- Assumes nothing.
 use Prim.Native.Nat.{_-_, _≤_}
 use native.Mathlib.Nat.{min-le-right}
 use mathlib.Core.Path.{_≡_}

@@ -1,3 +1,5 @@
+-- `parts::front_mut`: the front of a buffer lies within it.
+-- Assumes nothing.
 use mathlib.Core.Path.{sym}
 use lib.Seq.{length-take-le}
 use borrow.Author.Needs.{needs}

@@ -1,3 +1,5 @@
+-- `parts::table`: a turn reads one record; at most 256 are read.
+-- Assumes nothing.
 use Prim.Native.Nat.{_-_, _≤_}
 use native.Mathlib.Nat.{min-le-right}
 use mathlib.Core.Path.{_≡_}

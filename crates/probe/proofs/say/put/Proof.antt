@@ -1,3 +1,5 @@
+-- `say::put`: a turn writes one item; what is left of the count falls.
+-- Assumes nothing.
 use denote.Ref.{now}
 use Prim.Native.Nat.{_-_, _≤_}
 use native.Mathlib.Nat.{min-le-right}

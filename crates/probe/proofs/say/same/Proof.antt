@@ -1,3 +1,5 @@
+-- `say::same`: a turn compares one item; what is left falls.
+-- Assumes nothing.
 use Prim.Native.Nat.{_-_, _≤_}
 use mathlib.Core.Path.{_≡_}
 use lib.ListN.{length}
