@@ -98,7 +98,10 @@ EEPROM = [
     Row("1 KiB, EEPROM", eeprom(142)),
     Row("255 PDOs, EEPROM", eeprom(255)),
     Row("largest of EEPROM PDOs alone", eeprom(255, 16, (0,) * 16)),
-    Row("16 KiB, EEPROM, of CoE PDOs", sheet(NO_MAILBOX, managers(4), (1,), coe_pdos(MANY, 16 * KIB - 30 - 5 * MANY))),
+    *(
+        Row(f"{kib} KiB, EEPROM, of CoE PDOs", sheet(NO_MAILBOX, managers(4), (1,), coe_pdos(MANY, kib * KIB - 30 - 5 * MANY)))
+        for kib in (4, 16)
+    ),
 ]
 TABLES = [
     Row("table of 0", ONE_INDEX),
