@@ -4,7 +4,7 @@ use mathlib.Core.Path.{_≡_, sym, _∙_, ap}
 use mathlib.Core.List.{List}
 use Prim.Native.Nat.{ℕ}
 use lib.ListN.{length}
-use Rattle.direction.specs.declared.PdoDirection.{PdoDirection}
+use Rattle.pdo.specs.declared.PdoDirection.{PdoDirection}
 use Rattle.uses.specs.Use.{Use}
 use Rattle.area.specs.Area.{chunks, entriesOf, flat}
 use Rattle.area.proofs.Flat.{Rows, length-chunks, rows-chunks, chunks-flat, flat-bytes}

@@ -8,9 +8,8 @@ use lib.Dec.{T, eqb, eqb→eq}
 use Rattle.wire.specs.Outcome.{Outcome, refused, accepted}
 use Rattle.channel_bytes.specs.Bytes.{controlAt, unnamed, controlByte}
 use Rattle.fmmu.specs.Image.{fieldsOf, imageOf}
-use Rattle.grammar.specs.Lists.{listOf, someBelow}
+use Rattle.wire.specs.Lists.{listOf, someBelow, Each}
 use Rattle.sheet.specs.Device.{pdosFrom}
-use Rattle.sheet.specs.Sound.{Each}
 use Rattle.sheet.specs.Sheet.{wrongLength, kindFits, pdosFit, someManagerWrong, someUsageWrong, broken, someUnnamed, sheetData}
 use Rattle.pdo.specs.Bits.{multiplierOf, byCoe, bitsOf, piecesFrom, piecesOf}
 use Rattle.uses.specs.Use.{own, given, firstWith, usesOf, total, totalOn, sizeOf}

@@ -12,10 +12,10 @@ use lib.ListN.{length, getD}
 use borrow.Author.Tests.{ltb-true, ltb-false, eq-eqb}
 use Rattle.wire.specs.Outcome.{refused, accepted}
 use Rattle.wire.proofs.Order.{never}
-use Rattle.sheet.specs.Sound.{Each}
+use Rattle.wire.specs.Lists.{Each}
 use Rattle.sheet.specs.Sheet.{sheetData}
-use Rattle.direction.specs.declared.PdoDirection.{PdoDirection}
-use Rattle.direction.specs.Direction.{other}
+use Rattle.pdo.specs.declared.PdoDirection.{PdoDirection}
+use Rattle.pdo.specs.Direction.{other}
 use Rattle.uses.specs.Use.{Use, total}
 use Rattle.area.specs.Area.{entriesOf}
 use Rattle.translation.specs.Translate.{named, says, firstSaid, orNone, translate}

@@ -11,10 +11,10 @@ use lib.Dec.{ltb}
 use lib.ListN.{length, getD}
 use borrow.Author.Tests.{ltb-true, ltb-false, le-leb, eq-eqb}
 use Rattle.wire.specs.Outcome.{accepted}
-use Rattle.sheet.specs.Sound.{Each}
+use Rattle.wire.specs.Lists.{Each}
 use Rattle.sheet.specs.Sheet.{sheetData}
-use Rattle.direction.specs.declared.PdoDirection.{PdoDirection}
-use Rattle.direction.specs.Direction.{other}
+use Rattle.pdo.specs.declared.PdoDirection.{PdoDirection}
+use Rattle.pdo.specs.Direction.{other}
 use Rattle.uses.specs.Use.{Use, total, sizeOf}
 use Rattle.area.specs.Area.{entriesOf, flat}
 use Rattle.entries.specs.Entries.{plan}

@@ -15,13 +15,14 @@ use Rattle.wire.proofs.Order.{never}
 use Rattle.pdi.specs.Offset.{pastEnd}
 use Rattle.fmmu.specs.Image.{fieldsOf}
 use Rattle.sheet.specs.Sheet.{wrongLength, wrongVersion, broken, someUnnamed, sheetData}
-use Rattle.direction.specs.declared.PdoDirection.{PdoDirection}
-use Rattle.direction.specs.declared.PdoDirection.the-variants.{MasterRead, MasterWrite}
+use Rattle.pdo.specs.declared.PdoDirection.{PdoDirection}
+use Rattle.pdo.specs.declared.PdoDirection.the-variants.{MasterRead, MasterWrite}
 use Rattle.pdi.specs.declared.Placed.the-variants.{Segment}
 use Rattle.pdi.specs.declared.PdiSegment.{PdiSegment}
 use Rattle.pdi.specs.declared.PdiOffset.{PdiOffset}
-use Rattle.direction.specs.Direction.{other}
-use Rattle.pdo.specs.Bits.{someOf, piecesOf}
+use Rattle.pdo.specs.Direction.{other}
+use Rattle.wire.specs.Lists.{someOf}
+use Rattle.pdo.specs.Bits.{piecesOf}
 use Rattle.uses.specs.Use.{Use, own, totalOn, sizeOf}
 use Rattle.area.specs.Area.{entriesOf, notEntries, notChannels}
 use Rattle.entries.specs.Entries.{plan, lengthNow, Planned, tooLong}

@@ -16,11 +16,11 @@ use Rattle.wire.proofs.Below.{all, below}
 use Rattle.pdi.specs.Segment.{segment}
 use Rattle.channel_bytes.specs.Bytes.{controlAt, unnamed}
 use Rattle.fmmu.specs.Image.{fieldsOf, imageOf}
-use Rattle.grammar.specs.Lists.{listOf, someBelow}
+use Rattle.wire.specs.Lists.{listOf, someBelow}
 use Rattle.sheet.specs.Device.{pdosFrom}
 use Rattle.sheet.specs.Sheet.{wrongLength, kindFits, pdosFit, someManagerWrong, someUsageWrong, broken, someUnnamed, sheetData}
-use Rattle.direction.specs.declared.PdoDirection.{PdoDirection}
-use Rattle.direction.specs.declared.PdoDirection.the-variants.{MasterRead, MasterWrite}
+use Rattle.pdo.specs.declared.PdoDirection.{PdoDirection}
+use Rattle.pdo.specs.declared.PdoDirection.the-variants.{MasterRead, MasterWrite}
 use Rattle.pdo.specs.Bits.{multiplierOf, byCoe, bitsOf, piecesFrom, piecesOf}
 use Rattle.uses.specs.Use.{own, given, firstWith, usesOf, total, totalOn, sizeOf}
 use Rattle.area.specs.Area.{chunks, entriesOf, flat}

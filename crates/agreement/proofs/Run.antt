@@ -12,10 +12,9 @@ use lib.ListN.{length, getD, set, length-set, List·getD-map}
 use lib.Seq.{getD-set-same, getD-set-other, map-set-same}
 use borrow.Author.Tests.{ltb-true, ltb-false, eq-eqb, ne-eqb}
 use Rattle.fmmu.specs.Image.{fieldsOf, imageOf}
-use Rattle.sheet.specs.Sound.{Each}
-use Rattle.direction.specs.declared.PdoDirection.{PdoDirection}
-use Rattle.direction.specs.Direction.{other}
-use Rattle.pdo.specs.Bits.{someOf}
+use Rattle.wire.specs.Lists.{Each, someOf}
+use Rattle.pdo.specs.declared.PdoDirection.{PdoDirection}
+use Rattle.pdo.specs.Direction.{other}
 use Rattle.uses.specs.Use.{Use, total, totalOn}
 use Rattle.entries.specs.Entries.{laid, plan, lengthNow}
 use Rattle.translation.specs.Translate.{named, carries, says, odd, firstSaid, orNone}

@@ -10,10 +10,9 @@ use lib.Dec.{ltb}
 use borrow.Author.Tests.{ltb-false}
 use Rattle.wire.specs.Number.{bigAt}
 use Rattle.sheet.specs.declared.SyncManager.{SyncManager}
-use Rattle.grammar.specs.Lists.{listOf}
-use Rattle.sheet.specs.Sound.{Each}
+use Rattle.wire.specs.Lists.{listOf, Each}
 use Rattle.sheet.specs.Sheet.{managerCount, usageCount, managerPlace, usagesPlace, managerAt, broken, sheetData}
-use Rattle.grammar.proofs.Lists.{length-listOf}
+use Rattle.wire.proofs.Lists.{length-listOf}
 use Rattle.agreement.specs.Agreement.{AllBytes}
 use Rattle.agreement.proofs.Basics.{or-false}
 use Rattle.agreement.proofs.Uses.{Bounded}

@@ -13,9 +13,9 @@ use Rattle.wire.specs.Field.{flagAt, bit}
 use Rattle.fmmu.specs.declared.Fmmu.{Fmmu}
 use Rattle.fmmu.specs.Image.{fieldsOf, imageOf}
 use Rattle.fmmu.proofs.RoundTrip.{read-write}
-use Rattle.direction.specs.declared.PdoDirection.{PdoDirection}
-use Rattle.direction.specs.declared.PdoDirection.the-variants.{MasterRead, MasterWrite}
-use Rattle.direction.specs.Direction.{other}
+use Rattle.pdo.specs.declared.PdoDirection.{PdoDirection}
+use Rattle.pdo.specs.declared.PdoDirection.the-variants.{MasterRead, MasterWrite}
+use Rattle.pdo.specs.Direction.{other}
 use Rattle.uses.specs.Use.{Use}
 use Rattle.entries.specs.Entries.{mapped, laid, lengthNow}
 use Rattle.translation.specs.Translate.{within, named, carries, says, odd}

@@ -10,7 +10,7 @@ use Prim.Native.Nat.{ℕ, _+_, _-_, _^_, _≤_, _<_}
 use native.Mathlib.Omega.{arith}
 use lib.Dec.{eqb, ltb, leb}
 use borrow.Author.Tests.{ltb-true, ltb-false, lt-ltb, le-leb, eq-eqb, ne-eqb}
-use Rattle.sheet.specs.Sound.{Each}
+use Rattle.wire.specs.Lists.{Each}
 use Rattle.uses.specs.Use.{Use, total, totalOn}
 use Rattle.translation.specs.Translate.{within, named, orNone}
 use Rattle.agreement.specs.Agreement.{sharing, Chained, EndToEnd}

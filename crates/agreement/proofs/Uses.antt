@@ -14,11 +14,11 @@ use borrow.Author.Tests.{ltb-true, ltb-false, eqb-true, eqb-false}
 use Rattle.pdi.specs.Unit.{bytesOf}
 use Rattle.sheet.specs.declared.SyncManager.{SyncManager}
 use Rattle.sheet.specs.Device.{Data}
-use Rattle.sheet.specs.Sound.{Each}
-use Rattle.direction.specs.declared.PdoDirection.{PdoDirection}
-use Rattle.direction.specs.declared.PdoDirection.the-variants.{MasterRead, MasterWrite}
-use Rattle.direction.specs.Direction.{usageOf, fmmuUsageOf, other}
-use Rattle.pdo.specs.Bits.{someOf, Piece, byCoe, pathKind, bitsOf, piecesFrom, piecesOf}
+use Rattle.wire.specs.Lists.{Each, someOf}
+use Rattle.pdo.specs.declared.PdoDirection.{PdoDirection}
+use Rattle.pdo.specs.declared.PdoDirection.the-variants.{MasterRead, MasterWrite}
+use Rattle.pdo.specs.Direction.{usageOf, fmmuUsageOf, other}
+use Rattle.pdo.specs.Bits.{Piece, byCoe, pathKind, bitsOf, piecesFrom, piecesOf}
 use Rattle.uses.specs.Use.{Use, useOf, own, given, firstWith, coeEntry, usesOf, total, sizeOf}
 use Rattle.wanted.specs.Wanted.{noEntry}
 use Rattle.translation.specs.Translate.{within, named, orNone}

@@ -10,10 +10,10 @@ use lib.ListN.{getD}
 use lib.Dec.{eqb, ltb}
 use Rattle.wire.specs.Outcome.{Outcome, accepted}
 use Rattle.fmmu.specs.Image.{fieldsOf}
-use Rattle.sheet.specs.Sound.{Each}
+use Rattle.wire.specs.Lists.{Each}
 use Rattle.sheet.specs.Sheet.{sheetData}
-use Rattle.direction.specs.declared.PdoDirection.{PdoDirection}
-use Rattle.direction.specs.Direction.{other}
+use Rattle.pdo.specs.declared.PdoDirection.{PdoDirection}
+use Rattle.pdo.specs.Direction.{other}
 use Rattle.pdo.specs.declared.Oversampling.{Oversampling}
 use Rattle.pdo.specs.Bits.{multipliersOf, piecesOf}
 use Rattle.uses.specs.Use.{Use, own, usesOf}

@@ -9,7 +9,7 @@ use Rattle.pdi.specs.Offset.{incremented, incrementedByteAligned}
 use Rattle.channel_bytes.specs.declared.Control.{Control}
 use Rattle.channel_bytes.specs.Bytes.{modeNumber, controlByte, readControl}
 use Rattle.sheet.specs.Sheet.{sheetData}
-use Rattle.direction.specs.declared.PdoDirection.the-variants.{MasterRead}
+use Rattle.pdo.specs.declared.PdoDirection.the-variants.{MasterRead}
 use Rattle.pdo.specs.Bits.{multipliersOf}
 use Rattle.area.specs.Area.{entriesOf}
 use Rattle.passes.specs.Pass.{dataPass, entriesAfter}

@@ -6,7 +6,7 @@ use Prim.Native.Nat.{ℕ, _-_, _*_}
 use lib.ListN.{length, set, replicate}
 use Rattle.wire.specs.Outcome.{Outcome, refused, accepted}
 use Rattle.wire.specs.Number.{littleOf}
-use Rattle.direction.specs.declared.PdoDirection.the-variants.{MasterRead, MasterWrite}
+use Rattle.pdo.specs.declared.PdoDirection.the-variants.{MasterRead, MasterWrite}
 use Rattle.area.specs.Area.{flat}
 use Rattle.translation.specs.Translate.{translate}
 use Rattle.counting.specs.Count.{Spot, count}

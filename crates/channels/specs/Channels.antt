@@ -10,7 +10,7 @@ use Rattle.sync_manager_channel.specs.declared.SyncManagerChannel.{SyncManagerC
 use Rattle.channel_bytes.specs.declared.Enable.{Enable}
 use Rattle.channel_bytes.specs.Bytes.{statusAt}
 use Rattle.sync_manager_channel.specs.Image.{imageOf}
-use Rattle.grammar.specs.Lists.{listOf}
+use Rattle.wire.specs.Lists.{listOf}
 use Rattle.sheet.specs.Sheet.{noManager}
 use Rattle.sheet.specs.declared.SyncManager.{SyncManager}
 use Rattle.area.specs.Area.{entriesOf, flat, notChannels}

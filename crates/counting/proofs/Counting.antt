@@ -21,8 +21,8 @@ use Rattle.sheet.specs.declared.Answer.the-variants as answer
 use Rattle.sheet.specs.declared.SyncManager.{SyncManager}
 use Rattle.channels.specs.declared.Wish.{Wish}
 use Rattle.channels.specs.Channels.{noWish}
-use Rattle.direction.specs.declared.PdoDirection.{PdoDirection}
-use Rattle.direction.specs.Direction.{usageOf}
+use Rattle.pdo.specs.declared.PdoDirection.{PdoDirection}
+use Rattle.pdo.specs.Direction.{usageOf}
 use Rattle.pdo.specs.Bits.{Piece, pathKind, bitsOf, piecesFrom, piecesOf}
 use Rattle.uses.specs.Use.{own, total, sizeOf}
 use Rattle.uses.proofs.Pieces.{wishFor}

@@ -10,7 +10,7 @@ use Rattle.pdi.specs.Unit.{bytesOf}
 use Rattle.pdi.specs.Offset.{pastEnd}
 use Rattle.sheet.specs.Device.{Data}
 use Rattle.sheet.specs.Sheet.{sheetRefusals, sheetData}
-use Rattle.direction.specs.declared.PdoDirection.{PdoDirection}
+use Rattle.pdo.specs.declared.PdoDirection.{PdoDirection}
 use Rattle.pdo.specs.Bits.{Piece, piecesOf}
 use Rattle.uses.specs.Use.{sizeOf}
 use Rattle.wanted.specs.Wanted.{someTooMany, noEntry}

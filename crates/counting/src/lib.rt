@@ -153,6 +153,6 @@ pub fn count(
 ) -> Counted
     ensures { λ r. ⌜ countedOf r ≡ meaning.count direction address (now (sheet .entry)) (take (pdoCount (now (sheet .entry))) multipliers) (offset .«start_address») ⌝ }
 {
-    let p = pdo::byte_at(sheet, 10) as usize;
+    let p = wire::byte_at(sheet, 10) as usize;
     count_sheet(sheet, &multipliers[..p], offset, direction, address)
 }

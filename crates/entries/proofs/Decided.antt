@@ -15,7 +15,7 @@ use Rattle.pdi.specs.Segment.{segment, belowGroup, lessGroup}
 use Rattle.pdi.specs.declared.PdiSegment.{PdiSegment}
 use Rattle.area.specs.Area.{areaOf, entriesOf, flat}
 use Rattle.area.proofs.Flat.{flat-chunks, area-whole}
-use Rattle.direction.specs.declared.PdoDirection.{PdoDirection}
+use Rattle.pdo.specs.declared.PdoDirection.{PdoDirection}
 use Rattle.entries.specs.declared.Configured.the-variants.{Mapped, Refused}
 use Rattle.uses.specs.Use.{Use, total}
 use Rattle.uses.specs.Length.{tooLong}

@@ -11,7 +11,7 @@ use Rattle.fmmu.proofs.RoundTrip.{image-length}
 use Rattle.area.specs.Area.{entriesOf, entryAt, storedAt}
 use Rattle.area.proofs.Flat.{Rows, rows-set, length-chunks, area-whole}
 use Rattle.area.proofs.Entry.{entry-any, length-stored, stored-entry}
-use Rattle.direction.specs.declared.PdoDirection.{PdoDirection}
+use Rattle.pdo.specs.declared.PdoDirection.{PdoDirection}
 use Rattle.uses.specs.Use.{Use}
 use Rattle.entries.specs.Entries.{laid, withUse, plan}
 

@@ -10,7 +10,7 @@ use borrow.Author.Tests.{ltb-true, ltb-false, lt-ltb, le-ltb}
 use Rattle.wire.specs.Outcome.{refused, accepted}
 use Rattle.wire.proofs.Order.{never, passed-answer}
 use Rattle.pdi.specs.Offset.{pastEnd, incremented}
-use Rattle.direction.specs.declared.PdoDirection.{PdoDirection}
+use Rattle.pdo.specs.declared.PdoDirection.{PdoDirection}
 use Rattle.uses.specs.Use.{Use, total}
 use Rattle.uses.specs.Length.{lengthNow, tooLong}
 use Rattle.entries.specs.Entries.{withUse, plan}

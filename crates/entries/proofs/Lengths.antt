@@ -13,7 +13,7 @@ use Rattle.wire.specs.Field.{flagAt, bit}
 use Rattle.wire.proofs.Numbers.{joined-is}
 use Rattle.fmmu.specs.declared.Fmmu.{Fmmu}
 use Rattle.fmmu.specs.Image.{fieldsOf, imageOf}
-use Rattle.direction.specs.declared.PdoDirection.{PdoDirection}
+use Rattle.pdo.specs.declared.PdoDirection.{PdoDirection}
 use Rattle.uses.specs.Use.{Use, totalOn}
 use Rattle.uses.specs.Length.{lengthOf, lengthNow}
 use Rattle.uses.proofs.Room.{Room, total-here, total-other}

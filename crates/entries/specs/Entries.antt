@@ -13,8 +13,8 @@ use Rattle.pdi.specs.declared.PdiSegment.{PdiSegment}
 use Rattle.area.specs.Area.{entriesOf, flat, notEntries}
 use Rattle.fmmu.specs.declared.Fmmu.{Fmmu}
 use Rattle.fmmu.specs.Image.{fieldsOf, imageOf}
-use Rattle.direction.specs.declared.PdoDirection.{PdoDirection}
-use Rattle.direction.specs.Direction.{isRead, isWrite}
+use Rattle.pdo.specs.declared.PdoDirection.{PdoDirection}
+use Rattle.pdo.specs.Direction.{isRead, isWrite}
 use Rattle.uses.specs.Use.{Use, total}
 pub use Rattle.uses.specs.Length.{lengthNow}
 unfoldable pub use Rattle.uses.specs.Length.{tooLong}

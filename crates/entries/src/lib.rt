@@ -4,7 +4,7 @@ ghost use lib.ListN.{length, getD, take};
 ghost use mathlib.Core.Bool.{false};
 ghost use mathlib.Core.List.{[]};
 ghost use Prim.Native.Nat.{_+_, _<_, _≤_};
-ghost use Rattle.direction.specs.Direction.{isRead};
+ghost use Rattle.pdo.specs.Direction.{isRead};
 ghost use Rattle.pdi.specs.Offset.{incremented, movedOf};
 ghost use Rattle.area.specs.Area.{entriesOf};
 ghost use Rattle.uses.specs.Use.{usesFrom, useFrom, mappedUses, total};

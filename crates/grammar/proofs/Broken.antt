@@ -8,9 +8,9 @@ use native.Mathlib.Omega.{arith}
 use lib.ListN.{length, getD}
 use lib.Dec.{ltb}
 use borrow.Author.Tests.{lt-ltb, le-ltb, ltb-false, not-false}
-use Rattle.grammar.specs.Lists.{someBelow}
+use Rattle.wire.specs.Lists.{someBelow}
 use Rattle.grammar.specs.Grammar.{managerCount, usageCount, pdoCount, managerPlace, usagesPlace, pdosPlace, pdosFit, someManagerWrong, someUsageWrong, broken}
-use Rattle.grammar.proofs.Lists.{some-same}
+use Rattle.wire.proofs.Lists.{some-same}
 
 -- 4, as the code finds it: by one of its parts, or by the last after the others
 module _ (s : List ℕ) where

@@ -1,5 +1,5 @@
 -- Laws that belong to no one function.
-pub mod Lists
+pub mod Length
 pub mod Walk
 pub mod Broken
 pub mod Unique

@@ -5,7 +5,7 @@ use mathlib.Core.List.{List}
 use Prim.Native.Nat.{ℕ, zero, suc, _+_, _*_}
 use lib.ListN.{length, getD}
 use lib.Dec.{eqb, ltb, leb}
-use Rattle.grammar.specs.Lists.{someBelow}
+use Rattle.wire.specs.Lists.{someBelow}
 
 -- 8: n sync managers; 9: f FMMU usages; 10: p PDOs
 abbrev pub managerCount : List ℕ → ℕ

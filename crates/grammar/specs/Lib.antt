@@ -1,3 +1,3 @@
--- The grammar of the device sheet (document 01), as far as bytes alone decide it. Read from the top.
-pub mod Lists
+-- The rules of the device sheet (document 01), as far as bytes alone decide them. Read from the top.
+pub mod Length
 pub mod Grammar

@@ -1,10 +1,28 @@
-// The rules of the device sheet, after its length, that look at its bytes alone: its counts and values, its PDO records.
+// The rules of the device sheet that look at its bytes alone: its length, its counts and values, its PDO records.
 ghost use mathlib.Core.Path.{_≡_};
 ghost use Prim.Native.Nat.{ℕ, _+_, _*_, _≤_, _<_};
 ghost use lib.ListN.{length, getD};
 ghost use lib.Dec.{ltb};
-ghost use Rattle.grammar.specs.Lists.{someBelow};
+ghost use Rattle.wire.specs.Lists.{someBelow};
+ghost use Rattle.grammar.specs.Length.{wrongLength};
 ghost use Rattle.grammar.specs.Grammar.{kindFits, pdosFit, broken};
+
+// 2: whether the length is wrong.
+pub fn wrong_length(sheet: &[u8]) -> bool
+    ensures { λ r. ⌜ r ≡ wrongLength (now (sheet .entry)) ⌝ }
+{
+    if sheet.len() < 2 {
+        return true;
+    }
+    let follow = wire::be16(sheet[0], sheet[1]) as usize;
+    if sheet.len() != follow + 2 {
+        return true;
+    }
+    if follow < 9 {
+        return true;
+    }
+    16384 < follow
+}
 
 // 4: whether another rule is broken that bytes alone decide. A sheet that ends before its counts breaks one.
 pub fn rule_broken(sheet: &[u8]) -> bool

@@ -9,7 +9,7 @@ use Rattle.sheet.specs.Sheet.{sheetData}
 use Rattle.pdi.specs.declared.PdiOffset.{PdiOffset}
 use Rattle.pdi.specs.declared.Placed.{Placed}
 use Rattle.pdo.specs.Bits.{multipliersOf}
-use Rattle.oversampling.proofs.Stated.{Saying, States}
+use Rattle.wire.proofs.Stated.{Saying, States}
 use Rattle.passes.specs.Pass.{Passes}
 use Rattle.passes.proofs.Once.{passes-once}
 use Rattle.lent.proofs.data_pass.configure_fmmus as configure-fmmus

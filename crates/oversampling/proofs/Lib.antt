@@ -4,5 +4,4 @@ pub mod Records
 pub mod Search
 pub mod Local
 pub mod Made
-pub mod Stated
 pub mod Unique

@@ -5,7 +5,7 @@ use denote.Ref.{now}
 use Rattle.wire.proofs.Pins.{Pins, same}
 use Rattle.pdo.specs.Bits.{multiplierOf}
 use Rattle.oversampling.specs.Multipliers.{multipliersIn}
-use Rattle.oversampling.proofs.Stated.{Saying, States}
+use Rattle.wire.proofs.Stated.{Saying, States}
 use Rattle.oversampling.proofs.multiplier_of as multiplier-of
 use Rattle.oversampling.proofs.multipliers_for as multipliers-for
 use Rattle.oversampling.proofs.indexes_of.Reads as indexes-of

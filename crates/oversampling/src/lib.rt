@@ -40,10 +40,10 @@ pub fn indexes_of(bytes: &[u8], at: usize, p: u8) -> Indexes
             return Indexes { list, count: p };
         }
         list[i] = wire::be16(
-            pdo::byte_at(bytes, place + 2),
-            pdo::byte_at(bytes, place + 3),
+            wire::byte_at(bytes, place + 2),
+            wire::byte_at(bytes, place + 3),
         );
-        place = place + 5 + pdo::byte_at(bytes, place + 4) as usize;
+        place = place + 5 + wire::byte_at(bytes, place + 4) as usize;
         i += 1;
     }
     Indexes { list, count: p }
@@ -59,9 +59,9 @@ pub fn indexes_in(sheet: &[u8], records: usize) -> Indexes
             count: 0,
         };
     }
-    let n = pdo::byte_at(sheet, 8) as usize;
-    let f = pdo::byte_at(sheet, 9) as usize;
-    indexes_of(sheet, 11 + 5 * n + f, pdo::byte_at(sheet, 10))
+    let n = wire::byte_at(sheet, 8) as usize;
+    let f = wire::byte_at(sheet, 9) as usize;
+    indexes_of(sheet, 11 + 5 * n + f, wire::byte_at(sheet, 10))
 }
 
 // The table turned into one multiplier for each PDO, so that what comes after needs no table; 1 past the last.

@@ -8,7 +8,7 @@ use Rattle.pdi.specs.declared.PdiOffset.{PdiOffset}
 use Rattle.pdi.specs.declared.Placed.{Placed}
 use Rattle.pdi.specs.Segment.{placedOf}
 use Rattle.pdi.proofs.Unique.{placed-back, placed-determined}
-use Rattle.direction.specs.declared.PdoDirection.{PdoDirection}
+use Rattle.pdo.specs.declared.PdoDirection.{PdoDirection}
 use Rattle.passes.specs.Pass.{Passes}
 
 -- two promises of a pass: the same answer, the same offset, the same areas

@@ -10,7 +10,7 @@ use Rattle.wire.specs.Outcome.{Outcome, refused, accepted, first}
 use Rattle.wire.proofs.Order.{passed, passed-answer, stopped}
 use Rattle.sheet.specs.Device.{Data}
 use Rattle.sheet.specs.Sheet.{sheetRefusals, sheetData, readSheet, pdoCount}
-use Rattle.direction.specs.declared.PdoDirection.{PdoDirection}
+use Rattle.pdo.specs.declared.PdoDirection.{PdoDirection}
 use Rattle.entries.specs.declared.Configured.{Configured}
 use Rattle.entries.specs.declared.Configured.the-variants.{Mapped, Refused}
 use Rattle.entries.specs.Entries.{Planned, configuredOf}

@@ -19,8 +19,8 @@ use Rattle.sheet.specs.declared.Answer.the-variants as answer
 use Rattle.area.specs.Area.{entriesOf, flat}
 use Rattle.channels.specs.Channels.{noWish, wishOf, wished, channelsAfter, channelArea}
 use Rattle.channels.proofs.After.{channel-area-whole, channels-same}
-use Rattle.direction.specs.declared.PdoDirection.{PdoDirection}
-use Rattle.direction.specs.Direction.{usageOf}
+use Rattle.pdo.specs.declared.PdoDirection.{PdoDirection}
+use Rattle.pdo.specs.Direction.{usageOf}
 use Rattle.pdo.specs.Bits.{byCoe, pathKind, bitsOf, piecesOf}
 use Rattle.entries.specs.declared.Configured.{Configured}
 use Rattle.entries.specs.declared.Configured.the-variants.{Mapped, Refused}

@@ -11,8 +11,8 @@ use Rattle.pdi.specs.Unit.{bytesOf}
 use Rattle.sheet.specs.Device.{Data}
 use Rattle.sheet.specs.Sheet.{sheetRefusals, sheetData}
 use Rattle.sheet.specs.declared.SyncManager.{SyncManager}
-use Rattle.direction.specs.declared.PdoDirection.{PdoDirection}
-use Rattle.direction.specs.Direction.{usageOf}
+use Rattle.pdo.specs.declared.PdoDirection.{PdoDirection}
+use Rattle.pdo.specs.Direction.{usageOf}
 use Rattle.pdo.specs.Bits.{pathKind, bitsOf}
 use Rattle.uses.specs.Use.{usesOf, sizeOf}
 use Rattle.area.specs.Area.{entriesOf, flat, notEntries, notChannels}

@@ -8,9 +8,9 @@ use native.Mathlib.Omega.{arith}
 use lib.ListN.{length, getD, length-map}
 use lib.Dec.{eqb}
 use Rattle.pdi.specs.declared.BitLen.{BitLen}
-use Rattle.sheet.specs.Sound.{Each, sum}
+use Rattle.wire.specs.Lists.{Each, sum}
 use Rattle.sheet.specs.Device.{Pdo}
-use Rattle.grammar.proofs.Lists.{length-listOf, getD-listOf}
+use Rattle.wire.proofs.Lists.{length-listOf, getD-listOf}
 use Rattle.pdo.specs.declared.Oversampling.{Oversampling}
 use Rattle.pdo.specs.Bits.{multiplierOf, multipliersOf, firstOf, othersOf, bitsOf, askedFor, sumsOf}
 use Rattle.pdo.proofs.Records.{product-bounded}

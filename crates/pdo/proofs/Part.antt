@@ -10,8 +10,7 @@ use lib.ListN.{length, getD, take, drop, length-drop, drop-of-length-le, List·g
 use lib.Seq.{take-suc, take-all, drop-cons, getD-drop}
 use lib.Dec.{ltb}
 use borrow.Author.Tests.{ltb-true, ltb-false}
-use Rattle.grammar.specs.Lists.{listOf}
-use Rattle.sheet.specs.Sound.{sum}
+use Rattle.wire.specs.Lists.{listOf, sum}
 
 -- a turn of a loop that sums l, and its end
 pub sum-turn : (l : List ℕ) (k : ℕ) → k < length l → sum (drop k l) ≡ getD l k 0 + sum (drop (k + 1) l)

@@ -9,8 +9,7 @@ use native.Mathlib.Omega.{arith}
 use lib.ListN.{getD}
 use borrow.Author.Tests.{eq-eqb, ne-eqb, lt-ltb, le-ltb}
 use Rattle.wire.specs.Number.{bigAt}
-use Rattle.grammar.specs.Lists.{listOf}
-use Rattle.sheet.specs.Sound.{sum}
+use Rattle.wire.specs.Lists.{listOf, sum}
 use Rattle.sheet.specs.Device.{Pdo, pdoAt}
 use Rattle.pdo.specs.Bits.{askedFor, partOf}
 

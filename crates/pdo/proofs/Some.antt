@@ -3,7 +3,7 @@
 use mathlib.Core.Path.{_≡_, sym, _∙_, ap}
 use mathlib.Core.Bool.{Bool, true, false}
 use mathlib.Core.List.{List, _∷_}
-use Rattle.pdo.specs.Bits.{someOf}
+use Rattle.wire.specs.Lists.{someOf}
 
 -- one that has it, and one that hasn't
 pub some-here : {A : Type 0} (f : A → Bool) (x : A) (xs ys : List A) → ys ≡ x ∷ xs → f x ≡ true → someOf f ys ≡ true

@@ -13,8 +13,7 @@ use lib.Dec.{eqb, ltb}
 use borrow.Author.Tests.{eqb-true, eqb-false, ltb-true, ltb-false, ne-eqb}
 use Rattle.pdi.specs.declared.BitLen.{BitLen}
 use Rattle.wire.specs.Number.{bigAt}
-use Rattle.grammar.specs.Lists.{listOf}
-use Rattle.sheet.specs.Sound.{sum}
+use Rattle.wire.specs.Lists.{listOf, sum}
 use Rattle.sheet.specs.Device.{pdoAt, nextPdo, pdosFrom}
 use Rattle.pdo.specs.Bits.{firstOf, othersOf, bitsOf, askedFor, partOf, sumsOf}
 use Rattle.pdo.proofs.Bits.{noBits, sixteen, tally-at, at-most}

@@ -7,17 +7,11 @@ use lib.ListN.{getD}
 use lib.Dec.{eqb, ltb}
 use Rattle.sheet.specs.Device.{Pdo, Data}
 use Rattle.pdi.specs.declared.BitLen.{BitLen}
-use Rattle.grammar.specs.Lists.{listOf}
-use Rattle.sheet.specs.Sound.{sum}
+use Rattle.wire.specs.Lists.{listOf, someOf, sum}
 use Rattle.sheet.specs.declared.SyncManager.{SyncManager}
 use Rattle.pdo.specs.declared.Oversampling.{Oversampling}
-use Rattle.direction.specs.declared.PdoDirection.{PdoDirection}
-use Rattle.direction.specs.Direction.{usageOf, kindOf}
-
--- some element has it
-abbrev pub someOf : {A : Type 0} → (A → Bool) → List A → Bool
-someOf f [] = false
-someOf f (x ∷ xs) = f x || someOf f xs
+use Rattle.pdo.specs.declared.PdoDirection.{PdoDirection}
+use Rattle.pdo.specs.Direction.{usageOf, kindOf}
 
 -- the first match counts, none means 1
 unfoldable pub multiplierOf : List Oversampling → ℕ → ℕ

@@ -1,2 +1,3 @@
--- The exact bits of each sync manager.
+-- Which way process data goes, and the exact bits of each sync manager. Read from the top.
+pub mod Direction
 pub mod Bits

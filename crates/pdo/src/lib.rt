@@ -1,16 +1,47 @@
-// Whether CoE is on, and the exact bits of each sync manager, summed in one walk over the PDO records.
+// Which way process data goes, whether CoE is on, and the exact bits of each sync manager, summed in one walk over the PDO records.
 ghost use mathlib.Core.Path.{_≡_};
 ghost use Prim.Native.Nat.{_+_, _≤_};
 ghost use lib.ListN.{length, getD, take};
-ghost use Rattle.grammar.specs.Lists.{listOf};
-ghost use Rattle.sheet.specs.Sound.{sum};
+ghost use Rattle.wire.specs.Lists.{listOf, sum};
 ghost use Rattle.sheet.specs.Device.{pdoAt, pdosFrom};
+ghost use Rattle.pdo.specs.Direction.{termsOf};
 ghost use Rattle.pdo.specs.Bits.{someUsage, coeOn, partOf, sumsOf};
-pub use direction::PdoDirection;
-pub use direction::Terms;
 use pdi::BitLen;
 use sheet::Device;
 use sheet::SyncManager;
+
+// Which way process data goes.
+pub enum PdoDirection {
+    MasterRead,
+    MasterWrite,
+}
+
+// What a direction takes: the usage of its sync managers, of its FMMU entry, and its kind of EEPROM PDO.
+pub struct Terms {
+    pub usage: u8,
+    pub fmmu_usage: u8,
+    pub kind: u8,
+}
+
+impl PdoDirection {
+    // What this direction takes.
+    pub fn filter_terms(self) -> Terms
+        ensures { λ r. ⌜ r ≡ termsOf self ⌝ }
+    {
+        match self {
+            PdoDirection::MasterRead => Terms {
+                usage: 4,
+                fmmu_usage: 2,
+                kind: 1,
+            },
+            PdoDirection::MasterWrite => Terms {
+                usage: 3,
+                fmmu_usage: 1,
+                kind: 2,
+            },
+        }
+    }
+}
 
 // An oversampling record: a PDO index, and how many times its bits count.
 pub struct Oversampling {
@@ -52,16 +83,6 @@ pub fn coe_on(device: Device) -> bool
     some_usage(managers, device.n, 2)
 }
 
-// A byte of a slice, 0 past its end.
-pub fn byte_at(bytes: &[u8], at: usize) -> u8
-    ensures { λ r. ⌜ r ≡ getD (now (bytes .entry)) at 0 ⌝ }
-{
-    if at < bytes.len() {
-        return bytes[at];
-    }
-    0
-}
-
 // The sum of the bytes of a part.
 fn sum_bytes(part: &[u8]) -> u64
     requires { ⌜ length (now part) ≤ 255 ⌝ }
@@ -99,7 +120,7 @@ fn pdo_bits(bytes: &[u8], at: usize) -> u64
     if bytes[at] == 0 {
         return sum_of(bytes, at + 5, bytes[at + 4]);
     }
-    wire::be16(byte_at(bytes, at + 5), byte_at(bytes, at + 6)) as u64
+    wire::be16(wire::byte_at(bytes, at + 5), wire::byte_at(bytes, at + 6)) as u64
 }
 
 // The multiplier of the PDO with a number, 1 where there is none.

@@ -10,7 +10,7 @@ use Rattle.pdi.specs.declared.PdiOffset.{PdiOffset}
 use Rattle.pdi.specs.declared.Placed.{Placed}
 use Rattle.pdi.specs.declared.Placed.the-variants as placed
 use Rattle.pdi.specs.Segment.{placedOf}
-use Rattle.direction.specs.declared.PdoDirection.{PdoDirection}
+use Rattle.pdo.specs.declared.PdoDirection.{PdoDirection}
 use Rattle.entries.specs.declared.Configured.{Configured}
 use Rattle.entries.specs.Entries.{Planned, configuredOf}
 use Rattle.passes.specs.Pass.{dataPass, segmentOf, offsetAfter, Configures, Passes}

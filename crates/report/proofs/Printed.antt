@@ -15,12 +15,12 @@ use Rattle.sync_manager_channel.specs.declared.SyncManagerChannel.{SyncManagerC
 use Rattle.channel_bytes.specs.Bytes.{unnamed}
 use Rattle.sync_manager_channel.specs.Image.{imageOf}
 use Rattle.sync_manager_channel.proofs.RoundTrip.{written-named}
-use Rattle.sheet.specs.Sound.{Each}
+use Rattle.wire.specs.Lists.{Each}
 use Rattle.sheet.specs.Sheet.{sheetData, managerCount}
 use Rattle.sheet.specs.declared.SyncManager.{SyncManager}
 use Rattle.area.specs.Area.{chunks, entriesOf, flat}
 use Rattle.area.proofs.Flat.{length-chunks, rows-chunks, chunks-flat, flat-bytes, area-whole}
-use Rattle.direction.specs.declared.PdoDirection.{PdoDirection}
+use Rattle.pdo.specs.declared.PdoDirection.{PdoDirection}
 use Rattle.channels.specs.Channels.{channelFor, written, channelsAfter}
 use Rattle.channels.proofs.After.{channels-kept}
 use Rattle.uses.specs.Use.{usesOf}

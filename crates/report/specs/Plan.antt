@@ -13,8 +13,8 @@ use Rattle.sync_manager_channel.specs.Image.{channelOf}
 use Rattle.sync_manager_channel.specs.Text.{channelText}
 use Rattle.area.specs.Area.{entriesOf}
 use Rattle.sheet.specs.Sheet.{sheetData, managerCount}
-use Rattle.direction.specs.declared.PdoDirection.{PdoDirection}
-use Rattle.direction.specs.declared.PdoDirection.the-variants.{MasterRead, MasterWrite}
+use Rattle.pdo.specs.declared.PdoDirection.{PdoDirection}
+use Rattle.pdo.specs.declared.PdoDirection.the-variants.{MasterRead, MasterWrite}
 use Rattle.pdo.specs.Bits.{multipliersOf}
 use Rattle.entries.specs.declared.Configured.{Configured}
 use Rattle.entries.specs.declared.Configured.the-variants as configured

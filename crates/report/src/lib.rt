@@ -81,7 +81,7 @@ fn typed(sheet: &[u8], mut fmmus: [u8; 256], mut channels: [u8; 128], room: &mut
 {
     match plan_bay(sheet, &mut fmmus, &mut channels) {
         Plan::Segments(inputs, outputs) => {
-            let n = pdo::byte_at(sheet, 8);
+            let n = wire::byte_at(sheet, 8);
             lines::put_bay(room, n, inputs, outputs, &fmmus, &channels)
         }
         Plan::Refused(number) => lines::put_refused(room, number),

@@ -10,9 +10,9 @@ use Rattle.wire.proofs.Order.{never, passed, passed-answer, stopped}
 use Rattle.channel_bytes.specs.declared.Control.{Control}
 use Rattle.channel_bytes.specs.Bytes.{controlAt, unnamed, readControl}
 use Rattle.sheet.specs.declared.SyncManager.{SyncManager}
-use Rattle.grammar.specs.Lists.{someBelow}
+use Rattle.wire.specs.Lists.{someBelow}
 use Rattle.sheet.specs.Sheet.{managerAt, managerPlace, noManager, unnamedAt, managersOf, readManager}
-use Rattle.grammar.proofs.Lists.{some-hit, some-miss, filled}
+use Rattle.wire.proofs.Lists.{some-hit, some-miss, filled}
 
 abbrev five : Bool → List Refusal
 five b = when 5 b ∷ []

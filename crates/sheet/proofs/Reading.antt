@@ -13,10 +13,10 @@ use Rattle.wire.proofs.Order.{passed, passed-answer, stopped}
 use Rattle.sheet.specs.declared.SyncManager.{SyncManager}
 use Rattle.sheet.specs.declared.Device.{Device}
 use Rattle.sheet.specs.declared.SheetRead.{SheetRead}
-use Rattle.grammar.specs.Lists.{listOf, someBelow}
+use Rattle.wire.specs.Lists.{listOf, someBelow}
 use Rattle.sheet.specs.Device.{Data, pdosFrom, dataOf}
 use Rattle.sheet.specs.Sheet.{managerCount, usageCount, pdoCount, managerPlace, usagesPlace, pdosPlace, managerAt, noManager, unnamedAt, someUnnamed, sheetRefusals, sheetData, readSheet, managersOf, deviceOf, answerOf, sheetReadOf, deviceAfter, ReadsAs}
-use Rattle.grammar.proofs.Lists.{length-listOf}
+use Rattle.wire.proofs.Lists.{length-listOf}
 
 abbrev five : List ℕ → ℕ → List Refusal
 five s n = when 5 (someBelow (unnamedAt s) n) ∷ []

@@ -6,7 +6,7 @@ use Prim.Native.Nat.{ℕ, zero, suc, _+_}
 use lib.ListN.{getD, take}
 use lib.Dec.{eqb}
 use Rattle.wire.specs.Number.{bigAt}
-use Rattle.grammar.specs.Lists.{listOf}
+use Rattle.wire.specs.Lists.{listOf}
 pub use Rattle.grammar.specs.Grammar.{nextPdo}
 use Rattle.sheet.specs.declared.SyncManager.{SyncManager}
 use Rattle.sheet.specs.declared.Device.{Device}

@@ -9,9 +9,9 @@ use Rattle.wire.specs.Outcome.{Outcome, refused, accepted, Refusal, when, decid
 use Rattle.wire.specs.Field.{flagAt}
 use Rattle.wire.specs.Number.{bigAt}
 use Rattle.channel_bytes.specs.Bytes.{controlAt, unnamed}
-use Rattle.grammar.specs.Lists.{listOf, someBelow}
+use Rattle.wire.specs.Lists.{listOf, someBelow}
 pub use Rattle.grammar.specs.Grammar.{managerCount, usageCount, pdoCount, managerPlace, usagesPlace, pdosPlace, wrongVersion}
-unfoldable pub use Rattle.sheet_length.specs.Length.{wrongLength}
+unfoldable pub use Rattle.grammar.specs.Length.{wrongLength}
 unfoldable pub use Rattle.grammar.specs.Grammar.{kindFits, pdosFit, someManagerWrong, someUsageWrong, broken}
 use Rattle.sheet.specs.Device.{Data, pdosFrom, dataOf}
 use Rattle.sheet.specs.declared.SyncManager.{SyncManager}

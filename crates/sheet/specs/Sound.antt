@@ -1,19 +1,11 @@
 -- What an accepted sheet guarantees of its device data, for those who plan with it.
 -- Assumes nothing.
-use mathlib.Core.List.{List, [], _∷_}
-use Prim.Native.Nat.{ℕ, _+_, _≤_, _<_}
+use mathlib.Core.List.{List}
+use Prim.Native.Nat.{ℕ, _≤_, _<_}
 use lib.ListN.{length}
+use Rattle.wire.specs.Lists.{Each, sum}
 use Rattle.sheet.specs.Device.{Data, Pdo}
 use Rattle.sheet.specs.declared.SyncManager.{SyncManager}
-
--- every element has it
-abbrev pub Each : {A : Type 0} → (A → Type 0) → List A → Type 0
-Each P [] = Unit {0}
-Each P (x ∷ xs) = P x × Each P xs
-
-abbrev pub sum : List ℕ → ℕ
-sum [] = 0
-sum (x ∷ xs) = x + sum xs
 
 -- a PDO's own bits fit 16 bits
 pub record SoundPdo (p : Pdo) : Type 0 where

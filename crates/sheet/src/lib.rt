@@ -6,7 +6,7 @@ ghost use Rattle.wire.specs.Outcome as Outcome;
 ghost use Rattle.wire.specs.Outcome.{when, decide};
 ghost use Prim.Native.Nat.{_+_, _*_, _≤_};
 ghost use lib.ListN.{length};
-ghost use Rattle.grammar.specs.Lists.{someBelow};
+ghost use Rattle.wire.specs.Lists.{someBelow};
 ghost use Rattle.grammar.specs.Grammar.{broken};
 ghost use Rattle.sheet.specs.Sheet.{unnamedAt, someUnnamed, managersOf, usagesOf, deviceOf, readManager, managerReadOf, answerOf, sheetReadOf, ReadsAs};
 use channel_bytes::Control;
@@ -191,7 +191,7 @@ fn device_of(sheet: &[u8]) -> SheetRead
 pub fn read(sheet: &[u8]) -> SheetRead
     ensures { λ r. ⌜ ReadsAs (now (sheet .entry)) r ⌝ }
 {
-    if sheet_length::wrong_length(sheet) {
+    if grammar::wrong_length(sheet) {
         return refused(2);
     }
     if sheet[2] != 1 {

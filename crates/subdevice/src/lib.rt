@@ -104,7 +104,7 @@ pub fn pass(
 ) -> Passed
     ensures { λ r. ⌜ Passes (now (sheet .entry)) (take (pdoCount (now (sheet .entry))) multipliers) direction (place .offset) (place .group) (now (fmmus .entry)) (now (channels .entry)) (r .answer) (r .next) (now (fmmus .exit)) (now (channels .exit)) ⌝ }
 {
-    let p = pdo::byte_at(sheet, 10) as usize;
+    let p = wire::byte_at(sheet, 10) as usize;
     let answer = plan_sheet(sheet, &multipliers[..p], fmmus, channels, place, direction);
     passed_with(answer, place.offset)
 }

@@ -13,9 +13,9 @@ use borrow.Author.Tests.{eq-eqb, ne-eqb}
 use Rattle.wire.specs.Outcome.{refused, accepted}
 use Rattle.fmmu.specs.declared.Fmmu.{Fmmu}
 use Rattle.fmmu.specs.Image.{fieldsOf}
-use Rattle.direction.specs.declared.PdoDirection.{PdoDirection}
-use Rattle.direction.specs.declared.PdoDirection.the-variants.{MasterRead, MasterWrite}
-use Rattle.pdo.specs.Bits.{someOf}
+use Rattle.pdo.specs.declared.PdoDirection.{PdoDirection}
+use Rattle.pdo.specs.declared.PdoDirection.the-variants.{MasterRead, MasterWrite}
+use Rattle.wire.specs.Lists.{someOf}
 use Rattle.area.specs.Area.{entriesOf, areaOf, entryAt}
 use Rattle.area.proofs.Flat.{length-chunks, area-whole}
 use Rattle.area.proofs.Entry.{entry-any}

@@ -8,9 +8,9 @@ use lib.Dec.{eqb, ltb, leb}
 use Rattle.wire.specs.Outcome.{Outcome, refused, accepted, when, decide}
 use Rattle.fmmu.specs.declared.Fmmu.{Fmmu}
 use Rattle.fmmu.specs.Image.{fieldsOf}
-use Rattle.direction.specs.declared.PdoDirection.{PdoDirection}
-use Rattle.direction.specs.declared.PdoDirection.the-variants.{MasterRead, MasterWrite}
-use Rattle.pdo.specs.Bits.{someOf}
+use Rattle.pdo.specs.declared.PdoDirection.{PdoDirection}
+use Rattle.pdo.specs.declared.PdoDirection.the-variants.{MasterRead, MasterWrite}
+use Rattle.wire.specs.Lists.{someOf}
 use Rattle.area.specs.Area.{entriesOf, notEntries}
 use Rattle.translation.specs.declared.Reached.{Reached}
 use Rattle.translation.specs.declared.Reached.the-variants.{Nowhere, At}

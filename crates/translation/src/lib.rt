@@ -2,7 +2,7 @@
 ghost use mathlib.Core.Path.{_≡_};
 ghost use mathlib.Core.List.{map};
 ghost use Rattle.area.specs.Area.{areaOf, entriesOf};
-ghost use Rattle.pdo.specs.Bits.{someOf};
+ghost use Rattle.wire.specs.Lists.{someOf};
 ghost use Rattle.translation.specs.Translate as meaning;
 ghost use Rattle.translation.specs.Translate.{reachedOf, saidOf, translatedOf, firstSaid, orNone};
 use fmmu::Fmmu;

@@ -8,7 +8,7 @@ use native.Mathlib.Nat.{zero-add}
 use lib.ListN.{getD}
 use lib.Dec.{ltb}
 use borrow.Author.Tests.{ltb-false, eq-eqb, ne-eqb}
-use Rattle.grammar.proofs.Lists.{some-hit}
+use Rattle.wire.proofs.Lists.{some-hit}
 use Rattle.uses.specs.Use.{Use, totalOn}
 use Rattle.uses.specs.Length.{lengthNow, tooLong}
 

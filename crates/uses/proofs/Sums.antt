@@ -11,8 +11,8 @@ use lib.ListN.{length, getD, set, replicate}
 use lib.Seq.{getD-set-same, getD-set-other}
 use lib.Dec.{ltb}
 use borrow.Author.Tests.{lt-ltb, le-ltb}
-use Rattle.grammar.specs.Lists.{someBelow}
-use Rattle.grammar.proofs.Lists.{some-hit, some-miss, some-same}
+use Rattle.wire.specs.Lists.{someBelow}
+use Rattle.wire.proofs.Lists.{some-hit, some-miss, some-same}
 use Rattle.uses.specs.Use.{Use, totalOn}
 use Rattle.uses.specs.Length.{lengthNow, tooLong, Totals}
 use Rattle.uses.proofs.Room.{total-here, total-other}

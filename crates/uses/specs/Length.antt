@@ -6,7 +6,7 @@ use mathlib.Core.List.{List, []}
 use Prim.Native.Nat.{ℕ, _+_, _<_, _≤_}
 use lib.ListN.{getD}
 use lib.Dec.{ltb}
-use Rattle.grammar.specs.Lists.{someBelow}
+use Rattle.wire.specs.Lists.{someBelow}
 use Rattle.fmmu.specs.declared.Fmmu.{Fmmu}
 use Rattle.fmmu.specs.Image.{fieldsOf}
 use Rattle.uses.specs.Use.{Use, totalOn}

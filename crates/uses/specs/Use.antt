@@ -13,8 +13,8 @@ use Rattle.channels.specs.Channels.{noWish}
 use Rattle.uses.specs.declared.Route.{Route}
 use Rattle.uses.specs.declared.Mapping.{Mapping}
 use Rattle.uses.specs.declared.Mappings.{Mappings}
-use Rattle.direction.specs.declared.PdoDirection.{PdoDirection}
-use Rattle.direction.specs.Direction.{fmmuUsageOf}
+use Rattle.pdo.specs.declared.PdoDirection.{PdoDirection}
+use Rattle.pdo.specs.Direction.{fmmuUsageOf}
 use Rattle.pdo.specs.Bits.{Piece, byCoe, piecesOf}
 
 -- a sync manager laid by a pass: the entry that it uses, its size in bytes, its device address

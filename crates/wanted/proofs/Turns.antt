@@ -14,7 +14,8 @@ use borrow.Author.Tests.{eq-eqb, ne-eqb}
 use Rattle.wire.specs.Outcome.{refused, accepted, when, decide}
 use Rattle.wire.proofs.Order.{never}
 use Rattle.sheet.specs.declared.SyncManager.{SyncManager}
-use Rattle.pdo.specs.Bits.{someOf, askedFor, Piece, piecesFrom}
+use Rattle.wire.specs.Lists.{someOf}
+use Rattle.pdo.specs.Bits.{askedFor, Piece, piecesFrom}
 use Rattle.uses.specs.Use.{firstWith}
 
 -- the first with the usage: one more that hasn't it

@@ -13,7 +13,7 @@ use Rattle.wire.proofs.Order.{never}
 use Rattle.pdi.specs.Unit.{bytesOf, tooManyBits}
 use Rattle.pdi.specs.declared.BitLen.{BitLen}
 use Rattle.sheet.specs.Device.{Data}
-use Rattle.grammar.specs.Lists.{listOf}
+use Rattle.wire.specs.Lists.{listOf}
 use Rattle.sheet.specs.Sheet.{noManager, answerOf}
 use Rattle.sheet.specs.declared.Answer.{Answer}
 use Rattle.sheet.specs.declared.Answer.the-variants.{Accepted, Refused}
@@ -21,9 +21,9 @@ use Rattle.sheet.specs.declared.SyncManager.{SyncManager}
 use Rattle.channels.specs.declared.Wish.{Wish}
 use Rattle.channels.specs.Channels.{noWish, wish, filled}
 use Rattle.channels.proofs.After.{filled-at}
-use Rattle.direction.specs.declared.PdoDirection.{PdoDirection}
-use Rattle.direction.specs.declared.Terms.{Terms}
-use Rattle.direction.specs.Direction.{usageOf, termsOf}
+use Rattle.pdo.specs.declared.PdoDirection.{PdoDirection}
+use Rattle.pdo.specs.declared.Terms.{Terms}
+use Rattle.pdo.specs.Direction.{usageOf, termsOf}
 use Rattle.pdo.specs.Bits.{byCoe, pathKind, bitsOf, askedFor, sumsOf, Piece, piecesFrom, piecesOf}
 use Rattle.pdo.proofs.Bits.{tally-at}
 use Rattle.uses.specs.Use.{firstWith, coeEntry}

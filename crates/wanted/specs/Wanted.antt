@@ -13,9 +13,10 @@ use Rattle.sheet.specs.declared.Answer.the-variants.{Accepted, Refused}
 use Rattle.sheet.specs.declared.SyncManager.{SyncManager}
 use Rattle.channels.specs.declared.Wish.{Wish}
 use Rattle.channels.specs.Channels.{noWish, filled}
-use Rattle.direction.specs.declared.PdoDirection.{PdoDirection}
-use Rattle.direction.specs.Direction.{usageOf}
-use Rattle.pdo.specs.Bits.{someOf, Piece, byCoe, pathKind, bitsOf, piecesOf}
+use Rattle.pdo.specs.declared.PdoDirection.{PdoDirection}
+use Rattle.pdo.specs.Direction.{usageOf}
+use Rattle.wire.specs.Lists.{someOf}
+use Rattle.pdo.specs.Bits.{Piece, byCoe, pathKind, bitsOf, piecesOf}
 use Rattle.uses.specs.Use.{coeEntry}
 use Rattle.wanted.specs.declared.Wanted.{Wanted}
 use Rattle.wanted.specs.Wishes.{dataWish}

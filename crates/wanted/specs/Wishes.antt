@@ -15,7 +15,8 @@ use Rattle.wanted.specs.declared.Sized.{Sized}
 use Rattle.wanted.specs.declared.Sized.the-variants.{To, Refused}
 use Rattle.channels.specs.declared.Wish.{Wish}
 use Rattle.channels.specs.Channels.{noWish, wish, filled}
-use Rattle.pdo.specs.Bits.{someOf, askedFor, Piece, piecesFrom}
+use Rattle.wire.specs.Lists.{someOf}
+use Rattle.pdo.specs.Bits.{askedFor, Piece, piecesFrom}
 
 -- exactly those with the usage are asked for
 abbrev pub AskedFor : ℕ → List Bool → List SyncManager → Type 0

@@ -10,4 +10,5 @@ pub mod Typing
 pub mod Digits
 pub mod Order
 pub mod Pins
+pub mod Stated
 pub mod Unique

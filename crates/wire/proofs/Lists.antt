@@ -1,13 +1,82 @@
--- A list's elements by number, whatever would stand past its end.
+-- A list's elements by number, whatever would stand past its end; lists and questions by number: a turn of a loop over them.
 -- Assumes nothing.
-use mathlib.Core.Path.{_≡_, refl}
-use mathlib.Core.List.{List, [], _∷_}
-use Prim.Native.Nat.{ℕ, zero, suc, _<_}
-use native.Mathlib.Nat.{not-suc-le-zero, le-of-suc-le-suc}
-use lib.ListN.{length, getD}
+use mathlib.Core.Path.{_≡_, refl, sym, _∙_, ap}
+use mathlib.Core.Bool.{Bool, true, false, _||_, false≢true}
+use mathlib.Core.List.{List, [], _∷_, _++_}
+use mathlib.Core.Logic.{_⊎_, inl, inr}
+use Prim.Native.Nat.{ℕ, zero, suc, _+_, _-_, _<_}
+use native.Mathlib.Nat.{not-suc-le-zero, le-of-suc-le-suc, eq-or-lt-of-le}
+use native.Mathlib.Numerals.{add-one}
+use native.Mathlib.Omega.{arith}
+use lib.ListN.{length, getD, set, replicate, length-append, List·getD-append}
+use lib.Seq.{set-at, append-snoc, getD-at}
+use Rattle.wire.specs.Lists.{listOf, someBelow}
 
 -- within the list it doesn't matter what would stand past its end
 pub getD-any : {A : Type 0} (l : List A) (k : ℕ) (d e : A) → k < length l → getD l k d ≡ getD l k e
 getD-any [] k d e h = absurd (not-suc-le-zero h)
 getD-any (x ∷ l) zero d e h = refl
 getD-any (x ∷ l) (suc k) d e h = getD-any l k d e (le-of-suc-le-suc h)
+
+or-left : (a b : Bool) → a ≡ true → a || b ≡ true
+or-left true b e = refl
+or-left false b e = absurd (false≢true e)
+
+or-right : (a b : Bool) → b ≡ true → a || b ≡ true
+or-right true b e = refl
+or-right false b e = e
+
+-- it holds of one
+pub some-hit : (f : ℕ → Bool) (k n : ℕ) → k < n → f k ≡ true → someBelow f n ≡ true
+unfolding someBelow
+some-hit f k zero h e = absurd (not-suc-le-zero h)
+some-hit f k (suc n) h e = go (eq-or-lt-of-le (le-of-suc-le-suc h)) (λ s. some-hit f k n s e)
+  where
+    go : (k ≡ n) ⊎ (k < n) → (k < n → someBelow f n ≡ true) → someBelow f n || f n ≡ true
+    go (inl s) below = or-right (someBelow f n) (f n) (ap f (sym s) ∙ e)
+    go (inr s) below = or-left (someBelow f n) (f n) (below s)
+
+-- it holds of none so far, and not of the next
+pub some-miss : (f : ℕ → Bool) (k : ℕ) → someBelow f k ≡ false → f k ≡ false → someBelow f (k + 1) ≡ false
+unfolding someBelow
+some-miss f k a b = rw (add-one, a, b)
+
+pub some-same : (f g : ℕ → Bool) (n : ℕ) → ((k : ℕ) → k < n → f k ≡ g k) → someBelow f n ≡ someBelow g n
+unfolding someBelow
+some-same f g zero h = refl
+some-same f g (suc n) h = λ i. some-same f g n (λ k s. h k (omega arith)) i || h n (omega arith) i
+
+pub length-listOf : {A : Type 0} (f : ℕ → A) (n : ℕ) → length (listOf f n) ≡ n
+unfolding listOf
+length-listOf f zero = refl
+length-listOf f (suc n) = length-append (listOf f n) (f n ∷ []) ∙ rw (length-listOf f n) (omega arith)
+
+-- what stands at a number, and so whatever follows the list
+pub getD-listOf : {A : Type 0} (f : ℕ → A) (n k : ℕ) (d : A) → k < n → getD (listOf f n) k d ≡ f k
+unfolding listOf
+getD-listOf f zero k d h = absurd (not-suc-le-zero h)
+getD-listOf f (suc n) k d h = go (eq-or-lt-of-le (le-of-suc-le-suc h)) (λ l. getD-listOf f n k d l)
+  where
+    go : (k ≡ n) ⊎ (k < n) → (k < n → getD (listOf f n) k d ≡ f k) → getD (listOf f n ++ (f n ∷ [])) k d ≡ f k
+    go (inl e) below = getD-at (listOf f n) (f n) [] d k (length-listOf f n ∙ sym e) ∙ ap f (sym e)
+    go (inr l) below = List·getD-append (listOf f n) (f n ∷ []) d k (omega (arith, length-listOf f n)) ∙ below l
+
+pub at-number : {A : Type 0} (f : ℕ → A) (n k : ℕ) (rest : List A) (d : A) → k < n → getD (listOf f n ++ rest) k d ≡ f k
+at-number f n k rest d h = List·getD-append (listOf f n) rest d k (omega (arith, length-listOf f n)) ∙ getD-listOf f n k d h
+
+-- none of sixteen is filled yet
+pub none-yet : {A : Type 0} (f : ℕ → A) (d : A) → replicate 16 d ≡ listOf f 0 ++ replicate (16 - 0) d
+unfolding listOf
+none-yet f d = refl
+
+-- a turn of a loop that fills m places, of which i are filled
+pub filled : {A : Type 0} (f : ℕ → A) (d : A) (m i : ℕ) (l : List A) → i < m → l ≡ listOf f i ++ replicate (m - i) d → set l i (f i) ≡ listOf f (i + 1) ++ replicate (m - (i + 1)) d
+unfolding listOf
+filled {A} f d m i l h e =
+    let r : replicate (m - i) d ≡ d ∷ replicate (m - (i + 1)) d = ap (λ (n : ℕ). replicate n d) (less m i h) in
+    ap (λ (x : List A). set x i (f i)) (e ∙ ap (λ (x : List A). listOf f i ++ x) r)
+    ∙ set-at (listOf f i) d (replicate (m - (i + 1)) d) (f i) i (length-listOf f i)
+    ∙ sym (ap (λ (n : ℕ). listOf f n ++ replicate (m - (i + 1)) d) (add-one i) ∙ append-snoc (listOf f i) (f i) (replicate (m - (i + 1)) d))
+  where
+    less : (m i : ℕ) → i < m → m - i ≡ suc (m - (i + 1))
+    less m i h = omega arith

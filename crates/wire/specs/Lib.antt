@@ -1,4 +1,5 @@
 -- What the images, the sheet and the texts share, as definitions. Read from the top.
+pub mod Lists
 pub mod Outcome
 pub mod Field
 pub mod Number

@@ -4,6 +4,7 @@ ghost use mathlib.Core.Path.{_≡_};
 ghost use mathlib.Core.Bool.{cond};
 ghost use mathlib.Core.List.{[], _∷_, _++_};
 ghost use Prim.Native.Nat.{_<_, _≤_, _^_, _/_, min};
+ghost use lib.ListN.{getD};
 ghost use Rattle.wire.specs.Field.{bit, flagAt};
 ghost use Rattle.wire.specs.Number.{littleAt, littleOf, bigAt};
 ghost use Rattle.wire.specs.Room.{over, InRoom, textIn};
@@ -31,6 +32,16 @@ pub fn wide(x: u8) -> usize
     ensures { λ r. ⌜ (r ≡ x) × (r ≤ 255) ⌝ }
 {
     x as usize
+}
+
+// A byte of a slice, 0 past its end.
+pub fn byte_at(bytes: &[u8], at: usize) -> u8
+    ensures { λ r. ⌜ r ≡ getD (now (bytes .entry)) at 0 ⌝ }
+{
+    if at < bytes.len() {
+        return bytes[at];
+    }
+    0
 }
 
 // Two bytes as a number, the low one first.

@@ -6,9 +6,9 @@ use Prim.Native.Nat.{ℕ, _+_, _≤_}
 use native.Mathlib.Omega.{arith}
 use borrow.Author.Needs.{needs}
 use Rattle.fmmu.specs.declared.Fmmu.{Fmmu}
-use Rattle.direction.specs.declared.PdoDirection.{PdoDirection}
-use Rattle.direction.specs.declared.PdoDirection.the-variants.{MasterRead, MasterWrite}
-use Rattle.direction.specs.Direction.{isRead, isWrite}
+use Rattle.pdo.specs.declared.PdoDirection.{PdoDirection}
+use Rattle.pdo.specs.declared.PdoDirection.the-variants.{MasterRead, MasterWrite}
+use Rattle.pdo.specs.Direction.{isRead, isWrite}
 use Rattle.entries.specs.Entries.{mapped, grown}
 use Rattle.entries.proofs.laid_entry.Statement.{statement}
 use Rattle.entries.proofs.laid_entry.Tie as tie

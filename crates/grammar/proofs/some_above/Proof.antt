@@ -8,8 +8,8 @@ use denote.Ref.{now}
 use lib.ListN.{length, getD}
 use lib.Dec.{ltb}
 use borrow.Author.Tests.{lt-ltb, le-ltb}
-use Rattle.grammar.specs.Lists.{someBelow}
-use Rattle.grammar.proofs.Lists.{some-hit, some-miss}
+use Rattle.wire.specs.Lists.{someBelow}
+use Rattle.wire.proofs.Lists.{some-hit, some-miss}
 use Rattle.grammar.proofs.some_above.Statement.{statement}
 use Rattle.grammar.proofs.some_above.Tie as tie
 

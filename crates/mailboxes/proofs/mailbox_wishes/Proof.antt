@@ -7,10 +7,10 @@ use native.Mathlib.Nat.{min-le-right}
 use native.Mathlib.Omega.{arith}
 use lib.ListN.{length, getD, take, set, replicate}
 use Rattle.pdi.specs.declared.ByteLen.{ByteLen}
-use Rattle.grammar.specs.Lists.{listOf}
+use Rattle.wire.specs.Lists.{listOf}
 use Rattle.sheet.specs.Sheet.{noManager}
 use Rattle.sheet.specs.declared.SyncManager.{SyncManager}
-use Rattle.grammar.proofs.Lists as lists
+use Rattle.wire.proofs.Lists as lists
 use Rattle.channels.specs.declared.Wish.{Wish}
 use Rattle.channels.specs.Channels.{noWish}
 use Rattle.mailboxes.specs.MailboxWishes.{mailboxWish, mailboxWishes}

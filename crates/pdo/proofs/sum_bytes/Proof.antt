@@ -5,7 +5,7 @@ use Prim.Native.Nat.{_+_, _-_, _*_, _≤_}
 use native.Mathlib.Omega.{arith}
 use lib.ListN.{length, drop}
 use denote.Ref.{now}
-use Rattle.sheet.specs.Sound.{sum}
+use Rattle.wire.specs.Lists.{sum}
 use Rattle.pdo.proofs.Part.{sum-turn, sum-end}
 use Rattle.pdo.proofs.sum_bytes.Statement.{statement}
 use Rattle.pdo.proofs.sum_bytes.Tie as tie

@@ -7,7 +7,7 @@ use native.Mathlib.Omega.{arith}
 use denote.Ref.{now}
 use Rattle.wire.specs.Outcome.{accepted}
 use Rattle.channel_bytes.specs.Bytes.{controlAt}
-use Rattle.grammar.specs.Lists.{listOf, someBelow}
+use Rattle.wire.specs.Lists.{listOf, someBelow}
 use Rattle.sheet.specs.Sheet.{managerPlace, unnamedAt, managersOf, readManager, managerReadOf}
 use Rattle.sheet.proofs.Named.{managers-on, managers-named, managers-stop, managers-end}
 use borrow.Author.Needs.{needs}

@@ -8,7 +8,7 @@ use denote.Ref.{now}
 use borrow.Author.Tests.{eq-eqb, ne-eqb}
 use Rattle.wire.specs.Outcome.{refused, when, decide}
 use Rattle.sheet.specs.Sheet.{wrongLength, someUnnamed, deviceOf}
-use Rattle.sheet_length.proofs.Length.{long}
+use Rattle.grammar.proofs.Length.{long}
 use Rattle.sheet.proofs.Reading.{reads-as}
 use Rattle.sheet.proofs.read.Statement.{statement}
 use Rattle.sheet.proofs.read.Tie as tie

@@ -5,9 +5,9 @@ use Prim.Native.Nat.{ℕ, _+_, _-_, _≤_}
 use native.Mathlib.Omega.{arith}
 use denote.Ref.{now}
 use lib.ListN.{getD}
-use Rattle.grammar.specs.Lists.{listOf}
+use Rattle.wire.specs.Lists.{listOf}
 use Rattle.sheet.specs.Sheet.{usagesOf}
-use Rattle.grammar.proofs.Lists.{filled}
+use Rattle.wire.proofs.Lists.{filled}
 use Rattle.sheet.proofs.usages_of.Statement.{statement}
 use Rattle.sheet.proofs.usages_of.Tie as tie
 

@@ -5,7 +5,7 @@ use Prim.Native.Nat.{_+_, _-_, _≤_}
 use native.Mathlib.Omega.{arith}
 use denote.Ref.{now}
 use lib.ListN.{drop}
-use Rattle.pdo.specs.Bits.{someOf}
+use Rattle.wire.specs.Lists.{someOf}
 use Rattle.pdo.proofs.Some.{some-here, some-not-here}
 use Rattle.translation.specs.Translate.{odd}
 use Rattle.translation.proofs.Saying.{entries, next, none-left}

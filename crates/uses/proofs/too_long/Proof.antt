@@ -8,7 +8,7 @@ use mathlib.Core.Bool.{false}
 use Prim.Native.Nat.{_-_, _≤_}
 use native.Mathlib.Omega.{arith}
 use denote.Ref.{now}
-use Rattle.grammar.specs.Lists.{someBelow}
+use Rattle.wire.specs.Lists.{someBelow}
 use Rattle.area.specs.Area.{areaOf, entriesOf}
 use Rattle.uses.specs.Use.{mappedUses}
 use Rattle.uses.proofs.Sums.{long, none-below, long-found, long-next, long-is, long-none}

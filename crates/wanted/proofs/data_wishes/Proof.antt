@@ -13,10 +13,10 @@ use Rattle.wire.specs.Outcome.{refused, accepted, when, decide}
 use Rattle.wire.proofs.Order.{passed-answer}
 use Rattle.pdi.specs.Unit.{tooManyBits}
 use Rattle.pdi.specs.declared.BitLen.{BitLen}
-use Rattle.grammar.specs.Lists.{listOf}
+use Rattle.wire.specs.Lists.{listOf}
 use Rattle.sheet.specs.Sheet.{noManager}
 use Rattle.sheet.specs.declared.SyncManager.{SyncManager}
-use Rattle.grammar.proofs.Lists as lists
+use Rattle.wire.proofs.Lists as lists
 use Rattle.channels.specs.declared.Wish.{Wish}
 use Rattle.channels.specs.Channels.{noWish}
 use Rattle.pdo.specs.Bits.{piecesFrom}

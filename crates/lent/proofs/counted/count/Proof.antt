@@ -43,11 +43,11 @@ use Rattle.pdi.specs.declared.PdiOffset.{PdiOffset}
 use Rattle.pdi.proofs.PdiOffset as P
 use Rattle.pdi.proofs.PdiOffset.Laws as P′
 use Rattle.pdo.specs.declared.Oversampling.{Oversampling}
-use Rattle.direction.specs.declared.PdoDirection.{PdoDirection}
+use Rattle.pdo.specs.declared.PdoDirection.{PdoDirection}
 use Rattle.pdo.specs.Bits.{multipliersOf}
 use Rattle.pdo.proofs.Oversampling as O
-use Rattle.direction.proofs.PdoDirection as D
-use Rattle.direction.proofs.PdoDirection.Laws as D′
+use Rattle.pdo.proofs.PdoDirection as D
+use Rattle.pdo.proofs.PdoDirection.Laws as D′
 use Rattle.oversampling.specs.declared.Indexes.{Indexes}
 use Rattle.oversampling.specs.Multipliers.{indexesFor, multipliersIn}
 use Rattle.oversampling.proofs.Indexes as I

@@ -52,12 +52,12 @@ use Rattle.pdi.specs.declared.PdiOffset.{PdiOffset}
 use Rattle.pdi.proofs.PdiOffset as P
 use Rattle.pdi.proofs.PdiOffset.Laws as P′
 use Rattle.pdo.specs.declared.Oversampling.{Oversampling}
-use Rattle.direction.specs.declared.PdoDirection.{PdoDirection}
+use Rattle.pdo.specs.declared.PdoDirection.{PdoDirection}
 use Rattle.pdo.specs.Bits.{multipliersOf}
 use Rattle.pdo.proofs.Oversampling as O
 use Rattle.pdo.proofs.Oversampling.Laws as O′
-use Rattle.direction.proofs.PdoDirection as D
-use Rattle.direction.proofs.PdoDirection.Laws as D′
+use Rattle.pdo.proofs.PdoDirection as D
+use Rattle.pdo.proofs.PdoDirection.Laws as D′
 use Rattle.counting.specs.declared.Counted.{Counted}
 use Rattle.counting.specs.Count as meaning
 use Rattle.counting.specs.Count.{countedOf}

@@ -50,7 +50,7 @@ use Rattle.passes.specs.Pass.{Passes}
 use Rattle.pdi.specs.declared.PdiOffset.{PdiOffset}
 use Rattle.pdi.specs.declared.Placed.{Placed}
 use Rattle.pdo.specs.declared.Oversampling.{Oversampling}
-use Rattle.direction.specs.declared.PdoDirection.{PdoDirection}
+use Rattle.pdo.specs.declared.PdoDirection.{PdoDirection}
 use Rattle.oversampling.specs.declared.Indexes.{Indexes}
 use Rattle.entries.specs.declared.Place.{Place}
 use Rattle.passes.specs.declared.Passed.{Passed}
@@ -60,8 +60,8 @@ use Rattle.pdi.proofs.PdiOffset.Laws as T′
 use Rattle.pdi.proofs.Placed as Q
 use Rattle.pdi.proofs.Placed.Laws as Q′
 use Rattle.pdo.proofs.Oversampling as O
-use Rattle.direction.proofs.PdoDirection as D
-use Rattle.direction.proofs.PdoDirection.Laws as D′
+use Rattle.pdo.proofs.PdoDirection as D
+use Rattle.pdo.proofs.PdoDirection.Laws as D′
 use Rattle.oversampling.proofs.Indexes as I
 use Rattle.oversampling.proofs.Indexes.Laws as I′
 use Rattle.entries.proofs.Place as P

@@ -53,7 +53,7 @@ use Rattle.passes.specs.Pass.{Passes}
 use Rattle.pdi.specs.declared.PdiOffset.{PdiOffset}
 use Rattle.pdi.specs.declared.Placed.{Placed}
 use Rattle.pdo.specs.declared.Oversampling.{Oversampling}
-use Rattle.direction.specs.declared.PdoDirection.{PdoDirection}
+use Rattle.pdo.specs.declared.PdoDirection.{PdoDirection}
 use Rattle.entries.specs.declared.Place.{Place}
 use Rattle.passes.specs.declared.Passed.{Passed}
 use Rattle.pdi.proofs.PdiOffset as T
@@ -62,8 +62,8 @@ use Rattle.pdi.proofs.Placed as Q
 use Rattle.pdi.proofs.Placed.Laws as Q′
 use Rattle.pdo.proofs.Oversampling as O
 use Rattle.pdo.proofs.Oversampling.Laws as O′
-use Rattle.direction.proofs.PdoDirection as D
-use Rattle.direction.proofs.PdoDirection.Laws as D′
+use Rattle.pdo.proofs.PdoDirection as D
+use Rattle.pdo.proofs.PdoDirection.Laws as D′
 use Rattle.entries.proofs.Place as P
 use Rattle.entries.proofs.Place.Laws as P′
 use Rattle.passes.proofs.Passed as S

@@ -1,12 +1,12 @@
--- `sheet_length::wrong_length`: the test that led to each return says which part of the length's rule is broken.
+-- `grammar::wrong_length`: the test that led to each return says which part of the length's rule is broken.
 -- Assumes nothing.
 use mathlib.Core.Path.{_≡_, sym}
 use native.Mathlib.Omega.{arith}
 use denote.Ref.{now}
-use Rattle.sheet_length.specs.Length.{follow}
-use Rattle.sheet_length.proofs.Length.{short, other-length, too-low, only-high}
-use Rattle.sheet_length.proofs.wrong_length.Statement.{statement}
-use Rattle.sheet_length.proofs.wrong_length.Tie as tie
+use Rattle.grammar.specs.Length.{follow}
+use Rattle.grammar.proofs.Length.{short, other-length, too-low, only-high}
+use Rattle.grammar.proofs.wrong_length.Statement.{statement}
+use Rattle.grammar.proofs.wrong_length.Tie as tie
 
 returns : tie.Need-returns
 returns c = sym (short (now (c .before .before .args .sheet)) (c .if1 .taken))

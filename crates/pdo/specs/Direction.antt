@@ -2,9 +2,9 @@
 -- Assumes nothing.
 use mathlib.Core.Bool.{Bool, true, false}
 use Prim.Native.Nat.{ℕ}
-use Rattle.direction.specs.declared.PdoDirection.{PdoDirection}
-use Rattle.direction.specs.declared.Terms.{Terms}
-use Rattle.direction.specs.declared.PdoDirection.the-variants.{MasterRead, MasterWrite}
+use Rattle.pdo.specs.declared.PdoDirection.{PdoDirection}
+use Rattle.pdo.specs.declared.Terms.{Terms}
+use Rattle.pdo.specs.declared.PdoDirection.the-variants.{MasterRead, MasterWrite}
 
 abbrev pub usageOf : PdoDirection → ℕ
 usageOf MasterRead = 4

@@ -8,7 +8,7 @@ use native.Mathlib.Omega.{arith}
 use lib.ListN.{length}
 use lib.Dec.{eqb, ltb}
 use borrow.Author.Tests.{eq-eqb, ne-eqb, lt-ltb, le-ltb, ltb-true, ltb-false, eqb-true, eqb-false}
-use Rattle.sheet_length.specs.Length.{follow, wrongLength}
+use Rattle.grammar.specs.Length.{follow, wrongLength}
 
 -- 2, as the code finds it: by one of its parts, or by the last after the others
 module _ (s : List ℕ) where

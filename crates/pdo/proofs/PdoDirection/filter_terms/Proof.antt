@@ -2,9 +2,9 @@
 -- Assumes nothing.
 use mathlib.Core.Path.{sym, ap}
 use borrow.Author.Needs.{needs}
-use Rattle.direction.specs.Direction.{termsOf}
-use Rattle.direction.proofs.PdoDirection.filter_terms.Statement.{statement}
-use Rattle.direction.proofs.PdoDirection.filter_terms.Tie as tie
+use Rattle.pdo.specs.Direction.{termsOf}
+use Rattle.pdo.proofs.PdoDirection.filter_terms.Statement.{statement}
+use Rattle.pdo.proofs.PdoDirection.filter_terms.Tie as tie
 
 enum-told : tie.Need-enum-told
 enum-told c = search needs

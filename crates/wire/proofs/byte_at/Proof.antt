@@ -4,8 +4,8 @@ use mathlib.Core.Path.{sym}
 use lib.ListN.{List·getD-eq-default}
 use denote.Ref.{now}
 use borrow.Author.Needs.{needs}
-use Rattle.pdo.proofs.byte_at.Statement.{statement}
-use Rattle.pdo.proofs.byte_at.Tie as tie
+use Rattle.wire.proofs.byte_at.Statement.{statement}
+use Rattle.wire.proofs.byte_at.Tie as tie
 
 shared-slice-read-result : tie.Need-shared-slice-read-result
 shared-slice-read-result c = search needs

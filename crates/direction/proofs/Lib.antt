@@ -1,2 +1,0 @@
--- The one law that belongs to no function.
-pub mod Unique

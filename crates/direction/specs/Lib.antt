@@ -1,2 +1,0 @@
--- What a direction takes.
-pub mod Direction
