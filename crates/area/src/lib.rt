@@ -45,3 +45,29 @@ pub fn store(entry: &[u8], area: &mut [u8], at: usize)
     let end = at + entry.len();
     wire::copy(entry, &mut area[at..end]);
 }
+
+// The sixteen FMMU entries of an area; all 0 where it isn't 256 bytes.
+pub fn load(area: &[u8]) -> [[u8; 16]; 16]
+{
+    let mut entries = [[0u8; 16]; 16];
+    let mut k = 0;
+    while k < 16 {
+        entries[k] = fmmu_at(area, k);
+        k += 1;
+    }
+    entries
+}
+
+// Writes sixteen FMMU entries over an area; one that isn't 256 bytes stays.
+pub fn store_all(entries: [[u8; 16]; 16], area: &mut [u8])
+{
+    if area.len() != 256 {
+        return;
+    }
+    let mut k = 0;
+    while k < 16 {
+        let e = entries[k];
+        store(&e, area, 16 * k);
+        k += 1;
+    }
+}

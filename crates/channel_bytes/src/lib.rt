@@ -2,7 +2,8 @@
 ghost use mathlib.Core.Path.{_≡_};
 ghost use mathlib.Core.List.{[], _∷_};
 ghost use Prim.Native.Nat.{_<_};
-ghost use Rattle.channel_bytes.specs.Bytes.{modeNumber, modeAt, directionNumber, directionAt, stateNumber, stateAt, controlByte, statusAt, statusByte, enableAt, enableLow, enableHigh, readControl, controlReadOf};
+ghost use Rattle.channel_bytes.specs.Bytes as meaning;
+ghost use Rattle.channel_bytes.specs.Bytes.{modeNumber, modeAt, directionNumber, directionAt, stateNumber, stateAt, controlAt, controlByte, statusAt, statusByte, enableAt, enableLow, enableHigh, readControl, controlReadOf};
 
 // ETG1000.4 6.7.2, byte 4.
 pub struct Control {
@@ -130,28 +131,41 @@ fn direction_at(number: u8) -> Direction
 }
 
 impl Control {
+    // Whether a byte's mode or direction has no name.
+    pub fn unnamed(byte: u8) -> bool
+        ensures { λ r. ⌜ r ≡ meaning.unnamed byte ⌝ }
+    {
+        let mode = byte & 0x03;
+        if mode == 1 {
+            return true;
+        }
+        if mode == 3 {
+            return true;
+        }
+        1 < (byte >> 2) & 0x03
+    }
+
+    // The control that a byte says; a mode or a direction without a name reads as 0.
+    pub fn named(byte: u8) -> Control
+        ensures { λ r. ⌜ r ≡ controlAt byte ⌝ }
+    {
+        Control {
+            operation_mode: mode_at(byte & 0x03),
+            direction: direction_at((byte >> 2) & 0x03),
+            ecat_event_enable: wire::flag(byte, 4),
+            dls_user_event_enable: wire::flag(byte, 5),
+            watchdog_enable: wire::flag(byte, 6),
+        }
+    }
+
     // The control that a byte says, if its mode and direction have names.
     pub fn unpack(byte: u8) -> ControlRead
         ensures { λ r. ⌜ controlReadOf r ≡ readControl byte ⌝ }
     {
-        let mode = byte & 0x03;
-        let direction = (byte >> 2) & 0x03;
-        if mode == 1 {
+        if Control::unnamed(byte) {
             return ControlRead::Refused(5);
         }
-        if mode == 3 {
-            return ControlRead::Refused(5);
-        }
-        if direction > 1 {
-            return ControlRead::Refused(5);
-        }
-        ControlRead::Named(Control {
-            operation_mode: mode_at(mode),
-            direction: direction_at(direction),
-            ecat_event_enable: wire::flag(byte, 4),
-            dls_user_event_enable: wire::flag(byte, 5),
-            watchdog_enable: wire::flag(byte, 6),
-        })
+        ControlRead::Named(Control::named(byte))
     }
 
     // The byte of a control; its reserved bit is 0.

@@ -11,12 +11,6 @@ use sync_manager_channel::Enable;
 use sync_manager_channel::Status;
 use sync_manager_channel::SyncManagerChannel;
 
-// Whether a sync manager is to be written, and with which size.
-pub struct Wish {
-    pub on: bool,
-    pub size: ByteLen,
-}
-
 // The channel of a sync manager of a given size: enabled only if the sheet says so and there is something to map.
 pub fn sm_config(manager: SyncManager, size: ByteLen) -> SyncManagerChannel
     ensures { λ r. ⌜ r ≡ channelFor manager (size .0) ⌝ }
@@ -45,29 +39,25 @@ pub fn sm_config(manager: SyncManager, size: ByteLen) -> SyncManagerChannel
     }
 }
 
-// Writes a sync manager's image into its entry, if that is wished.
-fn write_channel(area: &mut [u8], k: usize, manager: SyncManager, wish: Wish)
-    requires { ⌜ (length (now area) ≡ 128) × (k < 16) ⌝ }
-    ensures { λ _. ⌜ (length (now (area .exit)) ≡ 128) × (entriesOf 8 (now (area .exit)) ≡ written k manager (wishOf wish) (entriesOf 8 (now (area .entry)))) ⌝ }
-{
-    if wish.on {
-        let size = wish.size;
-        let image = sm_config(manager, size).pack();
-        area::store(&image, area, 8 * k);
-    }
-}
-
-// Writes the wished sync managers' images into a lent area, in rising number; all other bytes stay.
-pub fn write_channels(area: &mut [u8], managers: [SyncManager; 16], n: usize, wishes: [Wish; 16])
-    ensures { λ r. ⌜ now (area .exit) ≡ channelArea (take n managers) wishes (now (area .entry)) ⌝ }
+// Writes the image of a sheet's sync manager, with a size, into its entry; an area that isn't 128 bytes stays.
+pub fn write_channel(area: &mut [u8], sheet: &[u8], k: u8, size: ByteLen)
 {
     if area.len() != 128 {
         return;
     }
-    let count = wire::least(n, 16);
+    let image = sm_config(sheet::manager(sheet, k), size).pack();
+    area::store(&image, area, 8 * wire::wide(k));
+}
+
+// Writes the images of the sync managers of a usage, each with its size, in rising number; all other bytes stay.
+pub fn write_channels(area: &mut [u8], sheet: &[u8], usage: u8, sizes: [ByteLen; 16])
+{
+    let n = grammar::manager_count(sheet);
     let mut k = 0;
-    while k < count {
-        write_channel(area, k, managers[k], wishes[k]);
+    while k < n && k < 16 {
+        if sheet::usage_of(sheet, k) == usage {
+            write_channel(area, sheet, k, sizes[wire::wide(k)]);
+        }
         k += 1;
     }
 }

@@ -10,7 +10,6 @@ ghost use Rattle.area.specs.Area.{entriesOf};
 ghost use Rattle.uses.specs.Use.{usesFrom, useFrom, mappedUses, total};
 ghost use Rattle.uses.specs.Length.{lengthOf, lengthNow, tooLong};
 ghost use Rattle.entries.specs.Entries.{laid, withUse, plan, WritesEntries};
-use channels::Wish;
 use fmmu::Fmmu;
 use pdi::ByteLen;
 use pdi::Moved;
@@ -18,10 +17,8 @@ use pdi::PdiOffset;
 use pdi::PdiSegment;
 use pdi::Placed;
 use pdo::PdoDirection;
-use sheet::SyncManager;
-use uses::Mapping;
-use uses::Mappings;
-use uses::Route;
+use sheet::Answer;
+use wanted::Route;
 
 // What writing the entries answers: the segment, counted from the group start, and the next offset.
 pub enum Configured {
@@ -35,56 +32,6 @@ pub struct Place {
     pub group: u32,
 }
 
-// Writes the entries of a pass into a lent FMMU area, or refuses with 8, 9 or 10 and writes nothing.
-pub fn write_entries(
-    area: &mut [u8],
-    managers: [SyncManager; 16],
-    n: usize,
-    wishes: [Wish; 16],
-    route: Route,
-    place: Place,
-    direction: PdoDirection,
-) -> Configured
-    ensures { λ r. ⌜ WritesEntries (usesFrom route wishes 0 (take n managers)) direction (place .offset .«start_address») (place .group) (now (area .entry)) r (now (area .exit)) ⌝ }
-{
-    if area.len() != 256 {
-        return Configured::Refused(1);
-    }
-    let mappings = uses::mappings_of(managers, n, wishes, route);
-    if uses::too_long(area, mappings) {
-        return Configured::Refused(8);
-    }
-    let offset = place.offset;
-    match end_of(mappings, offset) {
-        Moved::To(next) => match offset.up_to(next).less(place.group) {
-            Placed::Segment(segment) => {
-                lay(area, mappings, offset, direction);
-                Configured::Mapped(segment, next)
-            }
-            Placed::Refused(number) => Configured::Refused(number),
-        },
-        Moved::Refused(number) => Configured::Refused(number),
-    }
-}
-
-// Where they end, laid one after another from the offset on; or 9.
-fn end_of(mappings: Mappings, offset: PdiOffset) -> Moved
-    requires { ⌜ (mappings .count ≤ 16) × (length (mappings .list) ≡ 16) ⌝ }
-    ensures { λ r. ⌜ movedOf r ≡ incremented (offset .«start_address») (total (mappedUses mappings)) ⌝ }
-{
-    let mut next = offset;
-    let mut j = 0;
-    while j < mappings.count {
-        let m = mappings.list[j];
-        match next.increment(m.size) {
-            Moved::To(o) => next = o,
-            Moved::Refused(number) => return Moved::Refused(number),
-        }
-        j += 1;
-    }
-    Moved::To(next)
-}
-
 // Whether the direction is the reading one.
 fn reads(direction: PdoDirection) -> bool
     ensures { λ r. ⌜ r ≡ isRead direction ⌝ }
@@ -95,24 +42,34 @@ fn reads(direction: PdoDirection) -> bool
     }
 }
 
-// What an entry becomes: an enabled one only has the size added, a disabled one is made new.
-fn laid_entry(before: Fmmu, mapping: Mapping, offset: PdiOffset, direction: PdoDirection) -> Fmmu
-    requires { ⌜ lengthOf before + mapping .size .0 ≤ 65535 ⌝ }
-    ensures { λ r. ⌜ r ≡ laid direction (offset .«start_address») (useFrom mapping) before ⌝ }
+// An entry with a size laid on it, or 8 where it would grow past 65,535 bytes.
+enum Grown {
+    To(Fmmu),
+    Refused(u8),
+}
+
+// An enabled entry only has the size added.
+fn grown(before: Fmmu, size: ByteLen) -> Grown
 {
-    if before.enable {
-        let length = ByteLen(before.length_bytes.0 + mapping.size.0);
-        let mut grown = before;
-        grown.length_bytes = length;
-        return grown;
+    let length = (before.length_bytes.0 as u32) + (size.0 as u32);
+    if 65535 < length {
+        return Grown::Refused(8);
     }
+    let mut after = before;
+    after.length_bytes = ByteLen(length as u16);
+    Grown::To(after)
+}
+
+// A disabled entry is made new.
+fn mapped(start: u32, size: ByteLen, at: u16, direction: PdoDirection) -> Fmmu
+{
     let read = reads(direction);
     Fmmu {
-        logical_start_address: offset.start_address,
-        length_bytes: ByteLen(mapping.size.0),
+        logical_start_address: start,
+        length_bytes: size,
         logical_start_bit: 0,
         logical_end_bit: 7,
-        physical_start_address: mapping.at,
+        physical_start_address: at,
         physical_start_bit: 0,
         read_enable: read,
         write_enable: !read,
@@ -120,34 +77,104 @@ fn laid_entry(before: Fmmu, mapping: Mapping, offset: PdiOffset, direction: PdoD
     }
 }
 
-// Lays one sync manager into its entry; a number past the last one is no entry.
-fn lay_one(area: &mut [u8], mapping: Mapping, offset: PdiOffset, direction: PdoDirection)
-    requires { ⌜ (length (now area) ≡ 256) × (mapping .entry < 16 → lengthNow (getD (entriesOf 16 (now area)) (mapping .entry) []) + mapping .size .0 ≤ 65535) ⌝ }
-    ensures { λ _. ⌜ (length (now (area .exit)) ≡ 256) × (entriesOf 16 (now (area .exit)) ≡ withUse direction (offset .«start_address») (useFrom mapping) (entriesOf 16 (now (area .entry)))) ⌝ }
+fn laid_entry(image: [u8; 16], start: u32, size: ByteLen, at: u16, direction: PdoDirection) -> Grown
 {
-    let e = mapping.entry;
-    if e < 16 {
-        let image = area::fmmu_at(area, e);
-        let before = Fmmu::unpack(image);
-        let after = laid_entry(before, mapping, offset, direction).pack();
-        area::store(&after, area, 16 * e);
+    let before = Fmmu::unpack(image);
+    if before.enable {
+        return grown(before, size);
+    }
+    Grown::To(mapped(start, size, at, direction))
+}
+
+// Where the sync managers end that are laid, exactly; or 8.
+enum Laid {
+    End(u64),
+    Refused(u8),
+}
+
+// Lays one sync manager into its entry; a number past the last one is no entry.
+fn lay_one(entries: &mut [[u8; 16]; 16], e: usize, start: u32, size: ByteLen, at: u16, direction: PdoDirection) -> Answer
+{
+    if 15 < e {
+        return Answer::Accepted;
+    }
+    let image = entries[e];
+    match laid_entry(image, start, size, at, direction) {
+        Grown::To(entry) => {
+            entries[e] = entry.pack();
+            Answer::Accepted
+        }
+        Grown::Refused(number) => Answer::Refused(number),
     }
 }
 
-// Lays the sync managers one after another into the entries, from the offset on.
-fn lay(area: &mut [u8], mappings: Mappings, offset: PdiOffset, direction: PdoDirection)
-    requires { ⌜ (mappings .count ≤ 16) × (length (mappings .list) ≡ 16) × (length (now area) ≡ 256) × (tooLong (mappedUses mappings) (entriesOf 16 (now area)) ≡ false) × (offset .«start_address» + total (mappedUses mappings) ≤ 4294967295) ⌝ }
-    ensures { λ _. ⌜ (length (now (area .exit)) ≡ 256) × (entriesOf 16 (now (area .exit)) ≡ plan direction (offset .«start_address») (mappedUses mappings) (entriesOf 16 (now (area .entry)))) ⌝ }
+// Lays the sync managers of the direction one after another into the entries, from the offset on.
+fn lay(
+    entries: &mut [[u8; 16]; 16],
+    sheet: &[u8],
+    sizes: [ByteLen; 16],
+    route: Route,
+    offset: PdiOffset,
+    direction: PdoDirection,
+) -> Laid
 {
-    let mut next = offset.start_address;
-    let mut j = 0;
-    while j < mappings.count {
-        let m = mappings.list[j];
-        let here = PdiOffset {
-            start_address: next,
-        };
-        lay_one(area, m, here, direction);
-        next = next + (m.size.0 as u32);
-        j += 1;
+    let usage = direction.filter_terms().usage;
+    let n = grammar::manager_count(sheet);
+    let mut end = offset.start_address as u64;
+    let mut k = 0;
+    while k < n && k < 16 {
+        if sheet::usage_of(sheet, k) == usage {
+            let size = sizes[wire::wide(k)];
+            if route.takes(size) {
+                // 9 is judged after 8: until then the start may be past the last address
+                let start = (end % 0x1_0000_0000) as u32;
+                let e = wire::wide(route.entry_of(k));
+                if let Answer::Refused(number) = lay_one(entries, e, start, size, sheet::start_of(sheet, k), direction) {
+                    return Laid::Refused(number);
+                }
+                end += size.0 as u64;
+            }
+        }
+        k += 1;
+    }
+    Laid::End(end)
+}
+
+// Where a pass ends, counted from the group start: 9, then 10.
+fn segment_to(end: u64, place: Place) -> Configured
+{
+    let offset = place.offset;
+    match PdiOffset::at(end) {
+        Moved::To(next) => match offset.up_to(next).less(place.group) {
+            Placed::Segment(segment) => Configured::Mapped(segment, next),
+            Placed::Refused(number) => Configured::Refused(number),
+        },
+        Moved::Refused(number) => Configured::Refused(number),
+    }
+}
+
+// Writes the entries of a pass into a lent FMMU area, or refuses with 1, 8, 9 or 10 and writes nothing.
+pub fn write_entries(
+    area: &mut [u8],
+    sheet: &[u8],
+    sizes: [ByteLen; 16],
+    route: Route,
+    place: Place,
+    direction: PdoDirection,
+) -> Configured
+{
+    if area.len() != 256 {
+        return Configured::Refused(1);
+    }
+    let mut entries = area::load(area);
+    match lay(&mut entries, sheet, sizes, route, place.offset, direction) {
+        Laid::End(end) => {
+            let answer = segment_to(end, place);
+            if let Configured::Mapped(_, _) = answer {
+                area::store_all(entries, area);
+            }
+            answer
+        }
+        Laid::Refused(number) => Configured::Refused(number),
     }
 }

@@ -5,7 +5,7 @@ ghost use lib.ListN.{length, getD};
 ghost use lib.Dec.{ltb};
 ghost use Rattle.wire.specs.Lists.{someBelow};
 ghost use Rattle.grammar.specs.Length.{wrongLength};
-ghost use Rattle.grammar.specs.Grammar.{kindFits, pdosFit, broken};
+ghost use Rattle.grammar.specs.Grammar.{managerCount, usageCount, pdoCount, managerPlace, usagesPlace, pdosPlace, kindFits, pdosFit, broken};
 
 // 2: whether the length is wrong.
 pub fn wrong_length(sheet: &[u8]) -> bool
@@ -24,6 +24,46 @@ pub fn wrong_length(sheet: &[u8]) -> bool
     16384 < follow
 }
 
+// 8: how many sync managers; 9: how many FMMU usages; 10: how many PDOs.
+pub fn manager_count(sheet: &[u8]) -> u8
+    ensures { λ r. ⌜ r ≡ managerCount (now (sheet .entry)) ⌝ }
+{
+    wire::byte_at(sheet, 8)
+}
+
+pub fn usage_count(sheet: &[u8]) -> u8
+    ensures { λ r. ⌜ r ≡ usageCount (now (sheet .entry)) ⌝ }
+{
+    wire::byte_at(sheet, 9)
+}
+
+pub fn pdo_count(sheet: &[u8]) -> u8
+    ensures { λ r. ⌜ r ≡ pdoCount (now (sheet .entry)) ⌝ }
+{
+    wire::byte_at(sheet, 10)
+}
+
+// Where the sync manager with a number stands.
+pub fn manager_place(k: u8) -> usize
+    ensures { λ r. ⌜ (r ≡ managerPlace k) × (r ≤ 1286) ⌝ }
+{
+    11 + 5 * wire::wide(k)
+}
+
+// Where the FMMU usages stand.
+pub fn usages_place(sheet: &[u8]) -> usize
+    ensures { λ r. ⌜ (r ≡ usagesPlace (now (sheet .entry))) × (r ≤ 1286) ⌝ }
+{
+    manager_place(manager_count(sheet))
+}
+
+// Where the PDOs stand.
+pub fn pdos_place(sheet: &[u8]) -> usize
+    ensures { λ r. ⌜ (r ≡ pdosPlace (now (sheet .entry))) × (r ≤ 1541) ⌝ }
+{
+    usages_place(sheet) + wire::wide(usage_count(sheet))
+}
+
 // 4: whether another rule is broken that bytes alone decide. A sheet that ends before its counts breaks one.
 pub fn rule_broken(sheet: &[u8]) -> bool
     ensures { λ r. ⌜ r ≡ broken (now (sheet .entry)) ⌝ }
@@ -31,9 +71,8 @@ pub fn rule_broken(sheet: &[u8]) -> bool
     if sheet.len() < 11 {
         return true;
     }
-    let n = wire::wide(sheet[8]);
-    let f = wire::wide(sheet[9]);
-    let p = wire::wide(sheet[10]);
+    let n = manager_count(sheet);
+    let f = usage_count(sheet);
     if 7 < sheet[3] {
         return true;
     }
@@ -43,18 +82,18 @@ pub fn rule_broken(sheet: &[u8]) -> bool
     if 16 < f {
         return true;
     }
-    let usages = 11 + 5 * n;
-    let pdos = usages + f;
+    let usages = usages_place(sheet);
+    let pdos = pdos_place(sheet);
     if sheet.len() < pdos {
         return true;
     }
-    if some_above(sheet, 15, 5, n, 4) {
+    if some_above(sheet, 15, 5, wire::wide(n), 4) {
         return true;
     }
-    if some_above(sheet, usages, 1, f, 3) {
+    if some_above(sheet, usages, 1, wire::wide(f), 3) {
         return true;
     }
-    !pdos_fit(sheet, p, pdos)
+    !pdos_fit(sheet, wire::wide(pdo_count(sheet)), pdos)
 }
 
 // Whether some byte of a row is above its limit: `count` bytes from `at` on, `step` apart.
@@ -74,24 +113,22 @@ fn some_above(sheet: &[u8], at: usize, step: usize, count: usize, limit: u8) -> 
 
 // Whether p PDO records stand from `at` on, none past the end and nothing after the last one.
 fn pdos_fit(sheet: &[u8], p: usize, at: usize) -> bool
-    requires { ⌜ at ≤ length (now sheet) ⌝ }
+    requires { ⌜ (5 ≤ length (now sheet)) × (at ≤ length (now sheet)) ⌝ }
     ensures { λ r. ⌜ r ≡ pdosFit (now (sheet .entry)) p at ⌝ }
 {
+    // a head stands whole up to here; a record that ends past the sheet leaves none there, nor an end
+    let last = sheet.len() - 5;
     let mut left = p;
     let mut place = at;
     while 0 < left {
-        if sheet.len() < place + 5 {
+        if last < place {
             return false;
         }
         let m = sheet[place + 4];
-        let next = place + 5 + wire::wide(m);
-        if sheet.len() < next {
-            return false;
-        }
         if !kind_fits(sheet[place], m) {
             return false;
         }
-        place = next;
+        place = place + 5 + wire::wide(m);
         left -= 1;
     }
     place == sheet.len()
@@ -104,11 +141,8 @@ fn kind_fits(kind: u8, m: u8) -> bool
     if kind == 0 {
         return true;
     }
-    if kind == 1 {
-        return m == 2;
+    if 2 < kind {
+        return false;
     }
-    if kind == 2 {
-        return m == 2;
-    }
-    false
+    m == 2
 }

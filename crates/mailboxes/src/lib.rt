@@ -6,11 +6,8 @@ ghost use lib.ListN.{length, take};
 ghost use Rattle.sheet.specs.Device.{dataOf};
 ghost use Rattle.mailboxes.specs.MailboxWishes.{mailboxWish, mailboxWishes};
 ghost use Rattle.mailboxes.specs.Mailbox.{laterOf, lastOf, configOf, mailboxChannels, ConfiguresMailboxes};
-use channels::Wish;
 use pdi::ByteLen;
 use sheet::Answer;
-use sheet::Device;
-use sheet::SyncManager;
 
 // A mailbox: its device address, its size, its sync manager's number.
 pub struct Mailbox {
@@ -39,97 +36,42 @@ pub enum MailboxRead {
     Refused(u8),
 }
 
-const NO_WISH: Wish = Wish {
-    on: false,
-    size: ByteLen(0),
-};
-
-// Which sync managers the mailbox pass writes: usage 1 with the receive size, usage 2 with the send size.
-fn mailbox_wishes(
-    managers: [SyncManager; 16],
-    n: usize,
-    receive: ByteLen,
-    send: ByteLen,
-) -> [Wish; 16]
-    ensures { λ r. ⌜ r ≡ mailboxWishes (receive .0) (send .0) (take n managers) ⌝ }
+// The mailbox of the sync manager with a number.
+fn mailbox_at(sheet: &[u8], k: u8, size: ByteLen) -> Slot
 {
-    let mut list = [NO_WISH; 16];
-    let count = wire::least(n, 16);
-    let mut k = 0;
-    while k < count {
-        let m = managers[k];
-        list[k] = mailbox_wish(m.usage_type, receive, send);
-        k += 1;
-    }
-    list
-}
-
-fn mailbox_wish(usage: u8, receive: ByteLen, send: ByteLen) -> Wish
-    ensures { λ r. ⌜ r ≡ mailboxWish usage (receive .0) (send .0) ⌝ }
-{
-    if usage == 1 {
-        return Wish {
-            on: true,
-            size: receive,
-        };
-    }
-    if usage == 2 {
-        return Wish {
-            on: true,
-            size: send,
-        };
-    }
-    NO_WISH
-}
-
-// What is recorded after one more sync manager: itself if it has the usage, else what was recorded so far.
-fn later(before: Slot, manager: SyncManager, usage: u8, size: ByteLen, number: u8) -> Slot
-    ensures { λ r. ⌜ r ≡ laterOf usage (size .0) before number manager ⌝ }
-{
-    if manager.usage_type != usage {
-        return before;
-    }
     Slot::At(Mailbox {
-        address: manager.start_addr,
+        address: sheet::start_of(sheet, k),
         len: size,
-        sync_manager: number,
+        sync_manager: k,
     })
 }
 
-// The last sync manager with the usage, as a mailbox.
-fn last_of(managers: [SyncManager; 16], n: usize, usage: u8, size: ByteLen) -> Slot
-    ensures { λ r. ⌜ r ≡ lastOf usage (size .0) Slot.None 0 (take n managers) ⌝ }
+// The mailboxes of a sound sheet: recorded, and their sync managers written.
+fn mailboxes_of(sheet: &[u8], channels: &mut [u8]) -> MailboxConfig
 {
-    let mut found = Slot::None;
-    let count = wire::least(n, 16);
+    let receive = sheet::receive_size(sheet);
+    let send = sheet::send_size(sheet);
+    let n = grammar::manager_count(sheet);
+    let mut read = Slot::None;
+    let mut write = Slot::None;
     let mut k = 0;
-    while k < count {
-        found = later(found, managers[k], usage, size, k as u8);
+    while k < n {
+        let usage = sheet::usage_of(sheet, k);
+        if usage == 1 {
+            channels::write_channel(channels, sheet, k, receive);
+            write = mailbox_at(sheet, k, receive);
+        }
+        if usage == 2 {
+            channels::write_channel(channels, sheet, k, send);
+            read = mailbox_at(sheet, k, send);
+        }
         k += 1;
     }
-    found
-}
-
-// The mailboxes of a device that has some: recorded, and their sync managers written.
-fn mailboxes_of(device: Device, channels: &mut [u8]) -> MailboxConfig
-    requires { ⌜ (length (now channels) ≡ 128) × (device .«has_mailbox» ≡ true) ⌝ }
-    ensures { λ r. ⌜ (r ≡ configOf (dataOf device [])) × (now (channels .exit) ≡ mailboxChannels (dataOf device []) (now (channels .entry))) ⌝ }
-{
-    let managers = device.managers;
-    let n = device.n;
-    let receive = device.receive_size;
-    let send = device.send_size;
-    channels::write_channels(
-        channels,
-        managers,
-        n,
-        mailbox_wishes(managers, n, receive, send),
-    );
     MailboxConfig {
-        read: last_of(managers, n, 2, send),
-        write: last_of(managers, n, 1, receive),
-        has_coe: pdo::coe_on(device),
-        complete_access: device.complete_access,
+        read,
+        write,
+        has_coe: pdo::coe_on(sheet),
+        complete_access: sheet::complete_access(sheet),
     }
 }
 
@@ -140,13 +82,11 @@ pub fn configure_mailboxes(sheet: &[u8], channels: &mut [u8]) -> MailboxRead
     if channels.len() != 128 {
         return MailboxRead::Refused(1);
     }
-    let read = sheet::read(sheet);
-    let answer = read.answer;
-    if let Answer::Refused(number) = answer {
+    let sound = sheet::check(sheet);
+    if let Answer::Refused(number) = sound {
         return MailboxRead::Refused(number);
     }
-    let device = read.device;
-    if !device.has_mailbox {
+    if !sheet::has_mailbox(sheet) {
         return MailboxRead::Config(MailboxConfig {
             read: Slot::None,
             write: Slot::None,
@@ -154,5 +94,5 @@ pub fn configure_mailboxes(sheet: &[u8], channels: &mut [u8]) -> MailboxRead
             complete_access: false,
         });
     }
-    MailboxRead::Config(mailboxes_of(device, channels))
+    MailboxRead::Config(mailboxes_of(sheet, channels))
 }

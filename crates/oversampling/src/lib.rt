@@ -6,75 +6,50 @@ ghost use Rattle.pdo.specs.Bits.{multiplierOf};
 ghost use Rattle.oversampling.specs.Multipliers.{indexesOf, indexesFor, multipliersIn};
 use pdo::Oversampling;
 
-// The PDO indexes of a sheet, in its order: `count` of them, then 0.
-pub struct Indexes {
-    pub list: [u16; 255],
-    pub count: u8,
-}
-
 // The multiplier of the first record with the index, 1 where there is none.
 pub fn multiplier_of(table: &[Oversampling], index: u16) -> u8
     ensures { λ r. ⌜ r ≡ multiplierOf (now (table .entry)) index ⌝ }
 {
     let mut i = 0;
     while i < table.len() {
-        let r = table[i];
-        if r.pdo_index == index {
-            return r.multiplier;
+        if table[i].pdo_index == index {
+            return table[i].multiplier;
         }
         i += 1;
     }
     1
 }
 
-// The indexes of the p PDO records from `at` on; past the end they are 0.
-pub fn indexes_of(bytes: &[u8], at: usize, p: u8) -> Indexes
-    ensures { λ r. ⌜ r ≡ indexesOf (pdosFrom (now (bytes .entry)) p at) ⌝ }
-{
-    let mut list = [0u16; 255];
-    let mut place = at;
-    let mut i = 0;
-    let count = p as usize;
-    while i < count {
-        if bytes.len() <= place {
-            return Indexes { list, count: p };
-        }
-        list[i] = wire::be16(
-            wire::byte_at(bytes, place + 2),
-            wire::byte_at(bytes, place + 3),
-        );
-        place = place + 5 + wire::byte_at(bytes, place + 4) as usize;
-        i += 1;
-    }
-    Indexes { list, count: p }
-}
-
-// Those of a sheet, accepted or not: its three counts say where its PDOs stand. A table without records needs none.
-pub fn indexes_in(sheet: &[u8], records: usize) -> Indexes
-    ensures { λ r. ⌜ r ≡ indexesFor records (sheetData (now (sheet .entry)) .pdos) ⌝ }
+// How many PDOs are looked up: those of the sheet, none where the table has no record.
+fn looked_up(sheet: &[u8], records: usize) -> usize
 {
     if records == 0 {
-        return Indexes {
-            list: [0u16; 255],
-            count: 0,
-        };
+        return 0;
     }
-    let n = wire::byte_at(sheet, 8) as usize;
-    let f = wire::byte_at(sheet, 9) as usize;
-    indexes_of(sheet, 11 + 5 * n + f, wire::byte_at(sheet, 10))
+    wire::wide(grammar::pdo_count(sheet))
 }
 
-// The table turned into one multiplier for each PDO, so that what comes after needs no table; 1 past the last.
-pub fn multipliers_for(table: &[Oversampling], indexes: Indexes) -> [u8; 255]
-    ensures { λ r. ⌜ r ≡ multipliersIn (now (table .entry)) indexes ⌝ }
+// The index of the PDO at a place.
+fn index_at(sheet: &[u8], at: usize) -> u16
 {
-    let list = indexes.list;
-    let count = indexes.count as usize;
-    let mut out = [1u8; 255];
+    wire::be16(wire::byte_at(sheet, at + 2), wire::byte_at(sheet, at + 3))
+}
+
+// Where the next one stands.
+fn next_pdo(sheet: &[u8], at: usize) -> usize
+{
+    at + 5 + wire::wide(wire::byte_at(sheet, at + 4))
+}
+
+// One multiplier for each PDO of a sheet, in its order, over the front of a list.
+pub fn multipliers_for(table: &[Oversampling], sheet: &[u8], out: &mut [u8; 255])
+{
+    let count = looked_up(sheet, table.len());
+    let mut place = grammar::pdos_place(sheet);
     let mut k = 0;
     while k < count {
-        out[k] = multiplier_of(table, list[k]);
+        out[k] = multiplier_of(table, index_at(sheet, place));
+        place = next_pdo(sheet, place);
         k += 1;
     }
-    out
 }

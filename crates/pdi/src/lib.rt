@@ -58,12 +58,18 @@ impl PdiOffset {
     pub fn increment(self, bytes: ByteLen) -> Moved
         ensures { λ r. ⌜ movedOf r ≡ incremented (self .«start_address») (bytes .0) ⌝ }
     {
-        let end = (self.start_address as u64) + (bytes.0 as u64);
-        if end > 0xffff_ffff {
+        PdiOffset::at((self.start_address as u64) + (bytes.0 as u64))
+    }
+
+    // The offset at an exact place, or 9 where that is past the last.
+    pub fn at(exact: u64) -> Moved
+        ensures { λ r. ⌜ movedOf r ≡ offsetAt exact ⌝ }
+    {
+        if exact > 0xffff_ffff {
             return Moved::Refused(9);
         }
         Moved::To(PdiOffset {
-            start_address: end as u32,
+            start_address: exact as u32,
         })
     }
 

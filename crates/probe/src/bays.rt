@@ -2,7 +2,10 @@
 use crate::parts;
 use crate::say;
 use crate::say::Line;
+use crate::table;
+use crate::table::Start;
 use counting::Counted;
+use entries::Configured;
 use entries::Place;
 use mailboxes::MailboxConfig;
 use mailboxes::MailboxRead;
@@ -127,13 +130,13 @@ fn passed(answer: Placed, next: u64) -> Line {
 }
 
 fn data_pass(request: &[u8], fmmus: &mut [u8], channels: &mut [u8]) -> Line {
-    let done = lent::plan(
+    let done = table::plan(
         parts::sheet(request),
         parts::table(request),
         parts::records(request),
         fmmus,
         channels,
-        Place {
+        Start {
             offset: parts::offset(request),
             group: parts::number4(request, 8),
         },
@@ -190,7 +193,7 @@ pub fn counted(answer: Counted) -> Line {
 }
 
 pub fn count(request: &[u8], address: u32) -> Counted {
-    lent::locate(
+    table::locate(
         parts::sheet(request),
         parts::table(request),
         parts::records(request),
@@ -250,64 +253,38 @@ pub fn plan(request: &[u8]) {
     say::text(parts::front(&text, without_end(answer)));
 }
 
-// The output pass's answer, after the segment of the input pass.
-fn after(inputs: PdiSegment, outputs: Placed) -> Line {
-    match outputs {
-        Placed::Segment(second) => say::row(
-            inputs.start as u64,
-            inputs.end as u64,
-            second.start as u64,
-            second.end as u64,
-        ),
-        Placed::Refused(number) => say::refused(number),
+// No oversampling: the bits of each PDO count once.
+const ONCE: [u8; 255] = [1; 255];
+
+// A data pass of a plan; without a table it needs none, as lockerplan's.
+fn plan_pass(sheet: &[u8], once: &[u8; 255], table: [Oversampling; 256], records: usize, fmmus: &mut [u8], channels: &mut [u8], offset: PdiOffset, direction: PdoDirection) -> Configured {
+    if records == 0 {
+        return subdevice::pass(sheet, once, fmmus, channels, Place { offset, group: 0 }, direction);
+    }
+    let done = table::plan(sheet, table, records, fmmus, channels, Start { offset, group: 0 }, direction);
+    let answer = done.answer;
+    let next = done.next;
+    match answer {
+        Placed::Segment(s) => Configured::Mapped(s, next),
+        Placed::Refused(n) => Configured::Refused(n),
     }
 }
 
-// What a whole plan answers: both segments, or the refusal of the first pass refused.
-fn both(inputs: Placed, outputs: Placed) -> Line {
-    match inputs {
-        Placed::Segment(first) => after(first, outputs),
-        Placed::Refused(number) => say::refused(number),
-    }
-}
-
-// Mailbox, input and output pass over areas of zeros, from offset 0 in group 0. Where the mailbox pass is refused the input
-// pass is too, with the same number, and writes nothing; so only the data passes' answers are looked at.
-fn plan_once(sheet: &[u8], table: [Oversampling; 256], records: usize) -> Line {
+// Mailbox, input and output pass over areas of zeros, from offset 0 in group 0, up to the first refusal.
+fn plan_once(sheet: &[u8], once: &[u8; 255], table: [Oversampling; 256], records: usize) -> Line {
     let mut fmmus = [0u8; 256];
     let mut channels = [0u8; 128];
     if let MailboxRead::Refused(number) = mailboxes::configure_mailboxes(sheet, &mut channels) {
         return say::refused(number);
     }
-    let start = Place {
-        offset: PdiOffset { start_address: 0 },
-        group: 0,
-    };
-    let inputs = lent::plan(
-        sheet,
-        table,
-        records,
-        &mut fmmus,
-        &mut channels,
-        start,
-        PdoDirection::MasterRead,
-    );
-    let first = inputs.answer;
-    if let Placed::Refused(number) = first {
-        return say::refused(number);
+    let start = PdiOffset { start_address: 0 };
+    match plan_pass(sheet, once, table, records, &mut fmmus, &mut channels, start, PdoDirection::MasterRead) {
+        Configured::Mapped(inputs, next) => match plan_pass(sheet, once, table, records, &mut fmmus, &mut channels, next, PdoDirection::MasterWrite) {
+            Configured::Mapped(outputs, _) => say::row(inputs.start as u64, inputs.end as u64, outputs.start as u64, outputs.end as u64),
+            Configured::Refused(number) => say::refused(number),
+        },
+        Configured::Refused(number) => say::refused(number),
     }
-    let offset = inputs.next;
-    let outputs = lent::plan(
-        sheet,
-        table,
-        records,
-        &mut fmmus,
-        &mut channels,
-        Place { offset, group: 0 },
-        PdoDirection::MasterWrite,
-    );
-    let second = outputs.answer;
-    both(first, second)
 }
 
 // The same plan over and over, for whoever counts its cost.
@@ -315,10 +292,11 @@ pub fn again(request: &[u8]) {
     let sheet = parts::sheet(request);
     let table = parts::table(request);
     let records = parts::records(request);
+    let once = ONCE;
     let mut last = say::one(say::NONE);
     let mut left = parts::number4(request, 4);
     while 0 < left {
-        last = plan_once(sheet, table, records);
+        last = plan_once(sheet, &once, table, records);
         left -= 1;
     }
     say::line(last);

@@ -4,6 +4,7 @@ mod numbers;
 mod parts;
 mod records;
 mod say;
+mod table;
 
 use libc::STDIN_FILENO;
 use libc::STDOUT_FILENO;

@@ -9,9 +9,7 @@ use entries::Place;
 use mailboxes::MailboxRead;
 use pdi::PdiOffset;
 use pdi::PdiSegment;
-use pdi::Placed;
 use pdo::PdoDirection;
-use subdevice::Passed;
 use wire::Written;
 
 // What the passes of a bay answer: its input and its output segment, or the refusal of the first pass refused.
@@ -23,18 +21,6 @@ enum Plan {
 // No oversampling: the bits of each PDO count once.
 const ONCE: [u8; 255] = [1; 255];
 
-// A pass's answer with its offset beside it.
-fn configured(done: Passed) -> Configured
-    ensures { λ r. ⌜ r ≡ configuredWith (done .answer) (done .next) ⌝ }
-{
-    let answer = done.answer;
-    let next = done.next;
-    match answer {
-        Placed::Segment(segment) => Configured::Mapped(segment, next),
-        Placed::Refused(number) => Configured::Refused(number),
-    }
-}
-
 // A data pass in group 0, with no oversampling.
 fn data_pass(
     sheet: &[u8],
@@ -45,15 +31,14 @@ fn data_pass(
 ) -> Configured
     ensures { λ r. ⌜ Configures (now (sheet .entry)) (once (now (sheet .entry))) direction (offset .«start_address») 0 (now (fmmus .entry)) (now (channels .entry)) r (now (fmmus .exit)) (now (channels .exit)) ⌝ }
 {
-    let done = subdevice::pass(
+    subdevice::pass(
         sheet,
-        ONCE,
+        &ONCE,
         fmmus,
         channels,
         Place { offset, group: 0 },
         direction,
-    );
-    configured(done)
+    )
 }
 
 // Mailbox, input and output pass; the output pass starts where the input pass ended.

@@ -50,27 +50,6 @@ pub struct SheetRead {
     pub device: Device,
 }
 
-// A sync manager of a sheet, or 5 where its control has no name.
-enum ManagerRead {
-    Manager(SyncManager),
-    Refused(u8),
-}
-
-fn manager_at(sheet: &[u8], at: usize) -> ManagerRead
-    requires { ⌜ at + 5 ≤ length (now sheet) ⌝ }
-    ensures { λ r. ⌜ managerReadOf r ≡ readManager (now (sheet .entry)) at ⌝ }
-{
-    match Control::unpack(sheet[at + 2]) {
-        ControlRead::Named(control) => ManagerRead::Manager(SyncManager {
-            start_addr: wire::be16(sheet[at], sheet[at + 1]),
-            control,
-            enable: wire::flag(sheet[at + 3], 0),
-            usage_type: sheet[at + 4],
-        }),
-        ControlRead::Refused(number) => ManagerRead::Refused(number),
-    }
-}
-
 const NO_CONTROL: Control = Control {
     operation_mode: OperationMode::Normal,
     direction: Direction::MasterRead,
@@ -86,36 +65,112 @@ const NO_MANAGER: SyncManager = SyncManager {
     usage_type: 0,
 };
 
-// The sync managers of a sheet, or 5.
-struct Managers {
-    answer: Answer,
-    list: [SyncManager; 16],
+// Whether some control has no name.
+fn some_unnamed(sheet: &[u8]) -> bool
+    ensures { λ r. ⌜ r ≡ someUnnamed (now (sheet .entry)) ⌝ }
+{
+    let n = grammar::manager_count(sheet);
+    let mut k = 0;
+    while k < n {
+        if Control::unnamed(sheet[grammar::manager_place(k) + 2]) {
+            return true;
+        }
+        k += 1;
+    }
+    false
 }
 
-fn managers_of(sheet: &[u8], n: usize) -> Managers
-    requires { ⌜ (n ≤ 16) × (11 + 5 * n ≤ length (now sheet)) ⌝ }
-    ensures { λ r. ⌜ answerOf (r .answer) (r .list) ≡ decide (when 5 (someBelow (unnamedAt (now (sheet .entry))) n) ∷ []) (managersOf (now (sheet .entry)) n) ⌝ }
+// Whether a sheet keeps every rule: accepted, or the lowest of 2 to 5 that holds.
+pub fn check(sheet: &[u8]) -> Answer
+    ensures { λ r. ⌜ answerOf {A = Unit {0}} r tt ≡ decide (sheetRefusals (now (sheet .entry))) tt ⌝ }
+{
+    if grammar::wrong_length(sheet) {
+        return Answer::Refused(2);
+    }
+    if sheet[2] != 1 {
+        return Answer::Refused(3);
+    }
+    if grammar::rule_broken(sheet) {
+        return Answer::Refused(4);
+    }
+    if some_unnamed(sheet) {
+        return Answer::Refused(5);
+    }
+    Answer::Accepted
+}
+
+// What stands in a sheet; past its end there is 0. The flags: a mailbox, CoE among the protocols, complete access.
+pub fn has_mailbox(sheet: &[u8]) -> bool
+    ensures { λ r. ⌜ r ≡ sheetData (now (sheet .entry)) .mailbox ⌝ }
+{
+    wire::flag(wire::byte_at(sheet, 3), 0)
+}
+
+pub fn coe_protocol(sheet: &[u8]) -> bool
+    ensures { λ r. ⌜ r ≡ sheetData (now (sheet .entry)) .coeProtocol ⌝ }
+{
+    wire::flag(wire::byte_at(sheet, 3), 1)
+}
+
+pub fn complete_access(sheet: &[u8]) -> bool
+    ensures { λ r. ⌜ r ≡ sheetData (now (sheet .entry)) .complete ⌝ }
+{
+    wire::flag(wire::byte_at(sheet, 3), 2)
+}
+
+// The mailboxes' sizes.
+pub fn receive_size(sheet: &[u8]) -> ByteLen
+    ensures { λ r. ⌜ r .0 ≡ sheetData (now (sheet .entry)) .receive ⌝ }
+{
+    ByteLen(wire::be16(wire::byte_at(sheet, 4), wire::byte_at(sheet, 5)))
+}
+
+pub fn send_size(sheet: &[u8]) -> ByteLen
+    ensures { λ r. ⌜ r .0 ≡ sheetData (now (sheet .entry)) .send ⌝ }
+{
+    ByteLen(wire::be16(wire::byte_at(sheet, 6), wire::byte_at(sheet, 7)))
+}
+
+// The usage of the sync manager with a number.
+pub fn usage_of(sheet: &[u8], k: u8) -> u8
+    ensures { λ r. ⌜ r ≡ managerAt (now (sheet .entry)) (managerPlace k) .«usage_type» ⌝ }
+{
+    wire::byte_at(sheet, grammar::manager_place(k) + 4)
+}
+
+// Its start address.
+pub fn start_of(sheet: &[u8], k: u8) -> u16
+    ensures { λ r. ⌜ r ≡ managerAt (now (sheet .entry)) (managerPlace k) .«start_addr» ⌝ }
+{
+    let at = grammar::manager_place(k);
+    wire::be16(wire::byte_at(sheet, at), wire::byte_at(sheet, at + 1))
+}
+
+// The sync manager itself.
+pub fn manager(sheet: &[u8], k: u8) -> SyncManager
+    ensures { λ r. ⌜ r ≡ managerAt (now (sheet .entry)) (managerPlace k) ⌝ }
+{
+    let at = grammar::manager_place(k);
+    SyncManager {
+        start_addr: wire::be16(wire::byte_at(sheet, at), wire::byte_at(sheet, at + 1)),
+        control: Control::named(wire::byte_at(sheet, at + 2)),
+        enable: wire::flag(wire::byte_at(sheet, at + 3), 0),
+        usage_type: wire::byte_at(sheet, at + 4),
+    }
+}
+
+// The sync managers of a sheet.
+fn managers_of(sheet: &[u8], n: u8) -> [SyncManager; 16]
+    requires { ⌜ n ≤ 16 ⌝ }
+    ensures { λ r. ⌜ r ≡ managersOf (now (sheet .entry)) n ⌝ }
 {
     let mut list = [NO_MANAGER; 16];
     let mut k = 0;
     while k < n {
-        match manager_at(sheet, 11 + 5 * k) {
-            ManagerRead::Manager(manager) => {
-                list[k] = manager;
-            }
-            ManagerRead::Refused(number) => {
-                return Managers {
-                    answer: Answer::Refused(number),
-                    list,
-                };
-            }
-        }
+        list[wire::wide(k)] = manager(sheet, k);
         k += 1;
     }
-    Managers {
-        answer: Answer::Accepted,
-        list,
-    }
+    list
 }
 
 // The FMMU usages of a sheet.
@@ -154,36 +209,26 @@ fn refused(number: u8) -> SheetRead
     }
 }
 
-// The device data of a sheet that keeps every rule but, perhaps, that controls have names.
-fn device_of(sheet: &[u8]) -> SheetRead
-    requires { ⌜ (11 ≤ length (now sheet)) × (length (now sheet) ≤ 16386) × (broken (now sheet) ≡ false) ⌝ }
-    ensures { λ r. ⌜ r ≡ sheetReadOf (decide (when 5 (someUnnamed (now (sheet .entry))) ∷ []) (deviceOf (now (sheet .entry)))) ⌝ }
+// The device data of a sheet that keeps every rule.
+fn device_of(sheet: &[u8]) -> Device
+    requires { ⌜ (length (now sheet) ≤ 16386) × (broken (now sheet) ≡ false) ⌝ }
+    ensures { λ r. ⌜ r ≡ deviceOf (now (sheet .entry)) ⌝ }
 {
-    let n = wire::wide(sheet[8]);
-    let f = wire::wide(sheet[9]);
-    let managers = managers_of(sheet, n);
-    let answer = managers.answer;
-    if let Answer::Refused(number) = answer {
-        return refused(number);
-    }
-    let list = managers.list;
-    let usages = 11 + 5 * n;
-    let flags = sheet[3];
-    SheetRead {
-        answer: Answer::Accepted,
-        device: Device {
-            has_mailbox: wire::flag(flags, 0),
-            coe_protocol: wire::flag(flags, 1),
-            complete_access: wire::flag(flags, 2),
-            receive_size: ByteLen(wire::be16(sheet[4], sheet[5])),
-            send_size: ByteLen(wire::be16(sheet[6], sheet[7])),
-            managers: list,
-            n,
-            usages: usages_of(sheet, usages, f),
-            f,
-            pdos: usages + f,
-            p: sheet[10],
-        },
+    let n = grammar::manager_count(sheet);
+    let f = grammar::usage_count(sheet);
+    let usages = grammar::usages_place(sheet);
+    Device {
+        has_mailbox: has_mailbox(sheet),
+        coe_protocol: coe_protocol(sheet),
+        complete_access: complete_access(sheet),
+        receive_size: receive_size(sheet),
+        send_size: send_size(sheet),
+        managers: managers_of(sheet, n),
+        n: wire::wide(n),
+        usages: usages_of(sheet, usages, wire::wide(f)),
+        f: wire::wide(f),
+        pdos: grammar::pdos_place(sheet),
+        p: grammar::pdo_count(sheet),
     }
 }
 
@@ -191,14 +236,11 @@ fn device_of(sheet: &[u8]) -> SheetRead
 pub fn read(sheet: &[u8]) -> SheetRead
     ensures { λ r. ⌜ ReadsAs (now (sheet .entry)) r ⌝ }
 {
-    if grammar::wrong_length(sheet) {
-        return refused(2);
+    match check(sheet) {
+        Answer::Refused(number) => refused(number),
+        Answer::Accepted => SheetRead {
+            answer: Answer::Accepted,
+            device: device_of(sheet),
+        },
     }
-    if sheet[2] != 1 {
-        return refused(3);
-    }
-    if grammar::rule_broken(sheet) {
-        return refused(4);
-    }
-    device_of(sheet)
 }

@@ -15,36 +15,109 @@ ghost use Rattle.pdo.specs.Bits.{piecesFrom};
 ghost use Rattle.uses.specs.Use.{firstWith};
 ghost use Rattle.wanted.specs.Wishes.{AskedFor, bitsIn, sizedOf, dataWish, wishesAfter, someTooWide};
 ghost use Rattle.wanted.specs.Wanted.{wantedAfter, Wants};
-use channels::Wish;
 use pdi::BitLen;
 use pdi::ByteLen;
 use pdi::Rounded;
 use pdo::PdoDirection;
 use sheet::Answer;
-use sheet::Device;
-use sheet::SyncManager;
-use uses::Route;
 
-// What a data pass wants: a wish for each sync manager, and the path; or 6 or 7.
+// Which entry a sync manager uses: on the CoE path the given one, with bits only; else its own.
+pub struct Route {
+    pub coe: bool,
+    pub entry: u8,
+}
+
+impl Route {
+    // Whether a sync manager of this size uses an entry: by EEPROM even at 0 bits, on the CoE path only with bits.
+    pub fn takes(self, size: ByteLen) -> bool
+    {
+        if !self.coe {
+            return true;
+        }
+        0 < size.0
+    }
+
+    // Which entry the sync manager with a number uses.
+    pub fn entry_of(self, number: u8) -> u8
+    {
+        if self.coe {
+            return self.entry;
+        }
+        number
+    }
+}
+
+// What a data pass wants: a size for each sync manager of its usage, and the path; or the lowest of 2 to 7 that holds.
 pub struct Wanted {
     pub answer: Answer,
-    pub wishes: [Wish; 16],
+    pub sizes: [ByteLen; 16],
     pub route: Route,
 }
 
-const NO_WISH: Wish = Wish {
-    on: false,
-    size: ByteLen(0),
-};
+// The sum of the bytes of a part.
+fn sum_bytes(part: &[u8]) -> u64
+    requires { ⌜ length (now part) ≤ 255 ⌝ }
+    ensures { λ r. ⌜ (r ≡ sum (now (part .entry))) × (r ≤ 65025) ⌝ }
+{
+    let mut total: u64 = 0;
+    let mut k = 0;
+    while k < part.len() {
+        total += wire::wide(part[k]) as u64;
+        k += 1;
+    }
+    total
+}
+
+// The bits of the PDO at a place of a sound sheet.
+fn pdo_bits(sheet: &[u8], at: usize, kind: u8) -> u64
+{
+    if kind == 0 {
+        let end = at + 5 + wire::wide(sheet[at + 4]);
+        return sum_bytes(&sheet[at + 5..end]);
+    }
+    wire::be16(sheet[at + 5], sheet[at + 6]) as u64
+}
+
+// Whether the PDO at a place counts: it is of the kind, and names a sync manager of the usage.
+fn counts(sheet: &[u8], at: usize, kind: u8, usage: u8) -> bool
+{
+    if sheet[at] != kind {
+        return false;
+    }
+    let manager = sheet[at + 1];
+    if grammar::manager_count(sheet) <= manager {
+        return false;
+    }
+    sheet[grammar::manager_place(manager) + 4] == usage
+}
+
+// The exact bits of each sync manager of the usage: over the PDOs that are of the kind, bits times multiplier.
+fn tally(sheet: &[u8], kind: u8, usage: u8, multipliers: &[u8; 255]) -> [BitLen; 16]
+{
+    let mut sums = [BitLen(0); 16];
+    let mut place = grammar::pdos_place(sheet);
+    let mut i = 0;
+    let count = wire::wide(grammar::pdo_count(sheet));
+    while i < count {
+        if counts(sheet, place, kind, usage) {
+            let slot = wire::wide(sheet[place + 1]);
+            let before = sums[slot].0;
+            sums[slot] = BitLen(before + pdo_bits(sheet, place, kind) * wire::wide(multipliers[i]) as u64);
+        }
+        place = place + 5 + wire::wide(sheet[place + 4]);
+        i += 1;
+    }
+    sums
+}
 
 // The place of the first FMMU entry with the usage; the count where there is none.
-fn first_with(usages: [u8; 16], f: usize, usage: u8) -> usize
-    ensures { λ r. ⌜ r ≡ firstWith usage (take f usages) ⌝ }
+fn first_with(sheet: &[u8], usage: u8) -> u8
 {
-    let count = wire::least(f, 16);
+    let f = grammar::usage_count(sheet);
+    let at = grammar::usages_place(sheet);
     let mut k = 0;
-    while k < count {
-        if usages[k] == usage {
+    while k < f {
+        if wire::byte_at(sheet, at + wire::wide(k)) == usage {
             return k;
         }
         k += 1;
@@ -52,47 +125,27 @@ fn first_with(usages: [u8; 16], f: usize, usage: u8) -> usize
     k
 }
 
-// Which sync managers a data pass writes, each rounded up by itself, or 6.
+// Exact bits rounded up, each by itself, or 6.
 struct Sizes {
     answer: Answer,
-    list: [Wish; 16],
+    list: [ByteLen; 16],
 }
 
-// One sync manager's wish, or 6.
-enum Sized {
-    To(Wish),
-    Refused(u8),
-}
-
-fn data_wish(usage: u8, wanted: u8, bits: BitLen) -> Sized
-    ensures { λ r. ⌜ sizedOf r ≡ decide (when 6 (eqb usage wanted && tooManyBits (bits .0)) ∷ []) (dataWish usage wanted (bits .0)) ⌝ }
+fn sizes_of(sheet: &[u8], kind: u8, usage: u8, multipliers: &[u8; 255]) -> Sizes
 {
-    if usage != wanted {
-        return Sized::To(NO_WISH);
-    }
-    match bits.round_up() {
-        Rounded::Bytes(size) => Sized::To(Wish { on: true, size }),
-        Rounded::Refused(number) => Sized::Refused(number),
-    }
-}
-
-fn data_wishes(managers: [SyncManager; 16], n: usize, usage: u8, sums: [BitLen; 16]) -> Sizes
-    ensures { λ r. ⌜ (answerOf {A = Unit {0}} (r .answer) tt ≡ decide (when 6 (someTooWide usage sums (take n managers)) ∷ []) tt) × (r .list ≡ wishesAfter usage sums (take n managers)) ⌝ }
-{
-    let mut list = [NO_WISH; 16];
-    let count = wire::least(n, 16);
+    let bits = tally(sheet, kind, usage, multipliers);
+    let mut list = [ByteLen(0); 16];
+    let n = wire::wide(grammar::manager_count(sheet));
     let mut k = 0;
-    while k < count {
-        let m = managers[k];
-        let bits = sums[k];
-        match data_wish(m.usage_type, usage, bits) {
-            Sized::To(w) => {
-                list[k] = w;
+    while k < n {
+        match bits[k].round_up() {
+            Rounded::Bytes(size) => {
+                list[k] = size;
             }
-            Sized::Refused(number) => {
+            Rounded::Refused(number) => {
                 return Sizes {
                     answer: Answer::Refused(number),
-                    list: [NO_WISH; 16],
+                    list: [ByteLen(0); 16],
                 };
             }
         }
@@ -104,31 +157,26 @@ fn data_wishes(managers: [SyncManager; 16], n: usize, usage: u8, sums: [BitLen; 
     }
 }
 
-// Whether a sync manager is wanted and has bits.
-fn has_bits(usage: u8, wanted: u8, bits: BitLen) -> bool
-    ensures { λ r. ⌜ r ≡ eqb usage wanted && ltb 0 (bits .0) ⌝ }
+// Whether some size is above 0.
+fn some_size(sizes: [ByteLen; 16]) -> bool
 {
-    if usage != wanted {
-        return false;
-    }
-    0 < bits.0
-}
-
-// Whether a wanted sync manager has bits.
-fn some_bits(managers: [SyncManager; 16], n: usize, usage: u8, sums: [BitLen; 16]) -> bool
-    ensures { λ r. ⌜ r ≡ someOf (λ p. ltb 0 (p .bits)) (piecesFrom usage (bitsIn sums) 0 (take n managers)) ⌝ }
-{
-    let count = wire::least(n, 16);
     let mut k = 0;
-    while k < count {
-        let m = managers[k];
-        let bits = sums[k];
-        if has_bits(m.usage_type, usage, bits) {
+    while k < 16 {
+        if 0 < sizes[k].0 {
             return true;
         }
         k += 1;
     }
     false
+}
+
+// 7: whether no entry has the usage though some sync manager has bits.
+fn no_entry(sheet: &[u8], entry: u8, sizes: [ByteLen; 16]) -> bool
+{
+    if entry != grammar::usage_count(sheet) {
+        return false;
+    }
+    some_size(sizes)
 }
 
 // The kind of PDO that counts: 0 on the CoE path, else the direction's.
@@ -138,42 +186,13 @@ fn path_kind(coe: bool, kind: u8) -> u8
     if coe { 0 } else { kind }
 }
 
-// 7: whether, on the CoE path, a wanted sync manager has bits and no entry has the usage.
-fn no_entry(device: Device, coe: bool, entry: usize, usage: u8, sums: [BitLen; 16]) -> bool
-    ensures { λ r. ⌜ r ≡ «coe» && (someOf (λ p. ltb 0 (p .bits)) (piecesFrom usage (bitsIn sums) 0 (take (device .n) (device .managers))) && eqb entry (min (device .f) 16)) ⌝ }
-{
-    if !coe {
-        return false;
-    }
-    if entry != wire::least(device.f, 16) {
-        return false;
-    }
-    let managers = device.managers;
-    some_bits(managers, device.n, usage, sums)
-}
-
-// Which sync managers have the usage.
-fn asked_of(managers: [SyncManager; 16], n: usize, usage: u8) -> [bool; 16]
-    ensures { λ r. ⌜ AskedFor usage r (take n managers) ⌝ }
-{
-    let mut asked = [false; 16];
-    let count = wire::least(n, 16);
-    let mut k = 0;
-    while k < count {
-        let m = managers[k];
-        asked[k] = m.usage_type == usage;
-        k += 1;
-    }
-    asked
-}
-
 // A refusal has nothing beside it.
 fn refused(number: u8) -> Wanted
     ensures { λ r. ⌜ r ≡ wantedAfter (Outcome.refused number) ⌝ }
 {
     Wanted {
         answer: Answer::Refused(number),
-        wishes: [NO_WISH; 16],
+        sizes: [ByteLen(0); 16],
         route: Route {
             coe: false,
             entry: 0,
@@ -181,35 +200,44 @@ fn refused(number: u8) -> Wanted
     }
 }
 
-// What a direction's pass of device data wants, or 6 or 7. Lent the bytes in which the PDOs stand, and a multiplier for each.
-pub fn wanted_of(
-    device: Device,
-    bytes: &[u8],
-    multipliers: &[u8],
-    direction: PdoDirection,
-) -> Wanted
-    ensures { λ r. ⌜ Wants (dataOf device (now (bytes .entry))) (now (multipliers .entry)) direction r ⌝ }
+// By EEPROM each uses its own entry; on the CoE path the first with the usage, or 7 where there is none.
+fn routed(sheet: &[u8], coe: bool, usage: u8, sizes: [ByteLen; 16]) -> Wanted
 {
+    if !coe {
+        return Wanted {
+            answer: Answer::Accepted,
+            sizes,
+            route: Route {
+                coe: false,
+                entry: 0,
+            },
+        };
+    }
+    let entry = first_with(sheet, usage);
+    if no_entry(sheet, entry, sizes) {
+        return refused(7);
+    }
+    Wanted {
+        answer: Answer::Accepted,
+        sizes,
+        route: Route { coe: true, entry },
+    }
+}
+
+// What a direction's pass of a sheet wants. Lent a multiplier for each PDO.
+pub fn wanted_of(sheet: &[u8], multipliers: &[u8; 255], direction: PdoDirection) -> Wanted
+{
+    let sound = sheet::check(sheet);
+    if let Answer::Refused(number) = sound {
+        return refused(number);
+    }
     let terms = direction.filter_terms();
-    let coe = pdo::coe_on(device);
-    let kind = path_kind(coe, terms.kind);
-    let managers = device.managers;
-    let asked = asked_of(managers, device.n, terms.usage);
-    let sums = pdo::tally(bytes, device.pdos, device.p, kind, asked, multipliers);
-    let sizes = data_wishes(managers, device.n, terms.usage, sums);
-    let answer = sizes.answer;
+    let coe = pdo::coe_on(sheet);
+    let sized = sizes_of(sheet, path_kind(coe, terms.kind), terms.usage, multipliers);
+    let answer = sized.answer;
     if let Answer::Refused(number) = answer {
         return refused(number);
     }
-    let usages = device.usages;
-    let entry = first_with(usages, device.f, terms.fmmu_usage);
-    if no_entry(device, coe, entry, terms.usage, sums) {
-        return refused(7);
-    }
-    let wishes = sizes.list;
-    Wanted {
-        answer: Answer::Accepted,
-        wishes,
-        route: Route { coe, entry },
-    }
+    let sizes = sized.list;
+    routed(sheet, coe, terms.fmmu_usage, sizes)
 }

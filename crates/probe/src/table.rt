@@ -1,0 +1,58 @@
+// The library's lent forms for a program that holds its table and offset by value: `records` of the table count.
+use counting::Counted;
+use pdi::PdiOffset;
+use pdi::Placed;
+use pdo::Oversampling;
+use pdo::PdoDirection;
+
+// Where a pass begins: its offset, and its group's start.
+pub struct Start {
+    pub offset: PdiOffset,
+    pub group: u32,
+}
+
+// What a pass hands back: its segment or a refusal, and the offset as it then is.
+pub struct Passed {
+    pub answer: Placed,
+    pub next: PdiOffset,
+}
+
+pub fn plan(
+    sheet: &[u8],
+    table: [Oversampling; 256],
+    records: usize,
+    fmmus: &mut [u8],
+    channels: &mut [u8],
+    start: Start,
+    direction: PdoDirection,
+) -> Passed
+{
+    let k = wire::least(records, 256);
+    let mut offset = start.offset;
+    let answer = lent::configure_fmmus(
+        sheet,
+        &table[..k],
+        fmmus,
+        channels,
+        &mut offset,
+        start.group,
+        direction,
+    );
+    Passed {
+        answer,
+        next: offset,
+    }
+}
+
+pub fn locate(
+    sheet: &[u8],
+    table: [Oversampling; 256],
+    records: usize,
+    offset: PdiOffset,
+    direction: PdoDirection,
+    address: u32,
+) -> Counted
+{
+    let k = wire::least(records, 256);
+    lent::count(sheet, &table[..k], offset, direction, address)
+}
