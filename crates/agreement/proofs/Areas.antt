@@ -5,11 +5,11 @@ use mathlib.Core.List.{List}
 use Prim.Native.Nat.{ℕ}
 use lib.ListN.{length}
 use Rattle.pdo.specs.declared.PdoDirection.{PdoDirection}
-use Rattle.uses.specs.Use.{Use}
+use Rattle.passes.specs.Use.{Use}
 use Rattle.area.specs.Area.{chunks, entriesOf, flat}
 use Rattle.area.proofs.Flat.{Rows, length-chunks, rows-chunks, chunks-flat, flat-bytes}
-use Rattle.entries.specs.Entries.{plan}
-use Rattle.entries.proofs.Kept.{plan-length, rows-plan}
+use Rattle.passes.specs.Entries.{plan}
+use Rattle.passes.proofs.Kept.{plan-length, rows-plan}
 
 -- the area that a pass leaves is as long, and its entries are those that were planned
 module _ (r : PdoDirection) (q : ℕ) (us : List Use) (area : List ℕ) (long : length area ≡ 256) where

@@ -12,9 +12,9 @@ use Rattle.wire.specs.Lists.{listOf, someBelow, Each}
 use Rattle.sheet.specs.Device.{pdosFrom}
 use Rattle.sheet.specs.Sheet.{wrongLength, kindFits, pdosFit, someManagerWrong, someUsageWrong, broken, someUnnamed, sheetData}
 use Rattle.pdo.specs.Bits.{multiplierOf, byCoe, bitsOf, piecesFrom, piecesOf}
-use Rattle.uses.specs.Use.{own, given, firstWith, usesOf, total, totalOn, sizeOf}
+use Rattle.passes.specs.Use.{own, given, firstWith, usesOf, total, totalOn, sizeOf}
 use Rattle.area.specs.Area.{chunks, flat}
-use Rattle.entries.specs.Entries.{plan, tooLong}
+use Rattle.passes.specs.Entries.{plan, tooLong}
 use Rattle.wanted.specs.Wanted.{someTooMany, noEntry}
 use Rattle.passes.specs.Pass.{dataPass}
 use Rattle.translation.specs.Translate.{carries, odd, says, firstSaid, translate}

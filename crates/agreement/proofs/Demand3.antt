@@ -23,9 +23,9 @@ use Rattle.pdi.specs.declared.PdiOffset.{PdiOffset}
 use Rattle.pdo.specs.Direction.{other}
 use Rattle.wire.specs.Lists.{someOf}
 use Rattle.pdo.specs.Bits.{piecesOf}
-use Rattle.uses.specs.Use.{Use, own, totalOn, sizeOf}
+use Rattle.passes.specs.Use.{Use, own, totalOn, sizeOf}
 use Rattle.area.specs.Area.{entriesOf, notEntries, notChannels}
-use Rattle.entries.specs.Entries.{plan, lengthNow, Planned, tooLong}
+use Rattle.passes.specs.Entries.{plan, lengthNow, Planned, tooLong}
 use Rattle.wanted.specs.Wanted.{someTooMany, noEntry}
 use Rattle.passes.specs.Pass.{entriesAfter, segmentOf, Passes, passRefusals, plannedOf, dataPass}
 use Rattle.translation.specs.Translate.{says, odd, firstSaid, orNone, translate}

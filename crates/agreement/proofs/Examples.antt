@@ -22,9 +22,9 @@ use Rattle.sheet.specs.Sheet.{wrongLength, kindFits, pdosFit, someManagerWrong,
 use Rattle.pdo.specs.declared.PdoDirection.{PdoDirection}
 use Rattle.pdo.specs.declared.PdoDirection.the-variants.{MasterRead, MasterWrite}
 use Rattle.pdo.specs.Bits.{multiplierOf, byCoe, bitsOf, piecesFrom, piecesOf}
-use Rattle.uses.specs.Use.{own, given, firstWith, usesOf, total, totalOn, sizeOf}
+use Rattle.passes.specs.Use.{own, given, firstWith, usesOf, total, totalOn, sizeOf}
 use Rattle.area.specs.Area.{chunks, entriesOf, flat}
-use Rattle.entries.specs.Entries.{mapped, plan, Planned, tooLong}
+use Rattle.passes.specs.Entries.{mapped, plan, Planned, tooLong}
 use Rattle.wanted.specs.Wanted.{someTooMany, noEntry}
 use Rattle.passes.specs.Pass.{dataPass}
 use Rattle.translation.specs.Translate.{carries, odd, says, firstSaid, translate}

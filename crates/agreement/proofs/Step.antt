@@ -16,8 +16,8 @@ use Rattle.fmmu.proofs.RoundTrip.{read-write}
 use Rattle.pdo.specs.declared.PdoDirection.{PdoDirection}
 use Rattle.pdo.specs.declared.PdoDirection.the-variants.{MasterRead, MasterWrite}
 use Rattle.pdo.specs.Direction.{other}
-use Rattle.uses.specs.Use.{Use}
-use Rattle.entries.specs.Entries.{mapped, laid, lengthNow}
+use Rattle.passes.specs.Use.{Use}
+use Rattle.passes.specs.Entries.{mapped, laid, lengthNow}
 use Rattle.translation.specs.Translate.{within, named, carries, says, odd}
 use Rattle.translation.proofs.Lies.{inside, before, behind}
 use Rattle.agreement.proofs.Basics.{either}

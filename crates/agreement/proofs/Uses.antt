@@ -19,7 +19,7 @@ use Rattle.pdo.specs.declared.PdoDirection.{PdoDirection}
 use Rattle.pdo.specs.declared.PdoDirection.the-variants.{MasterRead, MasterWrite}
 use Rattle.pdo.specs.Direction.{usageOf, fmmuUsageOf, other}
 use Rattle.pdo.specs.Bits.{Piece, byCoe, pathKind, bitsOf, piecesFrom, piecesOf}
-use Rattle.uses.specs.Use.{Use, useOf, own, given, firstWith, coeEntry, usesOf, total, sizeOf}
+use Rattle.passes.specs.Use.{Use, useOf, own, given, firstWith, coeEntry, usesOf, total, sizeOf}
 use Rattle.wanted.specs.Wanted.{noEntry}
 use Rattle.translation.specs.Translate.{within, named, orNone}
 use Rattle.counting.specs.Count.{spotAt, spotIn, deviceIn}

@@ -16,10 +16,10 @@ use Rattle.pdo.specs.declared.PdoDirection.{PdoDirection}
 use Rattle.pdo.specs.Direction.{other}
 use Rattle.pdo.specs.declared.Oversampling.{Oversampling}
 use Rattle.pdo.specs.Bits.{multipliersOf, piecesOf}
-use Rattle.uses.specs.Use.{Use, own, usesOf}
+use Rattle.passes.specs.Use.{Use, own, usesOf}
 use Rattle.area.specs.Area.{entriesOf}
 use Rattle.passes.specs.Pass.{dataPass, entriesAfter}
-use Rattle.entries.specs.Entries.{Planned}
+use Rattle.passes.specs.Entries.{Planned}
 use Rattle.translation.specs.Translate.{translate}
 use Rattle.counting.specs.Count.{countedAddress}
 

@@ -13,7 +13,7 @@ use Rattle.pdo.specs.declared.PdoDirection.the-variants.{MasterRead}
 use Rattle.pdo.specs.Bits.{multipliersOf}
 use Rattle.area.specs.Area.{entriesOf}
 use Rattle.passes.specs.Pass.{dataPass, entriesAfter}
-use Rattle.entries.specs.Entries.{Planned}
+use Rattle.passes.specs.Entries.{Planned}
 
 -- a case: its number, what is computed, what the document says; answers as lists of numbers
 pub record Row : Type 0 where

@@ -1,6 +1,7 @@
 // A register area, sixteen entries one after the other: an entry read out, and bytes stored in place.
 ghost use mathlib.Core.Path.{_≡_};
-ghost use Rattle.area.specs.Area.{entryAt, storedAt};
+ghost use mathlib.Core.Bool.{cond};
+ghost use Rattle.area.specs.Area.{areaOf, entriesOf, entryAt, storedAt, flat, notEntries};
 
 // The FMMU entry with a number; 0 where the area isn't 256 bytes, or the number is past the last.
 pub fn fmmu_at(area: &[u8], k: usize) -> [u8; 16]
@@ -48,6 +49,7 @@ pub fn store(entry: &[u8], area: &mut [u8], at: usize)
 
 // The sixteen FMMU entries of an area; all 0 where it isn't 256 bytes.
 pub fn load(area: &[u8]) -> [[u8; 16]; 16]
+    ensures { λ r. ⌜ r ≡ entriesOf 16 (areaOf 256 (now (area .entry))) ⌝ }
 {
     let mut entries = [[0u8; 16]; 16];
     let mut k = 0;
@@ -60,6 +62,7 @@ pub fn load(area: &[u8]) -> [[u8; 16]; 16]
 
 // Writes sixteen FMMU entries over an area; one that isn't 256 bytes stays.
 pub fn store_all(entries: [[u8; 16]; 16], area: &mut [u8])
+    ensures { λ r. ⌜ now (area .exit) ≡ cond (notEntries (now (area .entry))) (now (area .entry)) (flat entries) ⌝ }
 {
     if area.len() != 256 {
         return;

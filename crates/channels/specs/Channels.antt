@@ -1,20 +1,18 @@
 -- The images of the sync managers: sheet address and control, size in bytes, status 0, enabled only if ENABLE is set and the size is above 0.
 -- Assumes nothing.
-use mathlib.Core.Bool.{Bool, true, false, cond, _&&_}
-use mathlib.Core.List.{List, [], _∷_, _++_}
+use mathlib.Core.Bool.{Bool, false, cond, _&&_}
+use mathlib.Core.List.{List, [], _∷_}
 use mathlib.Core.Option.{Option, none, some}
-use Prim.Native.Nat.{ℕ, suc, _-_}
-use lib.ListN.{length, getD, set, replicate}
-use lib.Dec.{ltb}
+use Prim.Native.Nat.{ℕ, suc}
+use lib.ListN.{getD, set}
+use lib.Dec.{eqb, ltb}
 use Rattle.sync_manager_channel.specs.declared.SyncManagerChannel.{SyncManagerChannel}
 use Rattle.channel_bytes.specs.declared.Enable.{Enable}
 use Rattle.channel_bytes.specs.Bytes.{statusAt}
 use Rattle.sync_manager_channel.specs.Image.{imageOf}
-use Rattle.wire.specs.Lists.{listOf}
-use Rattle.sheet.specs.Sheet.{noManager}
+use Rattle.pdi.specs.declared.ByteLen.{ByteLen}
 use Rattle.sheet.specs.declared.SyncManager.{SyncManager}
 use Rattle.area.specs.Area.{entriesOf, flat, notChannels}
-use Rattle.channels.specs.declared.Wish.{Wish}
 
 abbrev pub enabled : Bool → Enable
 enabled on =
@@ -47,23 +45,13 @@ unfoldable pub channelsAfter : (ℕ → SyncManager → Option ℕ) → ℕ → 
 channelsAfter sizeFor k [] area = area
 channelsAfter sizeFor k (m ∷ ms) area = channelsAfter sizeFor (suc k) ms (written k m (sizeFor k m) area)
 
--- who gets which size, as code holds it: one wish for each number
-abbrev pub noWish : Wish
-noWish = record { on = false; size = record { 0 = 0 } }
+-- the area after some are written; one that isn't 128 bytes stays
+unfoldable pub channelArea : (List (List ℕ) → List (List ℕ)) → List ℕ → List ℕ
+channelArea write area = cond (notChannels area) area (flat (write (entriesOf 8 area)))
 
-abbrev pub wish : ℕ → Wish
-wish size = record { on = true; size = record { 0 = size } }
+-- a size in bytes for each of sixteen numbers; those of a usage get their images
+abbrev pub sizeAt : List ByteLen → ℕ → ℕ
+sizeAt sizes k = getD sizes k (record { 0 = 0 }) .0
 
-abbrev pub wishOf : Wish → Option ℕ
-wishOf w = cond (w .on) (some (w .size .0)) none
-
-abbrev pub wished : List Wish → ℕ → SyncManager → Option ℕ
-wished ws k m = wishOf (getD ws k noWish)
-
--- sixteen wishes by number: those of the sync managers, then none
-abbrev pub filled : (SyncManager → ℕ → Wish) → List SyncManager → List Wish
-filled f ms = listOf (λ k. f (getD ms k noManager) k) (length ms) ++ replicate (16 - length ms) noWish
-
--- the area after the wishes are written; one that isn't 128 bytes stays
-unfoldable pub channelArea : List SyncManager → List Wish → List ℕ → List ℕ
-channelArea ms ws area = cond (notChannels area) area (flat (channelsAfter (wished ws) 0 ms (entriesOf 8 area)))
+abbrev pub sizeBy : ℕ → List ByteLen → ℕ → SyncManager → Option ℕ
+sizeBy usage sizes k m = cond (eqb (m .«usage_type») usage) (some (sizeAt sizes k)) none

@@ -1,9 +1,12 @@
 // The images of the sync managers: `write_sm_config` of configuration.rs, over a whole area.
 ghost use mathlib.Core.Path.{_≡_};
-ghost use Prim.Native.Nat.{_<_};
-ghost use lib.ListN.{length, take};
-ghost use Rattle.area.specs.Area.{entriesOf};
-ghost use Rattle.channels.specs.Channels.{channelFor, written, wishOf, channelArea};
+ghost use mathlib.Core.Bool.{cond};
+ghost use mathlib.Core.Option.{none, some};
+ghost use lib.ListN.{getD};
+ghost use lib.Dec.{eqb};
+ghost use Rattle.grammar.specs.Grammar.{managerPlace};
+ghost use Rattle.sheet.specs.Sheet.{managerAt, managersIn};
+ghost use Rattle.channels.specs.Channels.{channelFor, written, channelsAfter, channelArea, sizeBy};
 use pdi::ByteLen;
 use sheet::SyncManager;
 use sync_manager_channel::BufferState;
@@ -41,6 +44,7 @@ pub fn sm_config(manager: SyncManager, size: ByteLen) -> SyncManagerChannel
 
 // Writes the image of a sheet's sync manager, with a size, into its entry; an area that isn't 128 bytes stays.
 pub fn write_channel(area: &mut [u8], sheet: &[u8], k: u8, size: ByteLen)
+    ensures { λ r. ⌜ now (area .exit) ≡ channelArea (written k (managerAt (now (sheet .entry)) (managerPlace k)) (some (size .0))) (now (area .entry)) ⌝ }
 {
     if area.len() != 128 {
         return;
@@ -51,6 +55,7 @@ pub fn write_channel(area: &mut [u8], sheet: &[u8], k: u8, size: ByteLen)
 
 // Writes the images of the sync managers of a usage, each with its size, in rising number; all other bytes stay.
 pub fn write_channels(area: &mut [u8], sheet: &[u8], usage: u8, sizes: [ByteLen; 16])
+    ensures { λ r. ⌜ now (area .exit) ≡ channelArea (channelsAfter (sizeBy usage sizes) 0 (managersIn (now (sheet .entry)))) (now (area .entry)) ⌝ }
 {
     let n = grammar::manager_count(sheet);
     let mut k = 0;

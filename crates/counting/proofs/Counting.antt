@@ -24,8 +24,8 @@ use Rattle.channels.specs.Channels.{noWish}
 use Rattle.pdo.specs.declared.PdoDirection.{PdoDirection}
 use Rattle.pdo.specs.Direction.{usageOf}
 use Rattle.pdo.specs.Bits.{Piece, pathKind, bitsOf, piecesFrom, piecesOf}
-use Rattle.uses.specs.Use.{own, total, sizeOf}
-use Rattle.uses.proofs.Pieces.{wishFor}
+use Rattle.passes.specs.Use.{own, total, sizeOf}
+use Rattle.passes.proofs.Pieces.{wishFor}
 use Rattle.wanted.specs.declared.Wanted.{Wanted}
 use Rattle.wanted.specs.Wanted.{wantedRefusals, wishesOf, Wants}
 use Rattle.wanted.proofs.Wanting.{wish-at, wanted-refused, wanted-accepted}

@@ -1,22 +1,17 @@
 -- Counting through the sync managers (document 01, 'Counting').
 -- Assumes nothing.
-use mathlib.Core.Bool.{cond, _&&_}
+use mathlib.Core.Bool.{cond}
 use mathlib.Core.List.{List, [], _∷_, _++_}
 use mathlib.Core.Option.{Option, none, some}
-use Prim.Native.Nat.{ℕ, suc, _+_, _-_}
-use lib.ListN.{getD}
+use Prim.Native.Nat.{ℕ, _+_, _-_}
 use Rattle.wire.specs.Outcome.{Outcome, refused, accepted, Refusal, when, decide}
 use Rattle.pdi.specs.Unit.{bytesOf}
 use Rattle.pdi.specs.Offset.{pastEnd}
-use Rattle.sheet.specs.Device.{Data}
 use Rattle.sheet.specs.Sheet.{sheetRefusals, sheetData}
 use Rattle.pdo.specs.declared.PdoDirection.{PdoDirection}
 use Rattle.pdo.specs.Bits.{Piece, piecesOf}
-use Rattle.uses.specs.Use.{sizeOf}
-use Rattle.wanted.specs.Wanted.{someTooMany, noEntry}
-use Rattle.sheet.specs.declared.SyncManager.{SyncManager}
-use Rattle.channels.specs.declared.Wish.{Wish}
-use Rattle.channels.specs.Channels.{noWish}
+use Rattle.passes.specs.Use.{sizeOf}
+use Rattle.passes.specs.Pass.{wantedRefusals}
 use Rattle.translation.specs.Translate.{within, named, reachedOf}
 use Rattle.counting.specs.declared.Position.{Position}
 use Rattle.counting.specs.declared.Counted.{Counted}
@@ -38,17 +33,12 @@ spotIn offset [] a = none
 spotIn offset (p ∷ ps) a =
     cond (within offset (bytesOf (p .bits)) a) (some (spotAt (p .number) (p .address) (a - offset))) (spotIn (offset + bytesOf (p .bits)) ps a)
 
--- 2 to 5, then 6, 7 and 9
-abbrev pub dataRefusals : Data → List ℕ → PdoDirection → ℕ → List Refusal
-dataRefusals d ws r offset = when 6 (someTooMany d ws r) ∷ when 7 (noEntry d ws r) ∷ when 9 (pastEnd (offset + sizeOf d ws r)) ∷ []
-
+-- the sheet's refusals, those that a pass gives too, then 9
 abbrev pub countRefusals : List ℕ → List ℕ → PdoDirection → ℕ → List Refusal
-countRefusals sheet ws r offset = sheetRefusals sheet ++ dataRefusals (sheetData sheet) ws r offset
+countRefusals sheet ws r offset =
+    sheetRefusals sheet ++ (wantedRefusals (sheetData sheet) ws r ++ (when 9 (pastEnd (offset + sizeOf (sheetData sheet) ws r)) ∷ []))
 
--- counting device data, and the whole call; `ws` has one multiplier for each PDO, `offset` is the pass's start
-unfoldable pub countData : PdoDirection → ℕ → Data → List ℕ → ℕ → Outcome (Option Spot)
-countData r a d ws offset = decide (dataRefusals d ws r offset) (spotIn offset (piecesOf d ws r) a)
-
+-- the whole call; `ws` has one multiplier for each PDO, `offset` is the pass's start
 unfoldable pub count : PdoDirection → ℕ → List ℕ → List ℕ → ℕ → Outcome (Option Spot)
 count r a sheet ws offset = decide (countRefusals sheet ws r offset) (spotIn offset (piecesOf (sheetData sheet) ws r) a)
 
@@ -72,30 +62,3 @@ abbrev pub countedOf : Counted → Outcome (Option Spot)
 countedOf Nowhere = accepted none
 countedOf (In p) = accepted (some (spotOf p))
 countedOf (Refused n) = refused n
-
--- the same as code holds it: laid from the wishes, where the next one starts, where the last one ends, and the spot
-abbrev pub after : ℕ → Wish → ℕ
-after start w = cond (w .on) (start + w .size .0) start
-
-unfoldable pub endFrom : ℕ → List Wish → ℕ → List SyncManager → ℕ
-endFrom start ws k [] = start
-endFrom start ws k (m ∷ ms) = endFrom (after start (getD ws k noWish)) ws (suc k) ms
-
--- in one sync manager, if it is wanted and holds the address
-abbrev pub spotBy : ℕ → Wish → ℕ → ℕ → ℕ → Option Spot
-spotBy start w k address a = cond (w .on && within start (w .size .0) a) (some (spotAt k address (a - start))) none
-
--- the first of the two
-abbrev pub orNext : Option Spot → Option Spot → Option Spot
-orNext none y = y
-orNext (some x) y = some x
-
-abbrev pub earlierOf : Counted → Counted → Counted
-earlierOf Nowhere y = y
-earlierOf (In p) y = In p
-earlierOf (Refused n) y = Refused n
-
-unfoldable pub foundFrom : ℕ → List Wish → ℕ → List SyncManager → ℕ → Option Spot
-foundFrom start ws k [] a = none
-foundFrom start ws k (m ∷ ms) a =
-    orNext (spotBy start (getD ws k noWish) k (m .«start_addr») a) (foundFrom (after start (getD ws k noWish)) ws (suc k) ms a)

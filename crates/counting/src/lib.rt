@@ -1,12 +1,9 @@
 // Counting through the sync managers: from a logical address to a sync manager's byte. Added by design; the crate has none.
 ghost use mathlib.Core.Path.{_≡_};
-ghost use Prim.Native.Nat.{_+_, _≤_};
 ghost use lib.ListN.{take};
-ghost use Rattle.wire.specs.Outcome.{accepted};
-ghost use Rattle.sheet.specs.Device.{dataOf};
-ghost use Rattle.sheet.specs.Sheet.{pdoCount};
+ghost use Rattle.grammar.specs.Grammar.{pdoCount};
 ghost use Rattle.counting.specs.Count as meaning;
-ghost use Rattle.counting.specs.Count.{countedOf, spotBy, after, endFrom, foundFrom, countData};
+ghost use Rattle.counting.specs.Count.{countedOf};
 use pdi::ByteLen;
 use pdi::Moved;
 use pdi::PdiOffset;
@@ -35,8 +32,7 @@ struct Laid {
 }
 
 // Where an address lies in a sync manager of a size that starts at `start`, if it does.
-fn position_in(start: u64, size: ByteLen, sheet: &[u8], k: u8, address: u32) -> Counted
-{
+fn position_in(start: u64, size: ByteLen, sheet: &[u8], k: u8, address: u32) -> Counted {
     if !translation::within(start, size, address) {
         return Counted::Nowhere;
     }
@@ -60,8 +56,7 @@ fn earlier(found: Counted, next: Counted) -> Counted
 }
 
 // Lays the sizes of a usage's sync managers one after another from the offset on.
-fn lay_out(sheet: &[u8], usage: u8, sizes: [ByteLen; 16], offset: PdiOffset, address: u32) -> Laid
-{
+fn lay_out(sheet: &[u8], usage: u8, sizes: [ByteLen; 16], offset: PdiOffset, address: u32) -> Laid {
     let n = grammar::manager_count(sheet);
     let mut end = offset.start_address as u64;
     let mut found = Counted::Nowhere;
@@ -85,6 +80,7 @@ pub fn count(
     direction: PdoDirection,
     address: u32,
 ) -> Counted
+    ensures { λ r. ⌜ countedOf r ≡ meaning.count direction address (now (sheet .entry)) (take (pdoCount (now (sheet .entry))) (now (multipliers .entry))) (offset .«start_address») ⌝ }
 {
     let wanted = wanted::wanted_of(sheet, multipliers, direction);
     let answer = wanted.answer;
@@ -92,7 +88,13 @@ pub fn count(
         return Counted::Refused(number);
     }
     let sizes = wanted.sizes;
-    let laid = lay_out(sheet, direction.filter_terms().usage, sizes, offset, address);
+    let laid = lay_out(
+        sheet,
+        direction.filter_terms().usage,
+        sizes,
+        offset,
+        address,
+    );
     if let Moved::Refused(number) = PdiOffset::at(laid.end) {
         return Counted::Refused(number);
     }

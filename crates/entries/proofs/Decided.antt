@@ -16,10 +16,10 @@ use Rattle.pdi.specs.declared.PdiSegment.{PdiSegment}
 use Rattle.area.specs.Area.{areaOf, entriesOf, flat}
 use Rattle.area.proofs.Flat.{flat-chunks, area-whole}
 use Rattle.pdo.specs.declared.PdoDirection.{PdoDirection}
-use Rattle.entries.specs.declared.Configured.the-variants.{Mapped, Refused}
-use Rattle.uses.specs.Use.{Use, total}
-use Rattle.uses.specs.Length.{tooLong}
-use Rattle.entries.specs.Entries.{plan, Planned, planned, entriesOutcome, entryArea, WritesEntries}
+use Rattle.passes.specs.declared.Configured.the-variants.{Mapped, Refused}
+use Rattle.passes.specs.Use.{Use, total}
+use Rattle.passes.specs.Entries.{tooLong}
+use Rattle.passes.specs.Entries.{plan, Planned, planned, entriesOutcome, entryArea, WritesEntries}
 
 -- the offset alone decides whether a segment that starts there is below the group start
 pub start-decides : (offset next group : ℕ) → offset ≤ next → belowGroup (segment offset next) group ≡ ltb offset group

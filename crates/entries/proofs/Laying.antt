@@ -11,11 +11,11 @@ use Rattle.wire.specs.Outcome.{refused, accepted}
 use Rattle.wire.proofs.Order.{never, passed-answer}
 use Rattle.pdi.specs.Offset.{pastEnd, incremented}
 use Rattle.pdo.specs.declared.PdoDirection.{PdoDirection}
-use Rattle.uses.specs.Use.{Use, total}
-use Rattle.uses.specs.Length.{lengthNow, tooLong}
-use Rattle.entries.specs.Entries.{withUse, plan}
-use Rattle.uses.proofs.Room.{Room, not-too-long}
-use Rattle.entries.proofs.Lengths.{room-first, room-rest}
+use Rattle.passes.specs.Use.{Use, total}
+use Rattle.passes.specs.Entries.{lengthNow, tooLong}
+use Rattle.passes.specs.Entries.{withUse, plan}
+use Rattle.passes.proofs.Room.{Room, not-too-long}
+use Rattle.passes.proofs.Lengths.{room-first, room-rest}
 
 -- a step by bytes that was taken, and one that was refused
 pub stepped : (o size next : ℕ) → accepted next ≡ incremented o size → (next ≡ o + size) × (next ≤ 4294967295)

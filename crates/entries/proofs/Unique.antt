@@ -4,9 +4,9 @@ use mathlib.Core.Path.{_≡_, refl}
 use denote.Ref.{now}
 use Rattle.wire.specs.Outcome.{Outcome, refused, accepted}
 use Rattle.wire.proofs.Pins.{Pins, with-room, same, same-by}
-use Rattle.entries.specs.Entries.{Planned, configuredOf}
-use Rattle.entries.specs.declared.Configured.{Configured}
-use Rattle.entries.specs.declared.Configured.the-variants.{Mapped, Refused}
+use Rattle.passes.specs.Entries.{Planned, configuredOf}
+use Rattle.passes.specs.declared.Configured.{Configured}
+use Rattle.passes.specs.declared.Configured.the-variants.{Mapped, Refused}
 use Rattle.entries.proofs.write_entries.Reads as write-entries
 
 -- number and values determine the answer

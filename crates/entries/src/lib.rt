@@ -1,36 +1,19 @@
 // The FMMU entries of a pass: `write_fmmu_config` of configuration.rs, over a whole area.
 ghost use mathlib.Core.Path.{_≡_};
-ghost use lib.ListN.{length, getD, take};
-ghost use mathlib.Core.Bool.{false};
-ghost use mathlib.Core.List.{[]};
-ghost use Prim.Native.Nat.{_+_, _<_, _≤_};
 ghost use Rattle.pdo.specs.Direction.{isRead};
-ghost use Rattle.pdi.specs.Offset.{incremented, movedOf};
-ghost use Rattle.area.specs.Area.{entriesOf};
-ghost use Rattle.uses.specs.Use.{usesFrom, useFrom, mappedUses, total};
-ghost use Rattle.uses.specs.Length.{lengthOf, lengthNow, tooLong};
-ghost use Rattle.entries.specs.Entries.{laid, withUse, plan, WritesEntries};
+ghost use Rattle.sheet.specs.Sheet.{managersIn};
+ghost use Rattle.passes.specs.Handed.{usesBy};
+ghost use Rattle.passes.specs.Entries.{WritesEntries};
 use fmmu::Fmmu;
+use passes::Configured;
+use passes::Place;
+use passes::Route;
 use pdi::ByteLen;
 use pdi::Moved;
 use pdi::PdiOffset;
-use pdi::PdiSegment;
 use pdi::Placed;
 use pdo::PdoDirection;
 use sheet::Answer;
-use wanted::Route;
-
-// What writing the entries answers: the segment, counted from the group start, and the next offset.
-pub enum Configured {
-    Mapped(PdiSegment, PdiOffset),
-    Refused(u8),
-}
-
-// Where a pass begins: its offset, and its group's start.
-pub struct Place {
-    pub offset: PdiOffset,
-    pub group: u32,
-}
 
 // Whether the direction is the reading one.
 fn reads(direction: PdoDirection) -> bool
@@ -49,8 +32,7 @@ enum Grown {
 }
 
 // An enabled entry only has the size added.
-fn grown(before: Fmmu, size: ByteLen) -> Grown
-{
+fn grown(before: Fmmu, size: ByteLen) -> Grown {
     let length = (before.length_bytes.0 as u32) + (size.0 as u32);
     if 65535 < length {
         return Grown::Refused(8);
@@ -61,8 +43,7 @@ fn grown(before: Fmmu, size: ByteLen) -> Grown
 }
 
 // A disabled entry is made new.
-fn mapped(start: u32, size: ByteLen, at: u16, direction: PdoDirection) -> Fmmu
-{
+fn mapped(start: u32, size: ByteLen, at: u16, direction: PdoDirection) -> Fmmu {
     let read = reads(direction);
     Fmmu {
         logical_start_address: start,
@@ -77,13 +58,34 @@ fn mapped(start: u32, size: ByteLen, at: u16, direction: PdoDirection) -> Fmmu
     }
 }
 
-fn laid_entry(image: [u8; 16], start: u32, size: ByteLen, at: u16, direction: PdoDirection) -> Grown
-{
+fn laid_entry(
+    image: [u8; 16],
+    start: u32,
+    size: ByteLen,
+    at: u16,
+    direction: PdoDirection,
+) -> Grown {
     let before = Fmmu::unpack(image);
     if before.enable {
         return grown(before, size);
     }
     Grown::To(mapped(start, size, at, direction))
+}
+
+// Whether a sync manager of this size uses an entry: by EEPROM even at 0 bits, on the CoE path only with bits.
+fn takes(route: Route, size: ByteLen) -> bool {
+    if !route.coe {
+        return true;
+    }
+    0 < size.0
+}
+
+// Which entry the sync manager with a number uses.
+fn entry_of(route: Route, number: u8) -> usize {
+    if route.coe {
+        return wire::wide(route.entry);
+    }
+    wire::wide(number)
 }
 
 // Where the sync managers end that are laid, exactly; or 8.
@@ -93,8 +95,14 @@ enum Laid {
 }
 
 // Lays one sync manager into its entry; a number past the last one is no entry.
-fn lay_one(entries: &mut [[u8; 16]; 16], e: usize, start: u32, size: ByteLen, at: u16, direction: PdoDirection) -> Answer
-{
+fn lay_one(
+    entries: &mut [[u8; 16]; 16],
+    e: usize,
+    start: u32,
+    size: ByteLen,
+    at: u16,
+    direction: PdoDirection,
+) -> Answer {
     if 15 < e {
         return Answer::Accepted;
     }
@@ -116,8 +124,7 @@ fn lay(
     route: Route,
     offset: PdiOffset,
     direction: PdoDirection,
-) -> Laid
-{
+) -> Laid {
     let usage = direction.filter_terms().usage;
     let n = grammar::manager_count(sheet);
     let mut end = offset.start_address as u64;
@@ -125,11 +132,18 @@ fn lay(
     while k < n && k < 16 {
         if sheet::usage_of(sheet, k) == usage {
             let size = sizes[wire::wide(k)];
-            if route.takes(size) {
+            if takes(route, size) {
                 // 9 is judged after 8: until then the start may be past the last address
                 let start = (end % 0x1_0000_0000) as u32;
-                let e = wire::wide(route.entry_of(k));
-                if let Answer::Refused(number) = lay_one(entries, e, start, size, sheet::start_of(sheet, k), direction) {
+                let e = entry_of(route, k);
+                if let Answer::Refused(number) = lay_one(
+                    entries,
+                    e,
+                    start,
+                    size,
+                    sheet::start_of(sheet, k),
+                    direction,
+                ) {
                     return Laid::Refused(number);
                 }
                 end += size.0 as u64;
@@ -141,8 +155,7 @@ fn lay(
 }
 
 // Where a pass ends, counted from the group start: 9, then 10.
-fn segment_to(end: u64, place: Place) -> Configured
-{
+fn segment_to(end: u64, place: Place) -> Configured {
     let offset = place.offset;
     match PdiOffset::at(end) {
         Moved::To(next) => match offset.up_to(next).less(place.group) {
@@ -162,6 +175,7 @@ pub fn write_entries(
     place: Place,
     direction: PdoDirection,
 ) -> Configured
+    ensures { λ r. ⌜ WritesEntries (usesBy route sizes direction (managersIn (now (sheet .entry)))) direction (place .offset .«start_address») (place .group) (now (area .entry)) r (now (area .exit)) ⌝ }
 {
     if area.len() != 256 {
         return Configured::Refused(1);

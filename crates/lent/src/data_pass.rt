@@ -1,9 +1,11 @@
 // The data pass, lent its offset and its oversampling table. Proved by walks.
+ghost use lib.ListN.{take};
+ghost use Rattle.grammar.specs.Grammar.{pdoCount};
 ghost use Rattle.sheet.specs.Sheet.{sheetData};
 ghost use Rattle.pdo.specs.Bits.{multipliersOf};
 ghost use Rattle.passes.specs.Pass.{Passes};
-use entries::Configured;
-use entries::Place;
+use passes::Configured;
+use passes::Place;
 use pdi::PdiOffset;
 use pdi::Placed;
 use pdo::Oversampling;
@@ -23,6 +25,7 @@ fn passed(
     place: Place,
     direction: PdoDirection,
 ) -> Passed
+    ensures { λ r. ⌜ Passes (now (sheet .entry)) (take (pdoCount (now (sheet .entry))) (now (multipliers .entry))) direction (place .offset) (place .group) (now (fmmus .entry)) (now (channels .entry)) (r .answer) (r .next) (now (fmmus .exit)) (now (channels .exit)) ⌝ }
 {
     match subdevice::pass(sheet, multipliers, fmmus, channels, place, direction) {
         Configured::Mapped(segment, next) => Passed {

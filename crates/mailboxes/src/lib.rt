@@ -1,11 +1,6 @@
 // src/subdevice: types.rs (mailboxes) and configuration.rs (the mailbox pass).
 ghost use mathlib.Core.Path.{_≡_};
-ghost use mathlib.Core.Bool.{true};
-ghost use mathlib.Core.List.{[]};
-ghost use lib.ListN.{length, take};
-ghost use Rattle.sheet.specs.Device.{dataOf};
-ghost use Rattle.mailboxes.specs.MailboxWishes.{mailboxWish, mailboxWishes};
-ghost use Rattle.mailboxes.specs.Mailbox.{laterOf, lastOf, configOf, mailboxChannels, ConfiguresMailboxes};
+ghost use Rattle.mailboxes.specs.Mailbox.{ConfiguresMailboxes};
 use pdi::ByteLen;
 use sheet::Answer;
 
@@ -37,8 +32,7 @@ pub enum MailboxRead {
 }
 
 // The mailbox of the sync manager with a number.
-fn mailbox_at(sheet: &[u8], k: u8, size: ByteLen) -> Slot
-{
+fn mailbox_at(sheet: &[u8], k: u8, size: ByteLen) -> Slot {
     Slot::At(Mailbox {
         address: sheet::start_of(sheet, k),
         len: size,
@@ -47,8 +41,7 @@ fn mailbox_at(sheet: &[u8], k: u8, size: ByteLen) -> Slot
 }
 
 // The mailboxes of a sound sheet: recorded, and their sync managers written.
-fn mailboxes_of(sheet: &[u8], channels: &mut [u8]) -> MailboxConfig
-{
+fn mailboxes_of(sheet: &[u8], channels: &mut [u8]) -> MailboxConfig {
     let receive = sheet::receive_size(sheet);
     let send = sheet::send_size(sheet);
     let n = grammar::manager_count(sheet);

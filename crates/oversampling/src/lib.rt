@@ -1,9 +1,9 @@
 // The oversampling table, a lent list of records: its first match, and one multiplier for each PDO of a sheet.
 ghost use mathlib.Core.Path.{_≡_};
-ghost use Rattle.sheet.specs.Device.{pdosFrom};
+ghost use Rattle.wire.specs.Room.{over};
 ghost use Rattle.sheet.specs.Sheet.{sheetData};
 ghost use Rattle.pdo.specs.Bits.{multiplierOf};
-ghost use Rattle.oversampling.specs.Multipliers.{indexesOf, indexesFor, multipliersIn};
+ghost use Rattle.oversampling.specs.Multipliers.{lookedUp};
 use pdo::Oversampling;
 
 // The multiplier of the first record with the index, 1 where there is none.
@@ -21,8 +21,7 @@ pub fn multiplier_of(table: &[Oversampling], index: u16) -> u8
 }
 
 // How many PDOs are looked up: those of the sheet, none where the table has no record.
-fn looked_up(sheet: &[u8], records: usize) -> usize
-{
+fn looked_up(sheet: &[u8], records: usize) -> usize {
     if records == 0 {
         return 0;
     }
@@ -30,19 +29,18 @@ fn looked_up(sheet: &[u8], records: usize) -> usize
 }
 
 // The index of the PDO at a place.
-fn index_at(sheet: &[u8], at: usize) -> u16
-{
+fn index_at(sheet: &[u8], at: usize) -> u16 {
     wire::be16(wire::byte_at(sheet, at + 2), wire::byte_at(sheet, at + 3))
 }
 
 // Where the next one stands.
-fn next_pdo(sheet: &[u8], at: usize) -> usize
-{
+fn next_pdo(sheet: &[u8], at: usize) -> usize {
     at + 5 + wire::wide(wire::byte_at(sheet, at + 4))
 }
 
 // One multiplier for each PDO of a sheet, in its order, over the front of a list.
 pub fn multipliers_for(table: &[Oversampling], sheet: &[u8], out: &mut [u8; 255])
+    ensures { λ r. ⌜ now (out .exit) ≡ over (lookedUp (now (table .entry)) (sheetData (now (sheet .entry)) .pdos)) (now (out .entry)) ⌝ }
 {
     let count = looked_up(sheet, table.len());
     let mut place = grammar::pdos_place(sheet);

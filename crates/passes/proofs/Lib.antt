@@ -1,4 +1,6 @@
--- Planning, the pass by value, and that a pass has one answer.
-pub mod Planning
-pub mod Passing
+-- Laws that belong to no one function.
+pub mod Pieces
+pub mod Room
+pub mod Lengths
+pub mod Kept
 pub mod Once

@@ -11,9 +11,9 @@ use Rattle.wire.proofs.Order.{passed, passed-answer, stopped}
 use Rattle.sheet.specs.Device.{Data}
 use Rattle.sheet.specs.Sheet.{sheetRefusals, sheetData, readSheet, pdoCount}
 use Rattle.pdo.specs.declared.PdoDirection.{PdoDirection}
-use Rattle.entries.specs.declared.Configured.{Configured}
-use Rattle.entries.specs.declared.Configured.the-variants.{Mapped, Refused}
-use Rattle.entries.specs.Entries.{Planned, configuredOf}
+use Rattle.passes.specs.declared.Configured.{Configured}
+use Rattle.passes.specs.declared.Configured.the-variants.{Mapped, Refused}
+use Rattle.passes.specs.Entries.{Planned, configuredOf}
 use Rattle.pdi.specs.declared.PdiOffset.{PdiOffset}
 use Rattle.pdi.specs.Segment.{placedOf}
 use Rattle.passes.specs.declared.Passed.{Passed}

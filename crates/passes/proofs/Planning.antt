@@ -22,12 +22,12 @@ use Rattle.channels.proofs.After.{channel-area-whole, channels-same}
 use Rattle.pdo.specs.declared.PdoDirection.{PdoDirection}
 use Rattle.pdo.specs.Direction.{usageOf}
 use Rattle.pdo.specs.Bits.{byCoe, pathKind, bitsOf, piecesOf}
-use Rattle.entries.specs.declared.Configured.{Configured}
-use Rattle.entries.specs.declared.Configured.the-variants.{Mapped, Refused}
-use Rattle.uses.specs.declared.Route.{Route}
-use Rattle.uses.specs.Use.{coeEntry, total, usesOf, usesFrom, sizeOf}
-use Rattle.entries.specs.Entries.{Planned, planned, configuredOf, entryRefusals, entriesOutcome, entryArea, WritesEntries}
-use Rattle.uses.proofs.Pieces.{uses-are, route-total}
+use Rattle.passes.specs.declared.Configured.{Configured}
+use Rattle.passes.specs.declared.Configured.the-variants.{Mapped, Refused}
+use Rattle.passes.specs.declared.Route.{Route}
+use Rattle.passes.specs.Use.{coeEntry, total, usesOf, usesFrom, sizeOf}
+use Rattle.passes.specs.Entries.{Planned, planned, configuredOf, entryRefusals, entriesOutcome, entryArea, WritesEntries}
+use Rattle.passes.proofs.Pieces.{uses-are, route-total}
 use Rattle.wanted.specs.declared.Wanted.{Wanted}
 use Rattle.wanted.specs.Wanted.{wantedRefusals, wishesOf, wantedFrom, Wants}
 use Rattle.wanted.proofs.Wanting.{wish-at, wanted-refused, wanted-accepted}

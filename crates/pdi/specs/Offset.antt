@@ -13,8 +13,12 @@ use Rattle.pdi.specs.declared.Moved.the-variants.{To, Refused}
 abbrev pub pastEnd : ℕ → Bool
 pastEnd end = ltb 4294967295 end
 
+-- the offset at an exact place
+abbrev pub offsetAt : ℕ → Outcome ℕ
+offsetAt exact = decide (when 9 (pastEnd exact) ∷ []) exact
+
 abbrev pub incremented : ℕ → ℕ → Outcome ℕ
-incremented start bytes = decide (when 9 (pastEnd (start + bytes)) ∷ []) (start + bytes)
+incremented start bytes = offsetAt (start + bytes)
 
 abbrev pub incrementedByteAligned : ℕ → ℕ → Outcome ℕ
 incrementedByteAligned start bits =

@@ -3,7 +3,7 @@ ghost use mathlib.Core.Path.{_≡_};
 ghost use Rattle.wire.specs.Room.{InRoom, textIn};
 ghost use Rattle.wire.specs.Text.{page, Types};
 ghost use Rattle.pdi.specs.Unit.{roundedUp, roundedOf};
-ghost use Rattle.pdi.specs.Offset.{incremented, incrementedByteAligned, movedOf};
+ghost use Rattle.pdi.specs.Offset.{offsetAt, incremented, incrementedByteAligned, movedOf};
 ghost use Rattle.pdi.specs.Segment.{segment, lenOf, lessGroup, placedOf, segmentText};
 use wire::Written;
 

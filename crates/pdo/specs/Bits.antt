@@ -1,13 +1,11 @@
 -- The exact bits of each wanted sync manager.
 -- Assumes nothing.
-use mathlib.Core.Bool.{Bool, false, cond, _&&_, _||_}
+use mathlib.Core.Bool.{Bool, cond, _&&_}
 use mathlib.Core.List.{List, [], _∷_, map}
 use Prim.Native.Nat.{ℕ, suc, _+_, _*_}
-use lib.ListN.{getD}
 use lib.Dec.{eqb, ltb}
 use Rattle.sheet.specs.Device.{Pdo, Data}
-use Rattle.pdi.specs.declared.BitLen.{BitLen}
-use Rattle.wire.specs.Lists.{listOf, someOf, sum}
+use Rattle.wire.specs.Lists.{someOf, sum}
 use Rattle.sheet.specs.declared.SyncManager.{SyncManager}
 use Rattle.pdo.specs.declared.Oversampling.{Oversampling}
 use Rattle.pdo.specs.declared.PdoDirection.{PdoDirection}
@@ -51,16 +49,6 @@ unfoldable pub bitsOf : ℕ → ℕ → List Pdo → List ℕ → ℕ
 bitsOf kind number [] ws = 0
 bitsOf kind number (p ∷ ps) ws =
     cond (eqb (p .kind) kind && eqb (p .manager) number) (sum (p .lengths) * firstOf ws) 0 + bitsOf kind number ps (othersOf ws)
-
--- the same as code holds it, for those of sixteen sync managers that are asked for: what one PDO adds to the one that it names, and the exact bits of each
-abbrev pub askedFor : List Bool → ℕ → Bool
-askedFor asked k = getD asked k false
-
-abbrev pub partOf : ℕ → List Bool → Pdo → ℕ → ℕ
-partOf kind asked p w = cond (eqb (p .kind) kind && (ltb (p .manager) 16 && askedFor asked (p .manager))) (sum (p .lengths) * w) 0
-
-unfoldable pub sumsOf : ℕ → List Bool → List Pdo → List ℕ → List BitLen
-sumsOf kind asked ps ws = listOf (λ k. record { 0 = cond (askedFor asked k) (bitsOf kind k ps ws) 0 }) 16
 
 -- a wanted sync manager: its number, its exact bits, its address
 pub record Piece : Type 0 where

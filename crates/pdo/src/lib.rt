@@ -1,11 +1,8 @@
-// Which way process data goes, whether CoE is on, and the exact bits of each sync manager, summed in one walk over the PDO records.
+// Which way process data goes, what an oversampling record is, and whether CoE is on.
 ghost use mathlib.Core.Path.{_≡_};
-ghost use Prim.Native.Nat.{_+_, _≤_};
-ghost use lib.ListN.{length, getD, take};
-ghost use Rattle.wire.specs.Lists.{listOf, sum};
-ghost use Rattle.sheet.specs.Device.{pdoAt, pdosFrom};
+ghost use Rattle.sheet.specs.Sheet.{sheetData};
 ghost use Rattle.pdo.specs.Direction.{termsOf};
-ghost use Rattle.pdo.specs.Bits.{someUsage, coeOn, partOf, sumsOf};
+ghost use Rattle.pdo.specs.Bits.{someUsage, byCoe};
 
 // Which way process data goes.
 pub enum PdoDirection {

@@ -5,11 +5,11 @@ use crate::say::Line;
 use crate::table;
 use crate::table::Start;
 use counting::Counted;
-use entries::Configured;
-use entries::Place;
 use mailboxes::MailboxConfig;
 use mailboxes::MailboxRead;
 use mailboxes::Slot;
+use passes::Configured;
+use passes::Place;
 use pdi::PdiOffset;
 use pdi::PdiSegment;
 use pdi::Placed;
@@ -257,11 +257,35 @@ pub fn plan(request: &[u8]) {
 const ONCE: [u8; 255] = [1; 255];
 
 // A data pass of a plan; without a table it needs none, as lockerplan's.
-fn plan_pass(sheet: &[u8], once: &[u8; 255], table: [Oversampling; 256], records: usize, fmmus: &mut [u8], channels: &mut [u8], offset: PdiOffset, direction: PdoDirection) -> Configured {
+fn plan_pass(
+    sheet: &[u8],
+    once: &[u8; 255],
+    table: [Oversampling; 256],
+    records: usize,
+    fmmus: &mut [u8],
+    channels: &mut [u8],
+    offset: PdiOffset,
+    direction: PdoDirection,
+) -> Configured {
     if records == 0 {
-        return subdevice::pass(sheet, once, fmmus, channels, Place { offset, group: 0 }, direction);
+        return subdevice::pass(
+            sheet,
+            once,
+            fmmus,
+            channels,
+            Place { offset, group: 0 },
+            direction,
+        );
     }
-    let done = table::plan(sheet, table, records, fmmus, channels, Start { offset, group: 0 }, direction);
+    let done = table::plan(
+        sheet,
+        table,
+        records,
+        fmmus,
+        channels,
+        Start { offset, group: 0 },
+        direction,
+    );
     let answer = done.answer;
     let next = done.next;
     match answer {
@@ -278,9 +302,32 @@ fn plan_once(sheet: &[u8], once: &[u8; 255], table: [Oversampling; 256], records
         return say::refused(number);
     }
     let start = PdiOffset { start_address: 0 };
-    match plan_pass(sheet, once, table, records, &mut fmmus, &mut channels, start, PdoDirection::MasterRead) {
-        Configured::Mapped(inputs, next) => match plan_pass(sheet, once, table, records, &mut fmmus, &mut channels, next, PdoDirection::MasterWrite) {
-            Configured::Mapped(outputs, _) => say::row(inputs.start as u64, inputs.end as u64, outputs.start as u64, outputs.end as u64),
+    match plan_pass(
+        sheet,
+        once,
+        table,
+        records,
+        &mut fmmus,
+        &mut channels,
+        start,
+        PdoDirection::MasterRead,
+    ) {
+        Configured::Mapped(inputs, next) => match plan_pass(
+            sheet,
+            once,
+            table,
+            records,
+            &mut fmmus,
+            &mut channels,
+            next,
+            PdoDirection::MasterWrite,
+        ) {
+            Configured::Mapped(outputs, _) => say::row(
+                inputs.start as u64,
+                inputs.end as u64,
+                outputs.start as u64,
+                outputs.end as u64,
+            ),
             Configured::Refused(number) => say::refused(number),
         },
         Configured::Refused(number) => say::refused(number),

@@ -25,8 +25,7 @@ pub fn plan(
     channels: &mut [u8],
     start: Start,
     direction: PdoDirection,
-) -> Passed
-{
+) -> Passed {
     let k = wire::least(records, 256);
     let mut offset = start.offset;
     let answer = lent::configure_fmmus(
@@ -51,8 +50,7 @@ pub fn locate(
     offset: PdiOffset,
     direction: PdoDirection,
     address: u32,
-) -> Counted
-{
+) -> Counted {
     let k = wire::least(records, 256);
     lent::count(sheet, &table[..k], offset, direction, address)
 }

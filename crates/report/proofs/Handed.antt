@@ -11,8 +11,8 @@ use Rattle.pdi.specs.declared.Placed.{Placed}
 use Rattle.pdi.specs.declared.Placed.the-variants as placed
 use Rattle.pdi.specs.Segment.{placedOf}
 use Rattle.pdo.specs.declared.PdoDirection.{PdoDirection}
-use Rattle.entries.specs.declared.Configured.{Configured}
-use Rattle.entries.specs.Entries.{Planned, configuredOf}
+use Rattle.passes.specs.declared.Configured.{Configured}
+use Rattle.passes.specs.Entries.{Planned, configuredOf}
 use Rattle.passes.specs.Pass.{dataPass, segmentOf, offsetAfter, Configures, Passes}
 use Rattle.sheet.specs.Sheet.{pdoCount}
 use Rattle.oversampling.specs.Multipliers.{padded}

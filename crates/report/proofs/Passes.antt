@@ -9,9 +9,9 @@ use Rattle.pdi.specs.declared.PdiOffset.{PdiOffset}
 use Rattle.sheet.specs.Sheet.{sheetData, managerCount}
 use Rattle.pdo.specs.declared.PdoDirection.{PdoDirection}
 use Rattle.pdo.specs.declared.PdoDirection.the-variants.{MasterRead, MasterWrite}
-use Rattle.entries.specs.Entries.{Planned, configuredOf}
-use Rattle.entries.specs.declared.Configured.{Configured}
-use Rattle.entries.specs.declared.Configured.the-variants as configured
+use Rattle.passes.specs.Entries.{Planned, configuredOf}
+use Rattle.passes.specs.declared.Configured.{Configured}
+use Rattle.passes.specs.declared.Configured.the-variants as configured
 use Rattle.mailboxes.specs.declared.MailboxConfig.{MailboxConfig}
 use Rattle.mailboxes.specs.declared.MailboxRead.{MailboxRead}
 use Rattle.mailboxes.specs.declared.MailboxRead.the-variants as mailbox

@@ -23,9 +23,9 @@ use Rattle.area.proofs.Flat.{length-chunks, rows-chunks, chunks-flat, flat-byte
 use Rattle.pdo.specs.declared.PdoDirection.{PdoDirection}
 use Rattle.channels.specs.Channels.{channelFor, written, channelsAfter}
 use Rattle.channels.proofs.After.{channels-kept}
-use Rattle.uses.specs.Use.{usesOf}
-use Rattle.entries.specs.Entries.{Planned, plan}
-use Rattle.entries.proofs.Kept.{plan-length, rows-plan}
+use Rattle.passes.specs.Use.{usesOf}
+use Rattle.passes.specs.Entries.{Planned, plan}
+use Rattle.passes.proofs.Kept.{plan-length, rows-plan}
 use Rattle.mailboxes.specs.declared.MailboxConfig.{MailboxConfig}
 use Rattle.mailboxes.specs.Mailbox.{mailboxPass, mailboxSize, mailboxChannels}
 use Rattle.passes.specs.Pass.{dataSize}

@@ -16,9 +16,9 @@ use Rattle.sheet.specs.Sheet.{sheetData, managerCount}
 use Rattle.pdo.specs.declared.PdoDirection.{PdoDirection}
 use Rattle.pdo.specs.declared.PdoDirection.the-variants.{MasterRead, MasterWrite}
 use Rattle.pdo.specs.Bits.{multipliersOf}
-use Rattle.entries.specs.declared.Configured.{Configured}
-use Rattle.entries.specs.declared.Configured.the-variants as configured
-use Rattle.entries.specs.Entries.{Planned}
+use Rattle.passes.specs.declared.Configured.{Configured}
+use Rattle.passes.specs.declared.Configured.the-variants as configured
+use Rattle.passes.specs.Entries.{Planned}
 use Rattle.mailboxes.specs.declared.MailboxConfig.{MailboxConfig}
 use Rattle.mailboxes.specs.Mailbox.{mailboxPass, mailboxArea}
 use Rattle.lines.specs.Text.{line, numbered, inputsFront, outputsFront, lines, enabledLine, refusedText, bayText}

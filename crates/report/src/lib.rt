@@ -3,10 +3,10 @@ ghost use mathlib.Core.Path.{_≡_};
 ghost use Rattle.wire.specs.Room.{InRoom, textIn};
 ghost use Rattle.wire.specs.Text.{page, Types};
 ghost use Rattle.passes.specs.Pass.{Configures};
-ghost use Rattle.report.specs.Plan.{areas, once, configuredWith, planBay, bayOf, reportText};
-use entries::Configured;
-use entries::Place;
+ghost use Rattle.report.specs.Plan.{areas, once, planBay, bayOf, reportText};
 use mailboxes::MailboxRead;
+use passes::Configured;
+use passes::Place;
 use pdi::PdiOffset;
 use pdi::PdiSegment;
 use pdo::PdoDirection;
@@ -66,7 +66,7 @@ fn typed(sheet: &[u8], mut fmmus: [u8; 256], mut channels: [u8; 128], room: &mut
 {
     match plan_bay(sheet, &mut fmmus, &mut channels) {
         Plan::Segments(inputs, outputs) => {
-            let n = wire::byte_at(sheet, 8);
+            let n = grammar::manager_count(sheet);
             lines::put_bay(room, n, inputs, outputs, &fmmus, &channels)
         }
         Plan::Refused(number) => lines::put_refused(room, number),

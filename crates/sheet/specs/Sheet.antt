@@ -4,7 +4,7 @@ use mathlib.Core.Path.{_≡_}
 use mathlib.Core.Bool.{Bool, false}
 use mathlib.Core.List.{List, [], _∷_, _++_}
 use Prim.Native.Nat.{ℕ, _+_, _-_}
-use lib.ListN.{getD, replicate}
+use lib.ListN.{getD, take, replicate}
 use Rattle.wire.specs.Outcome.{Outcome, refused, accepted, Refusal, when, decide}
 use Rattle.wire.specs.Field.{flagAt}
 use Rattle.wire.specs.Number.{bigAt}
@@ -19,8 +19,6 @@ use Rattle.sheet.specs.declared.Device.{Device}
 use Rattle.sheet.specs.declared.Answer.{Answer}
 use Rattle.sheet.specs.declared.Answer.the-variants.{Accepted, Refused}
 use Rattle.sheet.specs.declared.SheetRead.{SheetRead}
-use Rattle.sheet.specs.declared.ManagerRead.{ManagerRead}
-use Rattle.sheet.specs.declared.ManagerRead.the-variants as manager
 
 -- a sync manager: start address (2), control, EEPROM enable (bit 0 is ENABLE, others ignored), usage
 abbrev pub managerAt : List ℕ → ℕ → SyncManager
@@ -31,14 +29,6 @@ managerAt s at =
       enable = flagAt (getD s (at + 3) 0) 0;
       «usage_type» = getD s (at + 4) 0;
     }
-
--- one is read, or refused with 5
-abbrev pub readManager : List ℕ → ℕ → Outcome SyncManager
-readManager s at = decide (when 5 (unnamed (getD s (at + 2) 0)) ∷ []) (managerAt s at)
-
-abbrev pub managerReadOf : ManagerRead → Outcome SyncManager
-managerReadOf (manager.Manager m) = accepted m
-managerReadOf (manager.Refused n) = refused n
 
 -- 5: any control, wanted or not, has an unnamed mode or direction
 abbrev pub unnamedAt : List ℕ → ℕ → Bool
@@ -64,6 +54,10 @@ sheetData s =
       usages = listOf (λ k. getD s (usagesPlace s + k) 0) (usageCount s);
       pdos = pdosFrom s (pdoCount s) (pdosPlace s);
     }
+
+-- the sync managers that code looks at: sixteen at most, and an accepted sheet has no more
+abbrev pub managersIn : List ℕ → List SyncManager
+managersIn s = take 16 (sheetData s .managers)
 
 -- every list of bytes has exactly one answer
 unfoldable pub readSheet : List ℕ → Outcome Data

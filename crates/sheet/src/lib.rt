@@ -1,16 +1,13 @@
 // The device sheet: the one form in which a bay comes in, read whole.
 ghost use mathlib.Core.Path.{_≡_};
 ghost use mathlib.Core.Bool.{false};
-ghost use mathlib.Core.List.{[], _∷_};
 ghost use Rattle.wire.specs.Outcome as Outcome;
-ghost use Rattle.wire.specs.Outcome.{when, decide};
+ghost use Rattle.wire.specs.Outcome.{decide};
 ghost use Prim.Native.Nat.{_+_, _*_, _≤_};
 ghost use lib.ListN.{length};
-ghost use Rattle.wire.specs.Lists.{someBelow};
-ghost use Rattle.grammar.specs.Grammar.{broken};
-ghost use Rattle.sheet.specs.Sheet.{unnamedAt, someUnnamed, managersOf, usagesOf, deviceOf, readManager, managerReadOf, answerOf, sheetReadOf, ReadsAs};
+ghost use Rattle.grammar.specs.Grammar.{managerCount, managerPlace, broken};
+ghost use Rattle.sheet.specs.Sheet.{managerAt, someUnnamed, sheetRefusals, sheetData, managersOf, usagesOf, deviceOf, answerOf, sheetReadOf, ReadsAs};
 use channel_bytes::Control;
-use channel_bytes::ControlRead;
 use channel_bytes::Direction;
 use channel_bytes::OperationMode;
 use pdi::ByteLen;
@@ -67,6 +64,7 @@ const NO_MANAGER: SyncManager = SyncManager {
 
 // Whether some control has no name.
 fn some_unnamed(sheet: &[u8]) -> bool
+    requires { ⌜ 11 + 5 * managerCount (now sheet) ≤ length (now sheet) ⌝ }
     ensures { λ r. ⌜ r ≡ someUnnamed (now (sheet .entry)) ⌝ }
 {
     let n = grammar::manager_count(sheet);

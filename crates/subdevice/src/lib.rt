@@ -1,11 +1,9 @@
 // src/subdevice/configuration.rs: a data pass of either direction, with the offset by value.
-ghost use mathlib.Core.Path.{_≡_};
-ghost use lib.ListN.{length, take};
-ghost use Rattle.sheet.specs.Device.{dataOf};
-ghost use Rattle.sheet.specs.Sheet.{pdoCount};
-ghost use Rattle.passes.specs.Pass.{Plans, Configures, passedOf, Passes};
-use entries::Configured;
-use entries::Place;
+ghost use lib.ListN.{take};
+ghost use Rattle.grammar.specs.Grammar.{pdoCount};
+ghost use Rattle.passes.specs.Pass.{Configures};
+use passes::Configured;
+use passes::Place;
 use pdo::PdoDirection;
 use sheet::Answer;
 
@@ -18,6 +16,7 @@ pub fn pass(
     place: Place,
     direction: PdoDirection,
 ) -> Configured
+    ensures { λ r. ⌜ Configures (now (sheet .entry)) (take (pdoCount (now (sheet .entry))) (now (multipliers .entry))) direction (place .offset .«start_address») (place .group) (now (fmmus .entry)) (now (channels .entry)) r (now (fmmus .exit)) (now (channels .exit)) ⌝ }
 {
     if fmmus.len() != 256 {
         return Configured::Refused(1);

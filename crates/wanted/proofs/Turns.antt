@@ -16,7 +16,7 @@ use Rattle.wire.proofs.Order.{never}
 use Rattle.sheet.specs.declared.SyncManager.{SyncManager}
 use Rattle.wire.specs.Lists.{someOf}
 use Rattle.pdo.specs.Bits.{askedFor, Piece, piecesFrom}
-use Rattle.uses.specs.Use.{firstWith}
+use Rattle.passes.specs.Use.{firstWith}
 
 -- the first with the usage: one more that hasn't it
 pub first-here : (usage u : ℕ) (us l : List ℕ) (k : ℕ) → l ≡ u ∷ us → u ≡ usage → k ≡ k + firstWith usage l

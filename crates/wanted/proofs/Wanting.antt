@@ -26,7 +26,7 @@ use Rattle.pdo.specs.declared.Terms.{Terms}
 use Rattle.pdo.specs.Direction.{usageOf, termsOf}
 use Rattle.pdo.specs.Bits.{byCoe, pathKind, bitsOf, askedFor, sumsOf, Piece, piecesFrom, piecesOf}
 use Rattle.pdo.proofs.Bits.{tally-at}
-use Rattle.uses.specs.Use.{firstWith, coeEntry}
+use Rattle.passes.specs.Use.{firstWith, coeEntry}
 use Rattle.wanted.specs.declared.Wanted.{Wanted}
 use Rattle.wanted.specs.Wishes.{AskedFor, bitsIn, dataWish, someTooWide, wishesAfter}
 use Rattle.wanted.specs.Wanted.{someTooMany, noEntry, wantedRefusals, wishesOf, wantedFrom, wantedAfter, Wants}

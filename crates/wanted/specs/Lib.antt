@@ -1,3 +1,2 @@
--- What a data pass wants before any register is looked at (document 01, 'Data'). Read `Wanted` first.
-pub mod Wishes
+-- What a data pass wants, in the form that code hands it on.
 pub mod Wanted

@@ -1,51 +1,16 @@
-// Which sync managers a data pass wants, and by which path: configuration.rs up to the first register that it writes.
+// Which sync managers a data pass wants, with which sizes, and by which path: configuration.rs up to the first register that it writes.
 ghost use mathlib.Core.Path.{_≡_};
-ghost use mathlib.Core.Bool.{cond, _&&_};
-ghost use mathlib.Core.List.{[], _∷_};
-ghost use Prim.Native.Nat.{min};
+ghost use mathlib.Core.Bool.{cond};
 ghost use lib.ListN.{take};
-ghost use lib.Dec.{eqb, ltb};
 ghost use Rattle.wire.specs.Outcome as Outcome;
-ghost use Rattle.wire.specs.Outcome.{when, decide};
-ghost use Rattle.pdi.specs.Unit.{tooManyBits};
-ghost use Rattle.sheet.specs.Device.{dataOf};
-ghost use Rattle.sheet.specs.Sheet.{answerOf};
-ghost use Rattle.wire.specs.Lists.{someOf};
-ghost use Rattle.pdo.specs.Bits.{piecesFrom};
-ghost use Rattle.uses.specs.Use.{firstWith};
-ghost use Rattle.wanted.specs.Wishes.{AskedFor, bitsIn, sizedOf, dataWish, wishesAfter, someTooWide};
+ghost use Rattle.grammar.specs.Grammar.{pdoCount};
 ghost use Rattle.wanted.specs.Wanted.{wantedAfter, Wants};
+use passes::Route;
 use pdi::BitLen;
 use pdi::ByteLen;
 use pdi::Rounded;
 use pdo::PdoDirection;
 use sheet::Answer;
-
-// Which entry a sync manager uses: on the CoE path the given one, with bits only; else its own.
-pub struct Route {
-    pub coe: bool,
-    pub entry: u8,
-}
-
-impl Route {
-    // Whether a sync manager of this size uses an entry: by EEPROM even at 0 bits, on the CoE path only with bits.
-    pub fn takes(self, size: ByteLen) -> bool
-    {
-        if !self.coe {
-            return true;
-        }
-        0 < size.0
-    }
-
-    // Which entry the sync manager with a number uses.
-    pub fn entry_of(self, number: u8) -> u8
-    {
-        if self.coe {
-            return self.entry;
-        }
-        number
-    }
-}
 
 // What a data pass wants: a size for each sync manager of its usage, and the path; or the lowest of 2 to 7 that holds.
 pub struct Wanted {
@@ -69,8 +34,7 @@ fn sum_bytes(part: &[u8]) -> u64
 }
 
 // The bits of the PDO at a place of a sound sheet.
-fn pdo_bits(sheet: &[u8], at: usize, kind: u8) -> u64
-{
+fn pdo_bits(sheet: &[u8], at: usize, kind: u8) -> u64 {
     if kind == 0 {
         let end = at + 5 + wire::wide(sheet[at + 4]);
         return sum_bytes(&sheet[at + 5..end]);
@@ -79,8 +43,7 @@ fn pdo_bits(sheet: &[u8], at: usize, kind: u8) -> u64
 }
 
 // Whether the PDO at a place counts: it is of the kind, and names a sync manager of the usage.
-fn counts(sheet: &[u8], at: usize, kind: u8, usage: u8) -> bool
-{
+fn counts(sheet: &[u8], at: usize, kind: u8, usage: u8) -> bool {
     if sheet[at] != kind {
         return false;
     }
@@ -92,8 +55,7 @@ fn counts(sheet: &[u8], at: usize, kind: u8, usage: u8) -> bool
 }
 
 // The exact bits of each sync manager of the usage: over the PDOs that are of the kind, bits times multiplier.
-fn tally(sheet: &[u8], kind: u8, usage: u8, multipliers: &[u8; 255]) -> [BitLen; 16]
-{
+fn tally(sheet: &[u8], kind: u8, usage: u8, multipliers: &[u8; 255]) -> [BitLen; 16] {
     let mut sums = [BitLen(0); 16];
     let mut place = grammar::pdos_place(sheet);
     let mut i = 0;
@@ -102,7 +64,9 @@ fn tally(sheet: &[u8], kind: u8, usage: u8, multipliers: &[u8; 255]) -> [BitLen;
         if counts(sheet, place, kind, usage) {
             let slot = wire::wide(sheet[place + 1]);
             let before = sums[slot].0;
-            sums[slot] = BitLen(before + pdo_bits(sheet, place, kind) * wire::wide(multipliers[i]) as u64);
+            sums[slot] = BitLen(
+                before + pdo_bits(sheet, place, kind) * wire::wide(multipliers[i]) as u64,
+            );
         }
         place = place + 5 + wire::wide(sheet[place + 4]);
         i += 1;
@@ -111,8 +75,7 @@ fn tally(sheet: &[u8], kind: u8, usage: u8, multipliers: &[u8; 255]) -> [BitLen;
 }
 
 // The place of the first FMMU entry with the usage; the count where there is none.
-fn first_with(sheet: &[u8], usage: u8) -> u8
-{
+fn first_with(sheet: &[u8], usage: u8) -> u8 {
     let f = grammar::usage_count(sheet);
     let at = grammar::usages_place(sheet);
     let mut k = 0;
@@ -131,8 +94,7 @@ struct Sizes {
     list: [ByteLen; 16],
 }
 
-fn sizes_of(sheet: &[u8], kind: u8, usage: u8, multipliers: &[u8; 255]) -> Sizes
-{
+fn sizes_of(sheet: &[u8], kind: u8, usage: u8, multipliers: &[u8; 255]) -> Sizes {
     let bits = tally(sheet, kind, usage, multipliers);
     let mut list = [ByteLen(0); 16];
     let n = wire::wide(grammar::manager_count(sheet));
@@ -158,8 +120,7 @@ fn sizes_of(sheet: &[u8], kind: u8, usage: u8, multipliers: &[u8; 255]) -> Sizes
 }
 
 // Whether some size is above 0.
-fn some_size(sizes: [ByteLen; 16]) -> bool
-{
+fn some_size(sizes: [ByteLen; 16]) -> bool {
     let mut k = 0;
     while k < 16 {
         if 0 < sizes[k].0 {
@@ -171,8 +132,7 @@ fn some_size(sizes: [ByteLen; 16]) -> bool
 }
 
 // 7: whether no entry has the usage though some sync manager has bits.
-fn no_entry(sheet: &[u8], entry: u8, sizes: [ByteLen; 16]) -> bool
-{
+fn no_entry(sheet: &[u8], entry: u8, sizes: [ByteLen; 16]) -> bool {
     if entry != grammar::usage_count(sheet) {
         return false;
     }
@@ -201,8 +161,7 @@ fn refused(number: u8) -> Wanted
 }
 
 // By EEPROM each uses its own entry; on the CoE path the first with the usage, or 7 where there is none.
-fn routed(sheet: &[u8], coe: bool, usage: u8, sizes: [ByteLen; 16]) -> Wanted
-{
+fn routed(sheet: &[u8], coe: bool, usage: u8, sizes: [ByteLen; 16]) -> Wanted {
     if !coe {
         return Wanted {
             answer: Answer::Accepted,
@@ -226,6 +185,7 @@ fn routed(sheet: &[u8], coe: bool, usage: u8, sizes: [ByteLen; 16]) -> Wanted
 
 // What a direction's pass of a sheet wants. Lent a multiplier for each PDO.
 pub fn wanted_of(sheet: &[u8], multipliers: &[u8; 255], direction: PdoDirection) -> Wanted
+    ensures { λ r. ⌜ Wants (now (sheet .entry)) (take (pdoCount (now (sheet .entry))) (now (multipliers .entry))) direction r ⌝ }
 {
     let sound = sheet::check(sheet);
     if let Answer::Refused(number) = sound {

@@ -6,7 +6,7 @@ use native.Mathlib.Omega.{arith}
 use borrow.Author.Needs.{needs}
 use lib.ListN.{drop}
 use Rattle.pdi.specs.Offset.{movedOf}
-use Rattle.uses.specs.Use.{mappedUses}
+use Rattle.passes.specs.Use.{mappedUses}
 use Rattle.uses.proofs.Held.{uses-next, uses-end}
 use Rattle.entries.proofs.Laying.{Stepping, stepping-starts, stepping-turns, stepping-halts, stepping-ends}
 use Rattle.entries.proofs.end_of.Statement.{statement}

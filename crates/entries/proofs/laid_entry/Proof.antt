@@ -9,7 +9,7 @@ use Rattle.fmmu.specs.declared.Fmmu.{Fmmu}
 use Rattle.pdo.specs.declared.PdoDirection.{PdoDirection}
 use Rattle.pdo.specs.declared.PdoDirection.the-variants.{MasterRead, MasterWrite}
 use Rattle.pdo.specs.Direction.{isRead, isWrite}
-use Rattle.entries.specs.Entries.{mapped, grown}
+use Rattle.passes.specs.Entries.{mapped, grown}
 use Rattle.entries.proofs.laid_entry.Statement.{statement}
 use Rattle.entries.proofs.laid_entry.Tie as tie
 

@@ -7,7 +7,7 @@ use denote.Ref.{now}
 use lib.ListN.{length, drop}
 use Rattle.area.specs.Area.{entriesOf}
 use Rattle.area.proofs.Flat.{length-chunks}
-use Rattle.uses.specs.Use.{mappedUses}
+use Rattle.passes.specs.Use.{mappedUses}
 use Rattle.uses.proofs.Held.{uses-next, uses-end}
 use Rattle.entries.proofs.Laying.{Laying, laying-starts, laying-fits, laying-reaches, laying-turns, laying-ends}
 use Rattle.entries.proofs.lay.Statement.{statement}

@@ -6,10 +6,10 @@ use native.Mathlib.Omega.{arith}
 use denote.Ref.{now}
 use Rattle.fmmu.specs.declared.Fmmu.{Fmmu}
 use Rattle.fmmu.specs.Image.{fieldsOf, imageOf}
-use Rattle.uses.specs.Use.{useFrom}
-use Rattle.uses.specs.Length.{lengthOf}
-use Rattle.entries.specs.Entries.{laid}
-use Rattle.entries.proofs.Kept.{entry-read, use-stored, use-nowhere}
+use Rattle.passes.specs.Use.{useFrom}
+use Rattle.passes.specs.Entries.{lengthOf}
+use Rattle.passes.specs.Entries.{laid}
+use Rattle.passes.proofs.Kept.{entry-read, use-stored, use-nowhere}
 use borrow.Author.Needs.{needs}
 use Rattle.entries.proofs.lay_one.Statement.{statement}
 use Rattle.entries.proofs.lay_one.Tie as tie

@@ -12,8 +12,8 @@ use Rattle.pdi.specs.Segment.{segment, lessGroup, placedOf}
 use Rattle.pdi.specs.declared.PdiSegment.{PdiSegment}
 use Rattle.area.specs.Area.{entriesOf}
 use Rattle.area.proofs.Flat.{area-whole}
-use Rattle.uses.specs.Use.{usesFrom, mappedUses}
-use Rattle.uses.specs.Length.{tooLong}
+use Rattle.passes.specs.Use.{usesFrom, mappedUses}
+use Rattle.passes.specs.Entries.{tooLong}
 use Rattle.uses.proofs.Held.{held-back}
 use Rattle.entries.proofs.Laying.{stepped}
 use Rattle.entries.proofs.Decided.{Looked, wrong-area-refused, too-long-refused, past-end-refused, below-group-refused, entries-written}

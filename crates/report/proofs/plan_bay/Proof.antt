@@ -2,7 +2,7 @@
 -- Assumes nothing.
 use mathlib.Core.Path.{_≡_, _∙_}
 use denote.Ref.{now}
-use Rattle.entries.specs.Entries.{Planned}
+use Rattle.passes.specs.Entries.{Planned}
 use Rattle.report.specs.Plan.{areas, ended, withInputs, withOutputs, planBay}
 use Rattle.report.proofs.Passes.{outputs-mapped, outputs-refused, inputs-mapped, inputs-refused, mailboxes-read, mailboxes-refused}
 use borrow.Author.Needs.{needs}

@@ -2,7 +2,7 @@
 -- Assumes nothing.
 use mathlib.Core.Path.{sym, ap}
 use borrow.Author.Needs.{needs}
-use Rattle.entries.specs.declared.Configured.{Configured}
+use Rattle.passes.specs.declared.Configured.{Configured}
 use Rattle.passes.specs.Pass.{passedOf}
 use Rattle.subdevice.proofs.passed_with.Statement.{statement}
 use Rattle.subdevice.proofs.passed_with.Tie as tie

@@ -5,7 +5,7 @@ use Prim.Native.Nat.{_+_, _-_, _≤_, _<_, min}
 use native.Mathlib.Nat.{min-le-right}
 use native.Mathlib.Omega.{arith}
 use lib.ListN.{length, getD, take, drop}
-use Rattle.uses.specs.Use.{firstWith}
+use Rattle.passes.specs.Use.{firstWith}
 use Rattle.pdo.proofs.Turns.{turn, over}
 use Rattle.wanted.proofs.Turns.{first-here, first-not-here, first-nowhere}
 use Rattle.wanted.proofs.first_with.Statement.{statement}

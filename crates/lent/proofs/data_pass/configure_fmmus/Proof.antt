@@ -52,7 +52,7 @@ use Rattle.pdi.specs.declared.Placed.{Placed}
 use Rattle.pdo.specs.declared.Oversampling.{Oversampling}
 use Rattle.pdo.specs.declared.PdoDirection.{PdoDirection}
 use Rattle.oversampling.specs.declared.Indexes.{Indexes}
-use Rattle.entries.specs.declared.Place.{Place}
+use Rattle.passes.specs.declared.Place.{Place}
 use Rattle.passes.specs.declared.Passed.{Passed}
 use Rattle.oversampling.proofs.Made.{made-sheet}
 use Rattle.pdi.proofs.PdiOffset as T

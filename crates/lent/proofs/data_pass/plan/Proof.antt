@@ -54,7 +54,7 @@ use Rattle.pdi.specs.declared.PdiOffset.{PdiOffset}
 use Rattle.pdi.specs.declared.Placed.{Placed}
 use Rattle.pdo.specs.declared.Oversampling.{Oversampling}
 use Rattle.pdo.specs.declared.PdoDirection.{PdoDirection}
-use Rattle.entries.specs.declared.Place.{Place}
+use Rattle.passes.specs.declared.Place.{Place}
 use Rattle.passes.specs.declared.Passed.{Passed}
 use Rattle.pdi.proofs.PdiOffset as T
 use Rattle.pdi.proofs.PdiOffset.Laws as T′

@@ -1,18 +1,11 @@
 -- Which sync manager uses which entry: the one place that knows the path.
 -- Assumes nothing.
-use mathlib.Core.Bool.{Bool, cond, not, _&&_, _||_}
-use mathlib.Core.List.{List, [], _∷_, _++_, map}
-use Prim.Native.Nat.{ℕ, zero, suc, _+_, _-_}
-use lib.ListN.{length, getD, take, replicate}
+use mathlib.Core.Bool.{cond}
+use mathlib.Core.List.{List, [], _∷_}
+use Prim.Native.Nat.{ℕ, zero, suc, _+_}
 use lib.Dec.{eqb, ltb}
 use Rattle.pdi.specs.Unit.{bytesOf}
 use Rattle.sheet.specs.Device.{Data}
-use Rattle.sheet.specs.declared.SyncManager.{SyncManager}
-use Rattle.channels.specs.declared.Wish.{Wish}
-use Rattle.channels.specs.Channels.{noWish}
-use Rattle.uses.specs.declared.Route.{Route}
-use Rattle.uses.specs.declared.Mapping.{Mapping}
-use Rattle.uses.specs.declared.Mappings.{Mappings}
 use Rattle.pdo.specs.declared.PdoDirection.{PdoDirection}
 use Rattle.pdo.specs.Direction.{fmmuUsageOf}
 use Rattle.pdo.specs.Bits.{Piece, byCoe, piecesOf}
@@ -61,32 +54,3 @@ totalOn k (u ∷ us) = cond (eqb (u .entry) k) (u .size) 0 + totalOn k us
 -- the rounded bytes of all wanted sync managers, whatever entries they use
 unfoldable pub sizeOf : Data → List ℕ → PdoDirection → ℕ
 sizeOf d ws r = total (own (piecesOf d ws r))
-
--- the same as code holds it: whether a sync manager uses an entry, and which, from its wish and the route
-abbrev pub takes : Route → Wish → Bool
-takes route w = w .on && (not (route .coe) || ltb 0 (w .size .0))
-
-unfoldable pub usesFrom : Route → List Wish → ℕ → List SyncManager → List Use
-usesFrom route ws k [] = []
-usesFrom route ws k (m ∷ ms) =
-    cond
-    (takes route (getD ws k noWish))
-    (record { entry = cond (route .coe) (route .entry) k; size = getD ws k noWish .size .0; at = m .«start_addr» } ∷ usesFrom route ws (suc k) ms)
-    (usesFrom route ws (suc k) ms)
-
--- uses as code holds them: at the front of a list of sixteen, with nothing behind them
-abbrev pub noMapping : Mapping
-noMapping = record { entry = 0; size = record { 0 = 0 }; at = 0 }
-
-abbrev pub mappingOf : Use → Mapping
-mappingOf u = record { entry = u .entry; size = record { 0 = u .size }; at = u .at }
-
-abbrev pub mappingsOf : List Use → Mappings
-mappingsOf us = record { list = map mappingOf us ++ replicate (16 - length us) noMapping; count = length us }
-
--- and back
-abbrev pub useFrom : Mapping → Use
-useFrom m = record { entry = m .entry; size = m .size .0; at = m .at }
-
-abbrev pub mappedUses : Mappings → List Use
-mappedUses ms = map useFrom (take (ms .count) (ms .list))

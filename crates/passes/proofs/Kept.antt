@@ -12,8 +12,8 @@ use Rattle.area.specs.Area.{entriesOf, entryAt, storedAt}
 use Rattle.area.proofs.Flat.{Rows, rows-set, length-chunks, area-whole}
 use Rattle.area.proofs.Entry.{entry-any, length-stored, stored-entry}
 use Rattle.pdo.specs.declared.PdoDirection.{PdoDirection}
-use Rattle.uses.specs.Use.{Use}
-use Rattle.entries.specs.Entries.{laid, withUse, plan}
+use Rattle.passes.specs.Use.{Use}
+use Rattle.passes.specs.Entries.{laid, withUse, plan}
 
 -- the entry that is read, and what is then stored in its place
 module _ (area : List ℕ) (long : length area ≡ 256) where

@@ -9,8 +9,8 @@ use lib.ListN.{getD}
 use lib.Dec.{ltb}
 use borrow.Author.Tests.{ltb-false, eq-eqb, ne-eqb}
 use Rattle.wire.proofs.Lists.{some-hit}
-use Rattle.uses.specs.Use.{Use, totalOn}
-use Rattle.uses.specs.Length.{lengthNow, tooLong}
+use Rattle.passes.specs.Use.{Use, totalOn}
+use Rattle.passes.specs.Entries.{lengthNow, tooLong}
 
 -- no entry's length exceeds 65,535 with these uses
 pub record Room (us : List Use) (entries : List (List ℕ)) : Type 0 where

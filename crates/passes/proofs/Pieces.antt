@@ -14,8 +14,8 @@ use Rattle.sheet.specs.declared.SyncManager.{SyncManager}
 use Rattle.channels.specs.declared.Wish.{Wish}
 use Rattle.channels.specs.Channels.{noWish, wish}
 use Rattle.pdo.specs.Bits.{Piece, piecesFrom}
-use Rattle.uses.specs.declared.Route.{Route}
-use Rattle.uses.specs.Use.{Use, useOf, own, given, total, takes, usesFrom}
+use Rattle.passes.specs.declared.Route.{Route}
+use Rattle.passes.specs.Use.{Use, useOf, own, given, total, takes, usesFrom}
 
 -- bits take bytes exactly if there are any
 pub some-bytes : (bits : ℕ) → ltb 0 (bytesOf bits) ≡ ltb 0 bits

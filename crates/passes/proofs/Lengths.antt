@@ -14,10 +14,10 @@ use Rattle.wire.proofs.Numbers.{joined-is}
 use Rattle.fmmu.specs.declared.Fmmu.{Fmmu}
 use Rattle.fmmu.specs.Image.{fieldsOf, imageOf}
 use Rattle.pdo.specs.declared.PdoDirection.{PdoDirection}
-use Rattle.uses.specs.Use.{Use, totalOn}
-use Rattle.uses.specs.Length.{lengthOf, lengthNow}
-use Rattle.uses.proofs.Room.{Room, total-here, total-other}
-use Rattle.entries.specs.Entries.{mapped, grown, laid, withUse}
+use Rattle.passes.specs.Use.{Use, totalOn}
+use Rattle.passes.specs.Entries.{lengthOf, lengthNow}
+use Rattle.passes.proofs.Room.{Room, total-here, total-other}
+use Rattle.passes.specs.Entries.{mapped, grown, laid, withUse}
 
 flag-back : (x : Bool) → flagAt (bit x) 0 ≡ x
 flag-back true = refl

@@ -1,11 +1,12 @@
 -- The FMMU entries that a pass leaves.
 -- Assumes nothing.
 use mathlib.Core.Path.{_≡_}
-use mathlib.Core.Bool.{true, cond}
+use mathlib.Core.Bool.{Bool, true, cond}
 use mathlib.Core.List.{List, [], _∷_}
 use Prim.Native.Nat.{ℕ, _+_, _-_}
 use lib.ListN.{getD, set}
 use lib.Dec.{ltb}
+use Rattle.wire.specs.Lists.{someBelow}
 use Rattle.wire.specs.Outcome.{Outcome, refused, accepted, Refusal, when, decide}
 use Rattle.pdi.specs.Offset.{pastEnd}
 use Rattle.pdi.specs.Segment.{segment}
@@ -15,11 +16,9 @@ use Rattle.fmmu.specs.declared.Fmmu.{Fmmu}
 use Rattle.fmmu.specs.Image.{fieldsOf, imageOf}
 use Rattle.pdo.specs.declared.PdoDirection.{PdoDirection}
 use Rattle.pdo.specs.Direction.{isRead, isWrite}
-use Rattle.uses.specs.Use.{Use, total}
-pub use Rattle.uses.specs.Length.{lengthNow}
-unfoldable pub use Rattle.uses.specs.Length.{tooLong}
-use Rattle.entries.specs.declared.Configured.{Configured}
-use Rattle.entries.specs.declared.Configured.the-variants.{Mapped, Refused}
+use Rattle.passes.specs.Use.{Use, total, totalOn}
+use Rattle.passes.specs.declared.Configured.{Configured}
+use Rattle.passes.specs.declared.Configured.the-variants.{Mapped, Refused}
 
 -- a disabled entry becomes: logical start the offset, the size, bits 0 to 7, the physical start, physical bit 0, its direction bit, enabled
 abbrev pub mapped : PdoDirection → ℕ → ℕ → ℕ → Fmmu
@@ -64,6 +63,17 @@ unfoldable pub plan : PdoDirection → ℕ → List Use → List (List ℕ) → 
 plan r offset [] area = area
 plan r offset (u ∷ us) area =
     plan r (offset + u .size) us (withUse r offset u area)
+
+-- an entry's length, of which a disabled one has none
+abbrev pub lengthOf : Fmmu → ℕ
+lengthOf f = cond (f .enable) (f .«length_bytes» .0) 0
+
+abbrev pub lengthNow : List ℕ → ℕ
+lengthNow e = lengthOf (fieldsOf e)
+
+-- 8: an entry's exact length would exceed 65,535
+unfoldable pub tooLong : List Use → List (List ℕ) → Bool
+tooLong us entries = someBelow (λ k. ltb 65535 (lengthNow (getD entries k []) + totalOn k us)) 16
 
 -- an accepted pass: the segment, start to end less the group start, and the next offset
 pub record Planned : Type 0 where

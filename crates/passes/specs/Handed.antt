@@ -1,0 +1,42 @@
+-- What the parts of a pass hand to one another: a size in bytes for each of sixteen numbers, and the route.
+-- Assumes nothing.
+use mathlib.Core.Bool.{Bool, cond, _&&_}
+use mathlib.Core.List.{List}
+use Prim.Native.Nat.{ℕ, _*_}
+use lib.ListN.{length, getD}
+use lib.Dec.{eqb, ltb}
+use Rattle.wire.specs.Lists.{listOf}
+use Rattle.pdi.specs.Unit.{bytesOf}
+use Rattle.pdi.specs.declared.ByteLen.{ByteLen}
+use Rattle.sheet.specs.Device.{Data}
+use Rattle.sheet.specs.Sheet.{noManager}
+use Rattle.sheet.specs.declared.SyncManager.{SyncManager}
+use Rattle.pdo.specs.declared.PdoDirection.{PdoDirection}
+use Rattle.pdo.specs.Direction.{usageOf}
+use Rattle.pdo.specs.Bits.{Piece, byCoe, pathKind, bitsOf, piecesFrom}
+use Rattle.channels.specs.Channels.{sizeAt}
+use Rattle.passes.specs.Use.{Use, own, given, coeEntry}
+use Rattle.passes.specs.declared.Route.{Route}
+
+-- the sync manager with a number is there and has the usage
+abbrev pub hasUsage : ℕ → List SyncManager → ℕ → Bool
+hasUsage usage ms k = ltb k (length ms) && eqb (getD ms k noManager .«usage_type») usage
+
+-- the exact bits of a number: of a sync manager that the direction wants, else 0
+abbrev pub exactBits : Data → List ℕ → PdoDirection → ℕ → ℕ
+exactBits d ws r k = cond (hasUsage (usageOf r) (d .managers) k) (bitsOf (pathKind d r) k (d .pdos) ws) 0
+
+-- each rounded up by itself
+abbrev pub sizesOf : Data → List ℕ → PdoDirection → List ByteLen
+sizesOf d ws r = listOf (λ k. record { 0 = bytesOf (exactBits d ws r k) }) 16
+
+-- the path, with the CoE entry
+abbrev pub routeOf : Data → PdoDirection → Route
+routeOf d r = record { «coe» = byCoe d; entry = cond (byCoe d) (coeEntry d r) 0 }
+
+-- the uses of sync managers with these sizes by a route: as of pieces with eight bits for each byte
+abbrev pub byRoute : Route → List Piece → List Use
+byRoute route ps = cond (route .coe) (given (λ number. route .entry) ps) (own ps)
+
+abbrev pub usesBy : Route → List ByteLen → PdoDirection → List SyncManager → List Use
+usesBy route sizes r ms = byRoute route (piecesFrom (usageOf r) (λ k. 8 * sizeAt sizes k) 0 ms)
