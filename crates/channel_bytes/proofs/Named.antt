@@ -2,9 +2,10 @@
 -- Assumes nothing.
 use mathlib.Core.Path.{_≡_, refl, sym, _∙_, ap, ap₂}
 use mathlib.Core.Bool.{Bool, true, false, not, _&&_}
-use Prim.Native.Nat.{ℕ, zero, suc, _/_, _<_, _≤_}
+use Prim.Native.Nat.{ℕ, zero, suc, _/_, _<_}
 use native.Mathlib.Omega.{arith}
-use borrow.Author.Tests.{ne-eqb}
+use borrow.Author.Tests.{ne-eqb, lt-ltb}
+use lib.Dec.{ltb}
 use lib.Bits.{bitAnd, and-mask}
 use Rattle.wire.specs.Field.{bitsAt}
 use Rattle.wire.proofs.Fields.{masked, masked-low}
@@ -21,20 +22,11 @@ decided b x y p q =
 pub unnamed-mode : (b k : ℕ) → bitAnd b 3 ≡ k → modeNamed k ≡ false → unnamed b ≡ true
 unnamed-mode b k e n = decided b false (directionNamed (bitAnd (b / 4) 3)) (ap modeNamed e ∙ n) refl
 
-pub unnamed-direction : (b : ℕ) → 1 < bitAnd (b / 4) 3 → unnamed b ≡ true
-unnamed-direction b h = go (modeNamed (bitAnd b 3)) refl
-  where
-    none : (d : ℕ) → 1 < d → directionNamed d ≡ false
-    none d l = rw (ne-eqb d 0 (λ e. omega arith), ne-eqb d 1 (λ e. omega arith))
-
-    go : (x : Bool) → modeNamed (bitAnd b 3) ≡ x → unnamed b ≡ true
-    go true e = decided b true false e (none (bitAnd (b / 4) 3) h)
-    go false e = decided b false false e (none (bitAnd (b / 4) 3) h)
-
-pub named : (b : ℕ) → (bitAnd b 3 ≡ 1 → ⊥) → (bitAnd b 3 ≡ 3 → ⊥) → bitAnd (b / 4) 3 ≤ 1 → unnamed b ≡ false
-named b n1 n3 h =
+-- past the tests of the mode, the direction decides
+pub by-direction : (b : ℕ) → (bitAnd b 3 ≡ 1 → ⊥) → (bitAnd b 3 ≡ 3 → ⊥) → unnamed b ≡ ltb 1 (bitAnd (b / 4) 3)
+by-direction b n1 n3 =
     let e = and-mask b 2 in
-    decided b true true (mode (bitAnd b 3) (omega arith) n1 n3) (direction (bitAnd (b / 4) 3) h)
+    decided b true (directionNamed (bitAnd (b / 4) 3)) (mode (bitAnd b 3) (omega arith) n1 n3) refl ∙ direction (bitAnd (b / 4) 3)
   where
     mode : (m : ℕ) → m < 4 → (m ≡ 1 → ⊥) → (m ≡ 3 → ⊥) → modeNamed m ≡ true
     mode zero l a z = refl
@@ -43,7 +35,7 @@ named b n1 n3 h =
     mode (suc (suc (suc zero))) l a z = absurd (z refl)
     mode (suc (suc (suc (suc m)))) l a z = absurd (omega arith)
 
-    direction : (d : ℕ) → d ≤ 1 → directionNamed d ≡ true
-    direction zero l = refl
-    direction (suc zero) l = refl
-    direction (suc (suc d)) l = absurd (omega arith)
+    direction : (d : ℕ) → not (directionNamed d) ≡ ltb 1 d
+    direction zero = refl
+    direction (suc zero) = refl
+    direction (suc (suc d)) = rw (ne-eqb (suc (suc d)) 0 (λ e. omega arith), ne-eqb (suc (suc d)) 1 (λ e. omega arith)) (sym (lt-ltb 1 (suc (suc d)) (omega arith)))

@@ -10,6 +10,8 @@ use Rattle.channel_bytes.specs.Bytes.{controlReadOf}
 use Rattle.channel_bytes.proofs.OperationMode.number.Reads as mode-number
 use Rattle.channel_bytes.proofs.Direction.number.Reads as direction-number
 use Rattle.channel_bytes.proofs.BufferState.number.Reads as state-number
+use Rattle.channel_bytes.proofs.Control.unnamed.Reads as control-unnamed
+use Rattle.channel_bytes.proofs.Control.named.Reads as control-named
 use Rattle.channel_bytes.proofs.Control.unpack.Reads as control-unpack
 use Rattle.channel_bytes.proofs.Control.pack.Reads as control-pack
 use Rattle.channel_bytes.proofs.Status.unpack.Reads as status-unpack
@@ -34,6 +36,12 @@ direction-number-pins κs a x y s t p q = same (p .0) (q .0)
 
 pub state-number-pins : Pins state-number.Post (λ κs r s. r)
 state-number-pins κs a x y s t p q = same (p .0) (q .0)
+
+pub control-unnamed-pins : Pins control-unnamed.Post (λ κs r s. r)
+control-unnamed-pins κs a x y s t p q = same p q
+
+pub control-named-pins : Pins control-named.Post (λ κs r s. r)
+control-named-pins κs a x y s t p q = same p q
 
 pub control-unpack-pins : Pins control-unpack.Post (λ κs r s. r)
 control-unpack-pins κs a x y s t p q = same-by controlReadOf control-back control-determined p q

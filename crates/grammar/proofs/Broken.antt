@@ -38,12 +38,12 @@ module _ (s : List ℕ) where
       (λ k l. ap (λ (x : ℕ). ltb 4 (getD s x 0)) (omega arith))
       ∙ ap (someBelow (λ k. ltb 4 (getD s (15 + 5 * k) 0))) (sym e) ∙ sym h
 
-  pub usage-bytes : (n f : ℕ) {b : Bool} → n ≡ managerCount s → f ≡ usageCount s → b ≡ someBelow (λ k. ltb 3 (getD s (11 + 5 * n + 1 * k) 0)) f → someUsageWrong s ≡ b
+  pub usage-bytes : (at f : ℕ) {b : Bool} → at ≡ usagesPlace s → f ≡ usageCount s → b ≡ someBelow (λ k. ltb 3 (getD s (at + 1 * k) 0)) f → someUsageWrong s ≡ b
   unfolding someUsageWrong
-  usage-bytes n f {b} en ef h =
-      some-same (λ k. ltb 3 (getD s (usagesPlace s + k) 0)) (λ k. ltb 3 (getD s (11 + 5 * n + 1 * k) 0)) (usageCount s)
+  usage-bytes at f {b} ea ef h =
+      some-same (λ k. ltb 3 (getD s (usagesPlace s + k) 0)) (λ k. ltb 3 (getD s (at + 1 * k) 0)) (usageCount s)
       (λ k l. ap (λ (x : ℕ). ltb 3 (getD s x 0)) (omega arith))
-      ∙ ap (someBelow (λ k. ltb 3 (getD s (11 + 5 * n + 1 * k) 0))) (sym ef) ∙ sym h
+      ∙ ap (someBelow (λ k. ltb 3 (getD s (at + 1 * k) 0))) (sym ef) ∙ sym h
 
   pub manager-broken : someManagerWrong s ≡ true → broken s ≡ true
   unfolding broken
@@ -53,8 +53,8 @@ module _ (s : List ℕ) where
   unfolding broken
   usage-broken h = simp (h, or-true)
 
-  pub walk-same : {n f p : ℕ} → n ≡ managerCount s → f ≡ usageCount s → p ≡ pdoCount s → pdosFit s p (11 + 5 * n + f) ≡ pdosFit s (pdoCount s) (pdosPlace s)
-  walk-same en ef ep = rw (en, ef, ep) refl
+  pub walk-same : {p at : ℕ} → p ≡ pdoCount s → at ≡ pdosPlace s → pdosFit s p at ≡ pdosFit s (pdoCount s) (pdosPlace s)
+  walk-same ep ea = rw (ep, ea) refl
 
   pub only-walk : getD s 3 0 ≤ 7 → managerCount s ≤ 16 → usageCount s ≤ 16 → pdosPlace s ≤ length s → someManagerWrong s ≡ false → someUsageWrong s ≡ false → broken s ≡ not (pdosFit s (pdoCount s) (pdosPlace s))
   unfolding broken

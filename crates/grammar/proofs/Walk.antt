@@ -1,6 +1,6 @@
 -- The walk over PDO records: a turn of it, and its end.
 -- Assumes nothing.
-use mathlib.Core.Path.{_≡_, refl}
+use mathlib.Core.Path.{_≡_, refl, sym, _∙_}
 use mathlib.Core.Bool.{Bool, true, false, _&&_}
 use mathlib.Core.List.{List}
 use Prim.Native.Nat.{ℕ, zero, suc, _+_, _-_, _≤_, _<_}
@@ -8,7 +8,7 @@ use native.Mathlib.Numerals.{sub-one}
 use native.Mathlib.Omega.{arith}
 use lib.ListN.{length, getD}
 use lib.Dec.{eqb, leb}
-use borrow.Author.Tests.{le-leb, lt-leb}
+use borrow.Author.Tests.{ne-eqb, le-leb, lt-leb, leb-true, leb-false}
 use Rattle.grammar.specs.Grammar.{nextPdo}
 use Rattle.grammar.specs.Grammar.{kindFits, pdosFit}
 
@@ -39,3 +39,19 @@ pub walk-on : (s : List ℕ) (left at next : ℕ) → 0 < left → next ≡ next
 unfolding pdosFit
 walk-on s zero at next l e h k = absurd (omega arith)
 walk-on s (suc n) at next l e h k = rw (sub-one, e, k, le-leb (nextPdo s at) (length s) (omega arith))
+
+-- past the end no record fits, nor does the sheet end there
+pub walk-beyond : (s : List ℕ) (left at : ℕ) → length s < at → pdosFit s left at ≡ false
+unfolding pdosFit
+walk-beyond s zero at h = ne-eqb at (length s) (λ e. omega arith)
+walk-beyond s (suc n) at h = walk-past s (suc n) at (omega arith) (omega arith)
+
+-- one whose kind goes with its count, within the sheet or not: the others decide
+pub walk-step : (s : List ℕ) (left at next : ℕ) → 0 < left → next ≡ nextPdo s at → kindFits (getD s at 0) (getD s (at + 4) 0) ≡ true → pdosFit s (left - 1) next ≡ pdosFit s left at
+walk-step s left at next l e k = go (leb next (length s)) refl
+  where
+    go : (b : Bool) → leb next (length s) ≡ b → pdosFit s (left - 1) next ≡ pdosFit s left at
+    go true h = walk-on s left at next l e (leb-true next (length s) h) k
+    go false h =
+        let past : length s < next = leb-false next (length s) h in
+        walk-beyond s (left - 1) next past ∙ sym (walk-past s left at l (omega arith))

@@ -19,6 +19,7 @@ use Rattle.pdi.specs.declared.Placed.the-variants as placed
 use Rattle.pdi.proofs.BitLen.round_up.Reads as round-up
 use Rattle.pdi.proofs.PdiOffset.increment.Reads as increment
 use Rattle.pdi.proofs.PdiOffset.increment_byte_aligned.Reads as increment-byte-aligned
+use Rattle.pdi.proofs.PdiOffset.at.Reads as at-exact
 use Rattle.pdi.proofs.PdiOffset.up_to.Reads as up-to
 use Rattle.pdi.proofs.PdiSegment.len.Reads as len
 use Rattle.pdi.proofs.PdiSegment.less.Reads as less
@@ -57,6 +58,9 @@ increment-pins κs a x y s t p q = same-by movedOf moved-back moved-determined p
 
 pub increment-byte-aligned-pins : Pins increment-byte-aligned.Post (λ κs r s. r)
 increment-byte-aligned-pins κs a x y s t p q = same-by movedOf moved-back moved-determined p q
+
+pub at-pins : Pins at-exact.Post (λ κs r s. r)
+at-pins κs a x y s t p q = same-by movedOf moved-back moved-determined p q
 
 pub up-to-pins : Pins up-to.Post (λ κs r s. r)
 up-to-pins κs a x y s t p q = same p q

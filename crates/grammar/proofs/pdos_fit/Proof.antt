@@ -7,27 +7,28 @@ use denote.Ref.{now}
 use lib.ListN.{length}
 use borrow.Author.Tests.{not-true, not-false}
 use Rattle.grammar.specs.Grammar.{pdosFit}
-use Rattle.grammar.proofs.Walk.{walk-end, walk-past, walk-odd, walk-on}
+use Rattle.grammar.proofs.Walk.{walk-end, walk-past, walk-odd, walk-step}
 use Rattle.grammar.proofs.pdos_fit.Statement.{statement}
 use Rattle.grammar.proofs.pdos_fit.Tie as tie
 
 abbrev Inv-loop : tie.InvT-loop
-Inv-loop sheet p at left₀ place₀ left place = (place ≤ length sheet) × (pdosFit sheet left place ≡ pdosFit sheet p at)
+Inv-loop sheet p at last left₀ place₀ left place = pdosFit sheet left place ≡ pdosFit sheet p at
 
 abbrev μ-loop : tie.MeasureT-loop
-μ-loop sheet p at left₀ place₀ left place = left
+μ-loop sheet p at last left₀ place₀ left place = left
+
+sub-last : tie.Need-sub-last Inv-loop μ-loop
+sub-last c = c .before .pre .0
 
 loop-holds : tie.Need-loop-holds Inv-loop μ-loop
-loop-holds c = (c .before .pre, refl)
-
-add-if1 : tie.Need-add-if1 Inv-loop μ-loop
-add-if1 c = omega arith
+loop-holds c = refl
 
 returns : tie.Need-returns Inv-loop μ-loop
 returns c =
     let l = c .before .before .loop in
     let s = now (c .before .before .before .before .args .sheet) in
-    sym (walk-past s (l .left) (l .place) (omega arith) (omega arith)) ∙ l .inv .1
+    let e = c .before .before .before .before .pre .0 in
+    sym (walk-past s (l .left) (l .place) (omega arith) (omega arith)) ∙ l .inv
 
 add-m : tie.Need-add-m Inv-loop μ-loop
 add-m c = omega arith
@@ -35,33 +36,27 @@ add-m c = omega arith
 shared-slice-read-m : tie.Need-shared-slice-read-m Inv-loop μ-loop
 shared-slice-read-m c = omega arith
 
-add-next : tie.Need-add-next Inv-loop μ-loop
-add-next c = omega arith
-
-wide-requires : tie.Need-wide-requires Inv-loop μ-loop
-wide-requires c κs = tt
-
-add-next-2 : tie.Need-add-next-2 Inv-loop μ-loop
-add-next-2 c = omega arith
-
-returns-2 : tie.Need-returns-2 Inv-loop μ-loop
-returns-2 c =
-    let l = c .before .before .before .before .before .loop in
-    let s = now (c .before .before .before .before .before .before .before .args .sheet) in
-    sym (walk-past s (l .left) (l .place) (omega arith) (omega arith)) ∙ l .inv .1
-
 shared-slice-read-kind-fits : tie.Need-shared-slice-read-kind-fits Inv-loop μ-loop
 shared-slice-read-kind-fits c = omega arith
 
 kind-fits-requires : tie.Need-kind-fits-requires Inv-loop μ-loop
 kind-fits-requires c κs = tt
 
-returns-3 : tie.Need-returns-3 Inv-loop μ-loop
-returns-3 c =
+returns-2 : tie.Need-returns-2 Inv-loop μ-loop
+returns-2 c =
     let fits = c .before in
-    let l = fits .before .before .before .before .before .before .before .loop in
-    let s = now (fits .before .before .before .before .before .before .before .before .before .args .sheet) in
-    sym (walk-odd s (l .left) (l .place) (omega arith) (sym (fits .kind-fits .ensures) ∙ not-true (fits .kind-fits .result) (c .if3 .taken))) ∙ l .inv .1
+    let l = c .before .before .before .before .before .before .loop in
+    let s = now (c .before .before .before .before .before .before .before .before .args .sheet) in
+    sym (walk-odd s (l .left) (l .place) (omega arith) (sym (fits .kind-fits .ensures) ∙ not-true (fits .kind-fits .result) (c .if2 .taken))) ∙ l .inv
+
+add-place : tie.Need-add-place Inv-loop μ-loop
+add-place c = omega arith
+
+wide-requires : tie.Need-wide-requires Inv-loop μ-loop
+wide-requires c κs = tt
+
+add-place-2 : tie.Need-add-place-2 Inv-loop μ-loop
+add-place-2 c = omega arith
 
 sub-left : tie.Need-sub-left Inv-loop μ-loop
 sub-left c = omega arith
@@ -71,17 +66,16 @@ loop-less c = omega arith
 
 loop-again : tie.Need-loop-again Inv-loop μ-loop
 loop-again c =
-    let fits = c .before in
-    let wide = fits .before .before .before in
-    let l = wide .before .before .before .before .loop in
-    let s = now (wide .before .before .before .before .before .before .args .sheet) in
-    let k = sym (fits .kind-fits .ensures) ∙ not-false (fits .kind-fits .result) (c .if3 .left) in
-    (omega arith, walk-on s (l .left) (l .place) (l .place + 5 + wide .wide .result) (omega arith) (omega arith) (omega arith) k ∙ l .inv .1)
+    let fits = c .before .before in
+    let l = c .before .before .before .before .before .before .before .loop in
+    let s = now (c .before .before .before .before .before .before .before .before .before .args .sheet) in
+    let k = sym (fits .kind-fits .ensures) ∙ not-false (fits .kind-fits .result) (c .before .if2 .left) in
+    walk-step s (l .left) (l .place) (l .place + 5 + c .wide .result) (omega arith) (omega arith) k ∙ l .inv
 
-returns-4 : tie.Need-returns-4 Inv-loop μ-loop
-returns-4 c =
+returns-3 : tie.Need-returns-3 Inv-loop μ-loop
+returns-3 c =
     let l = c .before .loop in
-    sym (walk-end (now (c .before .before .before .args .sheet)) (l .left) (l .place) (omega arith)) ∙ l .inv .1
+    sym (walk-end (now (c .before .before .before .args .sheet)) (l .left) (l .place) (omega arith)) ∙ l .inv
 
 pub pdos-fit-spec : {M : Type 1} → statement M
 pdos-fit-spec =
@@ -89,19 +83,18 @@ pdos-fit-spec =
     (tie.spec
     Inv-loop
     μ-loop
+    sub-last
     loop-holds
-    add-if1
     returns
     add-m
     shared-slice-read-m
-    add-next
-    wide-requires
-    add-next-2
-    returns-2
     shared-slice-read-kind-fits
     kind-fits-requires
-    returns-3
+    returns-2
+    add-place
+    wide-requires
+    add-place-2
     sub-left
     loop-less
     loop-again
-    returns-4)
+    returns-3)
