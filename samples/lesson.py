@@ -1,10 +1,12 @@
 #!/usr/bin/env python3
 """What docs/TRAINING.md and docs/SHEET.md show by the program `probe`: asks it and prints its answers as a student reads them.
 
-    python3 samples/lesson.py gap        a merged FMMU doesn't follow the second sync manager
-    python3 samples/lesson.py stale      an input pass on the registers of a cancelled job, then on fresh ones
-    python3 samples/lesson.py group      an input pass in a group that doesn't begin at 0
-    python3 samples/lesson.py refused    the smallest calls for the numbers that a sheet alone can't cause
+    python3 samples/lesson.py gap           a merged FMMU doesn't follow the second sync manager
+    python3 samples/lesson.py stale         an input pass on the registers of a cancelled job, then on fresh ones
+    python3 samples/lesson.py group         an input pass in a group that doesn't begin at 0
+    python3 samples/lesson.py exercise-6    the pass of docs/EXERCISES.md's exercise 6
+    python3 samples/lesson.py exercise-7    that of exercise 7
+    python3 samples/lesson.py refused       the smallest calls for the numbers that a sheet alone can't cause
 
 The program is built first where that is needed, which takes minutes the first time.
 """
@@ -88,24 +90,40 @@ def gap(ask):
     yield from map(both_ways, lines)
 
 
+def on_registers(ask, name, before, offset):
+    """The inputs of bay.hex, from an offset, on an FMMU area that isn't fresh; and both ways up to where they end."""
+    [[passed]] = ask([(f"{name}: the input pass", input_pass(before, a=offset, sheet=SAMPLE))])
+    after = fmmus_after(passed)
+    both = Request("A", a=offset, times=offset + 7, sheet=SAMPLE, fmmus=after)
+    [[read], lines] = ask([(f"{name}: entry 1", Request("R", fmmus=after[16:32])), (f"{name}: both ways", both)])
+    yield segment(passed)
+    yield entry_one(read)
+    yield from map(both_ways, lines)
+
+
 def stale(ask):
-    """A second bay is planned from offset 5."""
     for name, before in (("the cancelled job's registers", STALE), ("fresh registers", area())):
-        [[passed]] = ask([(f"{name}: the input pass", input_pass(before, a=5, sheet=SAMPLE))])
-        after = fmmus_after(passed)
-        both = Request("A", a=5, times=12, sheet=SAMPLE, fmmus=after)
-        [[read], lines] = ask([(f"{name}: entry 1", Request("R", fmmus=after[16:32])), (f"{name}: both ways", both)])
         yield f"on {name}:"
-        yield segment(passed)
-        yield entry_one(read)
-        yield from map(both_ways, lines)
+        yield from on_registers(ask, name, before, 5)
+
+
+def in_group(ask, start, offset):
+    [[passed]] = ask([(f"group {start}: the input pass", input_pass(a=offset, b=start, sheet=SAMPLE))])
+    [[read]] = ask([(f"group {start}: entry 1", Request("R", fmmus=fmmus_after(passed)[16:32]))])
+    yield segment(passed)
+    yield entry_one(read)
 
 
 def group(ask):
-    [[passed]] = ask([("group 0x100: the input pass", input_pass(a=0x105, b=0x100, sheet=SAMPLE))])
-    [[read]] = ask([("group 0x100: entry 1", Request("R", fmmus=fmmus_after(passed)[16:32]))])
-    yield segment(passed)
-    yield entry_one(read)
+    return in_group(ask, 0x100, 0x105)
+
+
+def exercise_6(ask):
+    return on_registers(ask, "exercise 6", area(entry(2, 3, 0x1180), first=1), 0x10)
+
+
+def exercise_7(ask):
+    return in_group(ask, 0x200, 0x20C)
 
 
 # one input of one bit, on entry 0
@@ -131,7 +149,14 @@ def refused(ask):
         yield f"{name}: {' '.join(line.split()[:2])}"
 
 
-LESSONS = {"gap": gap, "stale": stale, "group": group, "refused": refused}
+LESSONS = {
+    "gap": gap,
+    "stale": stale,
+    "group": group,
+    "exercise-6": exercise_6,
+    "exercise-7": exercise_7,
+    "refused": refused,
+}
 
 
 def main():

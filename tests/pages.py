@@ -11,13 +11,13 @@ from typing import NamedTuple
 
 import model
 from planning import lockerplan
-from stored import ROOT, sheet_in
+from stored import ROOT, sample, sheet_in
 
 sys.path.append(str(ROOT / "samples"))
 import lesson
 
 PAGES = ["README.md", "docs/TRAINING.md", "docs/SHEET.md", "docs/EXERCISES.md", "docs/ANSWERS.md"]
-MINE = "./plan mine.hex"
+MINE, PIPED = "./plan mine.hex", " | ./plan -"
 
 
 class Shown(NamedTuple):
@@ -66,8 +66,9 @@ def sheet_given(one):
     """The sheet, as it is written, that a command gives to ./plan, or None."""
     if one.command == MINE:
         return one.sheet
-    if found := re.fullmatch(r"echo( [0-9a-f ]*)?\| \./plan -", one.command):
-        return found[1] or ""
+    if one.command.endswith(PIPED):
+        maker = one.command.removesuffix(PIPED)
+        return subprocess.run(maker, shell=True, cwd=ROOT, stdout=subprocess.PIPE, text=True).stdout
     if found := re.fullmatch(r"\./plan (samples/[\w-]+\.hex)", one.command):
         return (ROOT / found[1]).read_text()
     return None
@@ -88,7 +89,21 @@ def fits(lines, text):
     return re.fullmatch(pattern, text) is not None
 
 
+def sheets_on(page):
+    return ["".join(line + "\n" for line in lines) for kind, lines in blocks(page) if kind == "hex"]
+
+
+def wrong_sheets():
+    """Sheets of the pages that stand in samples/ too."""
+    if sheets_on("docs/SHEET.md") != [(ROOT / "samples" / "blank.hex").read_text()]:
+        yield "docs/SHEET.md's blank isn't samples/blank.hex"
+    for number, text in enumerate(sheets_on("docs/EXERCISES.md"), 2):
+        if sheet_in(text) != sample(f"refused-{number}"):
+            yield f"a sheet of docs/EXERCISES.md isn't samples/refused-{number}.hex"
+
+
 def wrong_pages():
+    yield from wrong_sheets()
     for one in shown():
         text = right_text(one)
         if text is None:
@@ -104,7 +119,7 @@ def run(command, given=None):
 
 
 def ran(one):
-    if one.command == MINE or one.command.startswith("echo"):
+    if one.command == MINE or one.command.endswith(PIPED):
         return run("./plan -", sheet_given(one))
     return run(one.command)
 
