@@ -4,6 +4,7 @@ A block that begins with ```text shows a command, after `$ `, and what it prints
 A block that begins with ```hex is a sheet, which the page's next `$ ./plan mine.hex` is given.
 """
 
+import io
 import re
 import subprocess
 import sys
@@ -17,7 +18,7 @@ sys.path.append(str(ROOT / "samples"))
 import lesson
 
 PAGES = ["README.md", "docs/TRAINING.md", "docs/SHEET.md", "docs/EXERCISES.md", "docs/ANSWERS.md"]
-MINE, PIPED = "./plan mine.hex", " | ./plan -"
+MINE, PIPED, PROBED = "./plan mine.hex", " | ./plan -", " | ./plan --probe -"
 
 
 class Shown(NamedTuple):
@@ -53,13 +54,22 @@ def shown():
     return [one for page in PAGES for one in shown_on(page)]
 
 
+def in_lines(lines):
+    return "".join(line + "\n" for line in lines)
+
+
 def text_of(sheet):
     """What `lockerplan` prints for a sheet, by the model."""
-    return "".join(line + "\n" for line in lockerplan(sheet))
+    return in_lines(lockerplan(sheet))
 
 
 def by_model(named):
     return [list(model.answers(request)) for _, request in named]
+
+
+def made(command):
+    """What a command writes."""
+    return subprocess.run(command, shell=True, cwd=ROOT, stdout=subprocess.PIPE).stdout
 
 
 def sheet_given(one):
@@ -67,8 +77,7 @@ def sheet_given(one):
     if one.command == MINE:
         return one.sheet
     if one.command.endswith(PIPED):
-        maker = one.command.removesuffix(PIPED)
-        return subprocess.run(maker, shell=True, cwd=ROOT, stdout=subprocess.PIPE, text=True).stdout
+        return made(one.command.removesuffix(PIPED)).decode()
     if found := re.fullmatch(r"\./plan (samples/[\w-]+\.hex)", one.command):
         return (ROOT / found[1]).read_text()
     return None
@@ -79,8 +88,10 @@ def right_text(one):
     sheet = sheet_given(one)
     if sheet is not None:
         return text_of(sheet_in(sheet))
+    if one.command.endswith(PROBED):
+        return in_lines(model.answer_all(io.BytesIO(made(one.command.removesuffix(PROBED)))))
     told = lesson.LESSONS.get(one.command.removeprefix("python3 samples/lesson.py "))
-    return "".join(line + "\n" for line in told(by_model)) if told else None
+    return in_lines(told(by_model)) if told else None
 
 
 def fits(lines, text):
@@ -90,7 +101,7 @@ def fits(lines, text):
 
 
 def sheets_on(page):
-    return ["".join(line + "\n" for line in lines) for kind, lines in blocks(page) if kind == "hex"]
+    return [in_lines(lines) for kind, lines in blocks(page) if kind == "hex"]
 
 
 def wrong_sheets():
@@ -113,19 +124,13 @@ def wrong_pages():
 
 
 def run(command, given=None):
-    """What a command prints, and what it says beside that."""
-    done = subprocess.run(command.split(), cwd=ROOT, input=given, capture_output=True, text=True)
+    """What a command prints, typed at the root, and what it says beside that."""
+    done = subprocess.run(command, shell=True, cwd=ROOT, input=given, capture_output=True, text=True)
     return done.stdout, done.stderr
 
 
-def ran(one):
-    if one.command == MINE or one.command.endswith(PIPED):
-        return run("./plan -", sheet_given(one))
-    return run(one.command)
-
-
 def wrong_runs():
-    for one in {one.command if one.command != MINE else one.sheet: one for one in shown()}.values():
-        text, said = ran(one)
+    for one in shown():
+        text, said = run("./plan -", one.sheet) if one.command == MINE else run(one.command)
         if text != right_text(one):
             yield f"{one.page}: {one.command} prints\n{text}{said}"

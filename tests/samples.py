@@ -12,7 +12,7 @@ import sys
 
 import pages
 from build import SAMPLE, coe, eeprom, managers, on_coe, on_eeprom
-from pages import text_of
+from pages import in_lines, text_of
 from stored import sample, samples
 
 # L is 16,384: 9 bytes, four sync managers, two usages, and 63 PDOs of 254 or 255 lengths
@@ -47,9 +47,9 @@ def limits():
     yield f"a report of {len(report):,} bytes", ALL_ENTRIES, report
 
 
-def in_lines(sheet):
+def written(sheet):
     """A sheet as people write it, sixteen bytes to a line."""
-    return "".join(sheet[i : i + 16].hex(" ") + "\n" for i in range(0, len(sheet), 16))
+    return in_lines(sheet[i : i + 16].hex(" ") for i in range(0, len(sheet), 16))
 
 
 def wrong_runs():
@@ -58,7 +58,7 @@ def wrong_runs():
         if text != path.with_suffix(".out").read_text():
             yield f"./plan samples/{path.name} doesn't print samples/{path.stem}.out but\n{text}{said}"
     for name, sheet, right in limits():
-        text, said = pages.run("./plan -", in_lines(sheet))
+        text, said = pages.run("./plan -", written(sheet))
         if text != right:
             yield f"a sheet at a limit, {name}: ./plan prints\n{text}{said}"
 
