@@ -4,6 +4,7 @@ The kit's programs are for x86-64, so all are; qemu-user runs them on any machin
 lacking of Debian's packages is installed where this is run as root, and named where not.
 """
 
+import hashlib
 import os
 import platform
 import re
@@ -32,7 +33,16 @@ def stop(reason):
     sys.exit(2)
 
 
+def above_0(word):
+    """A number of the command's words."""
+    if not (word.isdecimal() and int(word) > 0):
+        stop(f"{word} isn't a number above 0")
+    return int(word)
+
+
 def run(*command, **words):
+    if not shutil.which(command[0]):
+        stop(f"there is no {command[0]}")
     done = subprocess.run([str(word) for word in command], **words)
     if done.returncode:
         stop(f"{command[0]} ended with status {done.returncode}")
@@ -96,8 +106,14 @@ def crate_text():
     folder = os.environ.get("TUGMERANT_CRATE_TEXT")
     if not folder:
         stop("TUGMERANT_CRATE_TEXT, the folder of the crate's text, isn't set")
-    run("sha256sum", "--check", "--quiet", ROOT / "oracle" / "TEXT.sha256", cwd=folder, stdout=sys.stderr)
-    return Path(folder).resolve()
+    folder = Path(folder).resolve()
+    for line in (ROOT / "oracle" / "TEXT.sha256").read_text().splitlines():
+        recorded, name = line.split()
+        if not (folder / name).is_file():
+            stop(f"there is no {folder / name}")
+        if hashlib.sha256((folder / name).read_bytes()).hexdigest() != recorded:
+            stop(f"{folder / name} is another text than the one recorded in oracle/TEXT.sha256")
+    return folder
 
 
 def c_program(name, *flags):
@@ -148,6 +164,7 @@ def probe_answer(text):
 
 def programs(rattle=None):
     """All that can be built, by name."""
+    crate_text()  # before anything is installed or proved
     prepare()
     TARGET.mkdir(exist_ok=True)
     built = {

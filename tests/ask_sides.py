@@ -1,10 +1,10 @@
 """Requests to translation and counting: both at every address in and around the ranges, and the limits of each."""
 
 from bays import IN, OUT, PAIR
-from build import FOUR, SAMPLE, area, coe, eeprom, entry, managers, on_coe, on_eeprom, sheet
-from lesson import STALE, planned
+from build import FOUR, SAMPLE, STALE, area, coe, eeprom, entry, managers, on_coe, on_eeprom, sheet
+from planning import configure_fmmus
 from registers import LIMIT
-from samples import sample
+from stored import sample
 from stream import Request
 
 GAP, OWN = sample("gap"), sample("gap-eeprom")
@@ -15,6 +15,15 @@ EMPTY_BETWEEN = on_coe(coe(3, IN, 24), coe(5, IN + 1, 16), rows=FOUR + managers(
 # inputs that end past the last device address
 AT_THE_END = on_eeprom(eeprom(1, 0, IN, 24), rows=managers((0xFFFE, 0x20, 1, 4)))
 LARGE = on_eeprom(eeprom(1, 0, IN, 65_528), rows=managers((0x1000, 0x20, 1, 4)))
+
+
+def planned(sheet, passes, fmmus=area(), table=()):
+    """The FMMU area after the passes, each (direction, offset)."""
+    fmmus, channels = bytearray(fmmus), bytearray(128)
+    for write, offset in passes:
+        configure_fmmus(write, offset, 0, sheet, table, fmmus, channels)
+    return bytes(fmmus)
+
 
 def both_sides(name, data, passes, fmmus, window, letters="ATC", table=()):
     """Both directions over a window (first address, how many), counted from the offset of each pass."""

@@ -69,3 +69,7 @@ def area(*entries, first=0, size=256):
 def pattern(size):
     """An area in which each byte differs from its neighbours, so that a byte moved or left out is seen."""
     return bytes(i % 251 for i in range(size))
+
+
+# what a cancelled job left enabled in entry 1: five bytes of inputs at logical address 0
+STALE = area(entry(0, 5, 0x1180), first=1)

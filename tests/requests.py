@@ -13,15 +13,32 @@ import ask_passes
 import ask_registers
 import ask_sheets
 import ask_sides
-import lesson
 import model
 from bays import IN, OUT
 from build import SAMPLE, coe, on_coe
-from samples import samples
+from stored import ROOT, samples
 from stream import Request, requests
+
+sys.path.append(str(ROOT / "samples"))
+import lesson
 
 # inputs refused with 7, outputs with 6: the first pass refused is named
 SEVEN_THEN_SIX = on_coe(coe(3, IN, 1), *[coe(2, OUT + k, *[255] * 255) for k in range(2)], usages=(1,))
+
+
+def lessons():
+    """What the lessons of docs/TRAINING.md and docs/SHEET.md ask."""
+    asked = []
+
+    def by_model(named):
+        asked.extend(named)
+        return [list(model.answers(request)) for _, request in named]
+
+    for name, tell in lesson.LESSONS.items():
+        for _ in tell(by_model):
+            pass
+        yield from ((f"lesson {name}, {title}", request) for title, request in asked)
+        asked.clear()
 
 
 def programs():
@@ -50,7 +67,7 @@ def others():
 
 def ask():
     """Each request with its name, in the order of the stream."""
-    for part in (ask_registers.ask, ask_sheets.ask, ask_passes.ask, ask_sides.ask, lesson.ask, programs, crate, others):
+    for part in (ask_registers.ask, ask_sheets.ask, ask_passes.ask, ask_sides.ask, lessons, programs, crate, others):
         yield from part()
 
 

@@ -1,40 +1,27 @@
 #!/usr/bin/env python3
-"""Checks samples/ and the outputs that docs/TRAINING.md shows against the model.
+"""Checks samples/ and the outputs that the pages show against the model.
 
     python3 tests/samples.py          each samples/NAME.out is what the model answers for samples/NAME.hex, and each
-                                      output of docs/TRAINING.md stands in one of them or in crates/probe/stdout
+                                      output of the pages (tests/pages.py lists them) what it answers for their command
     python3 tests/samples.py --write  makes each samples/NAME.out again, but bay.out: that is copied from document 01
-    python3 tests/samples.py --run    runs ./plan on each samples/NAME.hex and compares what it prints
+    python3 tests/samples.py --run    runs ./plan on each samples/NAME.hex, on the longest sheets and on the longest
+                                      report, and each command of the pages, and compares what they print
 """
 
-import subprocess
 import sys
-from pathlib import Path
 
-from build import SAMPLE
-from planning import lockerplan
+import pages
+from build import SAMPLE, coe, eeprom, managers, on_coe, on_eeprom
+from pages import in_lines, text_of
+from stored import sample, samples
 
-ROOT = Path(__file__).resolve().parent.parent
-TRAINING = ROOT / "docs" / "TRAINING.md"
-
-
-def sheet_of(path):
-    """A sheet in hexadecimal; white space is free, # to the end of the line is a comment."""
-    lines = path.read_text().splitlines()
-    return bytes.fromhex("".join("".join(line.partition("#")[0].split()) for line in lines))
-
-
-def samples():
-    """Each sample's path and its sheet."""
-    return [(path, sheet_of(path)) for path in sorted((ROOT / "samples").glob("*.hex"))]
-
-
-def sample(name):
-    return sheet_of(ROOT / "samples" / f"{name}.hex")
-
-
-def text_of(sheet):
-    return "".join(line + "\n" for line in lockerplan(sheet))
+# L is 16,384: 9 bytes, four sync managers, two usages, and 63 PDOs of 254 or 255 lengths
+LONGEST = on_coe(*[coe(2 + k % 2, 0x1A00 + k, *[1 + (i + k) % 7 for i in range(254 + (k < 36))]) for k in range(63)])
+# sixteen sync managers, each with an entry of its own: the most lines that there are
+ALL_ENTRIES = on_eeprom(
+    *[eeprom(1 + k % 2, k, 0x1A00 + k, 65_528 - k) for k in range(16)],
+    rows=managers(*[(0xF000 + 16 * k, 0x64 if k % 2 else 0x20, 1, 4 - k % 2) for k in range(16)]),
+)
 
 
 def wrong_outputs():
@@ -49,39 +36,45 @@ def wrong_outputs():
             yield f"samples/{out.name} isn't what the model answers"
 
 
-def shown_outputs():
-    """The lines of the training page's blocks that begin with ```text."""
-    inside = False
-    for line in TRAINING.read_text().splitlines():
-        if line.startswith("```"):
-            inside = line == "```text"
-        elif inside:
-            yield line
+def limits():
+    """Sheets at the limits of the program's own buffers, and what it prints for each."""
+    accepted, report = text_of(LONGEST), text_of(ALL_ENTRIES)
+    if len(LONGEST) != 16_386 or accepted.startswith("refused") or len(report) <= 1_024:
+        sys.exit("the sheets at the limits aren't what they are meant to be")
+    yield "16,386 bytes", LONGEST, accepted
+    yield "16,387 bytes", LONGEST + b"\0", text_of(LONGEST + b"\0")
+    yield "16,388 bytes", LONGEST + b"\0\0", text_of(LONGEST + b"\0\0")
+    yield f"a report of {len(report):,} bytes", ALL_ENTRIES, report
 
 
-def wrong_pages():
-    stored = (ROOT / "crates" / "probe" / "stdout").read_text()
-    stored += "".join(path.with_suffix(".out").read_text() for path, _ in samples())
-    lines = set(stored.splitlines())
-    for line in shown_outputs():
-        if line not in lines:
-            yield f"docs/TRAINING.md shows a line that no stored answer has: {line}"
+def written(sheet):
+    """A sheet as people write it, sixteen bytes to a line."""
+    return in_lines(sheet[i : i + 16].hex(" ") for i in range(0, len(sheet), 16))
 
 
 def wrong_runs():
     for path, _ in samples():
-        ran = subprocess.run([ROOT / "plan", path], capture_output=True, text=True)
-        if ran.returncode or ran.stdout != path.with_suffix(".out").read_text():
-            yield f"./plan samples/{path.name} doesn't print samples/{path.stem}.out {ran.stderr}"
+        text, said = pages.run(f"./plan samples/{path.name}")
+        if text != path.with_suffix(".out").read_text():
+            yield f"./plan samples/{path.name} doesn't print samples/{path.stem}.out but\n{text}{said}"
+    for name, sheet, right in limits():
+        text, said = pages.run("./plan -", written(sheet))
+        if text != right:
+            yield f"a sheet at a limit, {name}: ./plan prints\n{text}{said}"
 
 
 def main():
+    if sys.argv[1:] not in ([], ["--write"], ["--run"]):
+        sys.exit(__doc__.strip())
     if sys.argv[1:] == ["--write"]:
         for path, sheet in samples():
             if path.stem != "bay":
                 path.with_suffix(".out").write_text(text_of(sheet))
-    wrong = list(wrong_runs()) if sys.argv[1:] == ["--run"] else [*wrong_outputs(), *wrong_pages()]
-    print("\n".join(wrong) or f"{len(samples())} samples are as they should be")
+    if sys.argv[1:] == ["--run"]:
+        wrong = [*wrong_runs(), *pages.wrong_runs()]
+    else:
+        wrong = [*wrong_outputs(), *pages.wrong_pages()]
+    print("\n".join(wrong) or f"{len(samples())} samples and {len(pages.shown())} outputs on the pages are as they should be")
     sys.exit(1 if wrong else 0)
 
 

@@ -1,0 +1,172 @@
+#!/usr/bin/env python3
+"""What docs/TRAINING.md and docs/SHEET.md show by the program `probe`: asks it and prints its answers as a student reads them.
+
+    python3 samples/lesson.py gap           a merged FMMU doesn't follow the second sync manager
+    python3 samples/lesson.py stale         an input pass on the registers of a cancelled job, then on fresh ones
+    python3 samples/lesson.py group         an input pass in a group that doesn't begin at 0
+    python3 samples/lesson.py exercise-6    the pass of docs/EXERCISES.md's exercise 6
+    python3 samples/lesson.py exercise-7    that of exercise 7
+    python3 samples/lesson.py refused       the smallest calls for the numbers that a sheet alone can't cause
+
+The program is built first where that is needed, which takes minutes the first time.
+"""
+
+import subprocess
+import sys
+from pathlib import Path
+
+ROOT = Path(__file__).resolve().parent.parent
+sys.path.append(str(ROOT / "tests"))
+
+from build import SAMPLE, STALE, area, eeprom, entry, managers, on_eeprom, sheet
+from registers import LIMIT, Fmmu, segment_text
+from stored import sample
+from stream import FMMU_RECORD, Request, packed
+
+# ---- asking
+
+
+def by_probe(named):
+    """The lines that the program answers to each request; `named` holds a name and a request in turn."""
+    data = b"".join(request.bytes() for _, request in named)
+    ran = subprocess.run([ROOT / "plan", "--probe", "-"], input=data, stdout=subprocess.PIPE)
+    if ran.returncode:
+        sys.exit(ran.returncode)
+    lines = ran.stdout.decode().splitlines()
+    return [answer(request, lines) for _, request in named]
+
+
+def answer(request, lines):
+    """Takes a request's answer off the front: one line, or each that begins with an address."""
+    taken = [lines.pop(0)]
+    while request.times > 1 and lines and lines[0].partition(": ")[0].isdigit():
+        taken.append(lines.pop(0))
+    return taken
+
+
+# ---- what a student reads
+
+
+def address(word):
+    return f"0x{int(word):04x}" if word.isdigit() else word
+
+
+def both_ways(line):
+    """An answer of the letter A."""
+    at, _, words = line.partition(": ")
+    if words == "same":
+        return f"logical 0x{int(at):08x}: the same both ways"
+    _, translated, counted = words.split()
+    return f"logical 0x{int(at):08x}: {address(translated)} through the FMMU, {address(counted)} by counting"
+
+
+def segment(line):
+    """The segment of a pass that was accepted."""
+    _, start, end, *_ = line.split()
+    return f"segment {segment_text(int(start), int(end))}"
+
+
+def entry_one(line):
+    """An answer of the letter R."""
+    return "FMMU1: " + Fmmu(*map(int, line.split())).text()
+
+
+def fmmus_after(line):
+    return bytes.fromhex(line.split()[4])
+
+
+# ---- the lessons: each asks, and yields lines
+
+
+def input_pass(fmmus=area(), **words):
+    return Request("p", fmmus=fmmus, channels=bytes(128), **words)
+
+
+def gap(ask):
+    inputs = sample("gap")
+    [[passed]] = ask([("gap: the input pass", input_pass(sheet=inputs))])
+    both = Request("A", times=7, sheet=inputs, fmmus=fmmus_after(passed))
+    [lines] = ask([("gap: both ways", both)])
+    yield from map(both_ways, lines)
+
+
+def on_registers(ask, name, before, offset):
+    """The inputs of bay.hex, from an offset, on an FMMU area that isn't fresh; and both ways up to where they end."""
+    [[passed]] = ask([(f"{name}: the input pass", input_pass(before, a=offset, sheet=SAMPLE))])
+    after = fmmus_after(passed)
+    both = Request("A", a=offset, times=offset + 7, sheet=SAMPLE, fmmus=after)
+    [[read], lines] = ask([(f"{name}: entry 1", Request("R", fmmus=after[16:32])), (f"{name}: both ways", both)])
+    yield segment(passed)
+    yield entry_one(read)
+    yield from map(both_ways, lines)
+
+
+def stale(ask):
+    for name, before in (("the cancelled job's registers", STALE), ("fresh registers", area())):
+        yield f"on {name}:"
+        yield from on_registers(ask, name, before, 5)
+
+
+def in_group(ask, start, offset):
+    [[passed]] = ask([(f"group {start}: the input pass", input_pass(a=offset, b=start, sheet=SAMPLE))])
+    [[read]] = ask([(f"group {start}: entry 1", Request("R", fmmus=fmmus_after(passed)[16:32]))])
+    yield segment(passed)
+    yield entry_one(read)
+
+
+def group(ask):
+    return in_group(ask, 0x100, 0x105)
+
+
+def exercise_6(ask):
+    return on_registers(ask, "exercise 6", area(entry(2, 3, 0x1180), first=1), 0x10)
+
+
+def exercise_7(ask):
+    return in_group(ask, 0x200, 0x20C)
+
+
+# one input of one bit, on entry 0
+ONE_BIT = on_eeprom(eeprom(1, 0, 0x1A00, 1), rows=managers((0x1180, 0x20, 1, 4)))
+NO_PARTS = sheet(0, 0, 0)
+START_BIT_8 = packed([0, 0, 8, 0, 0, 0, 0, 0, 0], FMMU_RECORD)
+CALLS = [
+    ("Fmmu::unpack_from_slice of no bytes", Request("R")),
+    ("an input pass of nothing on an FMMU area of 255 bytes", input_pass(bytes(255), sheet=NO_PARTS)),
+    ("an input pass of 1 bit on an enabled entry of 65,535 bytes", input_pass(area(entry(0, 65_535, 0)), sheet=ONE_BIT)),
+    ("PdiOffset::increment by 1 byte from offset 0xffffffff", Request("i", a=LIMIT, c=1)),
+    ("an input pass of 1 bit from offset 0xffffffff", input_pass(a=LIMIT, sheet=ONE_BIT)),
+    ("PdiSegment::less of 0 up to 0, group start 1", Request("g", c=1)),
+    ("an input pass of nothing from offset 0, group start 1", input_pass(b=1, sheet=NO_PARTS)),
+    ("translate with an enabled input entry of bits 0 to 0", Request("T", fmmus=area(entry(0, 0, 0, bits=(0, 0, 0))))),
+    ("PdiSegment::fmt of (empty) into room of 6 bytes", Request("s", room=6)),
+    ("Fmmu::pack_to_slice of a record with start bit 8", Request("W", room=16, fmmus=START_BIT_8)),
+]
+
+
+def refused(ask):
+    for (name, _), [line] in zip(CALLS, ask(CALLS)):
+        yield f"{name}: {' '.join(line.split()[:2])}"
+
+
+LESSONS = {
+    "gap": gap,
+    "stale": stale,
+    "group": group,
+    "exercise-6": exercise_6,
+    "exercise-7": exercise_7,
+    "refused": refused,
+}
+
+
+def main():
+    if len(sys.argv) != 2 or sys.argv[1] not in LESSONS:
+        print("lesson: which one? " + ", ".join(LESSONS), file=sys.stderr)
+        return 2
+    for line in LESSONS[sys.argv[1]](by_probe):
+        print(line)
+    return 0
+
+
+if __name__ == "__main__":
+    sys.exit(main())

@@ -1,0 +1,136 @@
+"""The outputs that the pages show.
+
+A block that begins with ```text shows a command, after `$ `, and what it prints; a line `...` stands for lines left out.
+A block that begins with ```hex is a sheet, which the page's next `$ ./plan mine.hex` is given.
+"""
+
+import io
+import re
+import subprocess
+import sys
+from typing import NamedTuple
+
+import model
+from planning import lockerplan
+from stored import ROOT, sample, sheet_in
+
+sys.path.append(str(ROOT / "samples"))
+import lesson
+
+PAGES = ["README.md", "docs/TRAINING.md", "docs/SHEET.md", "docs/EXERCISES.md", "docs/ANSWERS.md"]
+MINE, PIPED, PROBED = "./plan mine.hex", " | ./plan -", " | ./plan --probe -"
+
+
+class Shown(NamedTuple):
+    page: str
+    command: str
+    lines: list
+    sheet: str  # of the block ```hex before it
+
+
+def blocks(page):
+    """Each fenced block's kind and lines."""
+    kind, inside = None, []
+    for line in (ROOT / page).read_text().splitlines():
+        if not line.startswith("```"):
+            inside.append(line)
+        elif kind is None:
+            kind, inside = line[3:], []
+        else:
+            yield kind, inside
+            kind = None
+
+
+def shown_on(page):
+    sheet = ""
+    for kind, lines in blocks(page):
+        if kind == "hex":
+            sheet = "\n".join(lines)
+        elif kind == "text":
+            yield Shown(page, lines[0].removeprefix("$ "), lines[1:], sheet)
+
+
+def shown():
+    return [one for page in PAGES for one in shown_on(page)]
+
+
+def in_lines(lines):
+    return "".join(line + "\n" for line in lines)
+
+
+def text_of(sheet):
+    """What `lockerplan` prints for a sheet, by the model."""
+    return in_lines(lockerplan(sheet))
+
+
+def by_model(named):
+    return [list(model.answers(request)) for _, request in named]
+
+
+def made(command):
+    """What a command writes."""
+    return subprocess.run(command, shell=True, cwd=ROOT, stdout=subprocess.PIPE).stdout
+
+
+def sheet_given(one):
+    """The sheet, as it is written, that a command gives to ./plan, or None."""
+    if one.command == MINE:
+        return one.sheet
+    if one.command.endswith(PIPED):
+        return made(one.command.removesuffix(PIPED)).decode()
+    if found := re.fullmatch(r"\./plan (samples/[\w-]+\.hex)", one.command):
+        return (ROOT / found[1]).read_text()
+    return None
+
+
+def right_text(one):
+    """What a page's command prints, by the model; None where there is no such command."""
+    sheet = sheet_given(one)
+    if sheet is not None:
+        return text_of(sheet_in(sheet))
+    if one.command.endswith(PROBED):
+        return in_lines(model.answer_all(io.BytesIO(made(one.command.removesuffix(PROBED)))))
+    told = lesson.LESSONS.get(one.command.removeprefix("python3 samples/lesson.py "))
+    return in_lines(told(by_model)) if told else None
+
+
+def fits(lines, text):
+    """Whether the lines are the text, `...` standing for any lines."""
+    pattern = "".join(r"(?:.*\n)*" if line == "..." else re.escape(line + "\n") for line in lines)
+    return re.fullmatch(pattern, text) is not None
+
+
+def sheets_on(page):
+    return [in_lines(lines) for kind, lines in blocks(page) if kind == "hex"]
+
+
+def wrong_sheets():
+    """Sheets of the pages that stand in samples/ too."""
+    if sheets_on("docs/SHEET.md") != [(ROOT / "samples" / "blank.hex").read_text()]:
+        yield "docs/SHEET.md's blank isn't samples/blank.hex"
+    for number, text in enumerate(sheets_on("docs/EXERCISES.md"), 2):
+        if sheet_in(text) != sample(f"refused-{number}"):
+            yield f"a sheet of docs/EXERCISES.md isn't samples/refused-{number}.hex"
+
+
+def wrong_pages():
+    yield from wrong_sheets()
+    for one in shown():
+        text = right_text(one)
+        if text is None:
+            yield f"{one.page} shows what no command prints: {one.command}"
+        elif not fits(one.lines, text):
+            yield f"{one.page}: this isn't what the model answers: {one.command}\n{text}"
+
+
+def run(command, given=None):
+    """What a command prints, typed at the root, and what it says beside that."""
+    done = subprocess.run(command, shell=True, cwd=ROOT, input=given, capture_output=True, text=True)
+    return done.stdout, done.stderr
+
+
+def wrong_runs():
+    for one in shown():
+        text, said = run("./plan -", one.sheet) if one.command == MINE else run(one.command)
+        if text != right_text(one):
+            yield f"{one.page}: {one.command} prints\n{text}{said}"
