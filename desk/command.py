@@ -83,7 +83,7 @@ def understood(words):
             raise Trouble(f"--build takes no file, and {shown(files[0])} was given")
         return Wish("build")
     if len(files) != 1:
-        slip = f"one file at a time, and {len(files)} were given" if files else "which file? ./plan samples/bay.hex, for example"
+        slip = f"one file at a time, not {len(files)}" if files else "which file? ./plan samples/bay.hex, for example"
         raise Trouble(f"{slip}; ./plan --help says more")
     if "--probe" in options:
         return Wish("probe", files[0])

@@ -23,10 +23,7 @@ class Line:
 
     def renew(self, text):
         if watched():
-            try:
-                self.width = max(20, os.get_terminal_size(ERR).columns - 1)
-            except OSError:
-                self.width = 79
+            self.width = (os.get_terminal_size(ERR).columns or 80) - 1
             whisper(f"\r{text[:self.width]:<{self.width}}")
 
     def clear(self):
