@@ -1,7 +1,7 @@
 """The programs: proved and built where their sources changed, by one ./plan at a time.
 
-target/plan/ holds the lock, and for each program a stamp: of what it was built from, and of the program itself. A build
-holds the lock alone; a run holds it together with other runs, so that no program is replaced while it is read.
+target/plan/ holds the lock of a build, and for each program a stamp: of what it was built from, and of the program itself.
+Running needs no lock: an answer counts only if the program is the same before and after.
 """
 
 import fcntl
@@ -19,93 +19,78 @@ from desk.talk import Trouble, say, shown, watched
 
 TARGET = ROOT / "target"
 PLACE = TARGET / "plan"
+LOCK = PLACE / "lock"
 
 
 # ---- the lock
 
 
-def open_lock():
-    """Where others built, and this user may only read, the lock is opened for reading."""
+def taken():
+    """The lock's file if nobody else has it, else None. `rt ci` removes target/, and the lock with it: then it counts for nothing."""
     try:
         PLACE.mkdir(parents=True, exist_ok=True)
-        return os.open(PLACE / "lock", os.O_RDWR | os.O_CREAT, 0o666)
+        lock = os.open(LOCK, os.O_RDWR | os.O_CREAT, 0o666)
     except OSError as error:
-        reason = error.strerror
+        raise Trouble(f"target/ can't be written ({error.strerror}), and the program has to be built there first") from None
     try:
-        return os.open(PLACE / "lock", os.O_RDONLY)
-    except OSError:
-        raise Trouble(f"target/ can't be written ({reason}): the program is built there") from None
+        fcntl.flock(lock, fcntl.LOCK_EX | fcntl.LOCK_NB)
+        if os.path.samestat(os.fstat(lock), os.stat(LOCK)):
+            return lock
+    except (BlockingIOError, FileNotFoundError):
+        pass
+    os.close(lock)
+    return None
 
 
-class Lock:
-    def __init__(self):
-        self.file = open_lock()
-
-    def in_place(self):
-        """`rt ci` removes target/, and the lock with it."""
-        try:
-            return os.path.samestat(os.fstat(self.file), os.stat(PLACE / "lock"))
-        except FileNotFoundError:
-            return False
-
-    def wait(self, how):
-        began, line, told = time.monotonic(), Line(), False
-        try:
-            while not self.taken(how):
-                waited = time.monotonic() - began
-                if waited > PATIENCE and not told and not watched():
-                    told = True
-                    say("another ./plan is building here; waiting for it")
-                if waited > 1:
-                    line.renew(f"plan: another ./plan is building here; waiting, {lasting(waited)} so far")
-                time.sleep(0.1)
-        finally:
-            line.clear()
-
-    def taken(self, how):
-        try:
-            fcntl.flock(self.file, how | fcntl.LOCK_NB)
-            return True
-        except BlockingIOError:
-            return False
-
-    def take(self, how):
-        self.wait(how)
-        while not self.in_place():
-            os.close(self.file)
-            self.file = open_lock()
-            self.wait(how)
+def wait_for_lock():
+    began, line, told = time.monotonic(), Line(), False
+    try:
+        while True:
+            lock = taken()
+            if lock is not None:
+                return lock
+            waited = time.monotonic() - began
+            line.renew(f"plan: another ./plan is building here; waiting, {lasting(waited)} so far")
+            if waited > PATIENCE and not told and not watched():
+                told = True
+                say("another ./plan is building here; waiting for it")
+            time.sleep(0.1)
+    finally:
+        line.clear()
 
 
 # ---- the stamps
 
 
 def program_of(name):
-    return hashlib.sha256((TARGET / "bin" / name).read_bytes()).hexdigest()
-
-
-def is_ready(rt, name):
-    """Whether the program that is there was built from the sources that are there."""
+    """One number for the program that is there; none where there is none."""
     try:
-        return (PLACE / name).read_text() == f"{sources(rt, name)} {program_of(name)}\n"
+        return hashlib.sha256((TARGET / "bin" / name).read_bytes()).hexdigest()
     except FileNotFoundError:
-        return False
+        return ""
+
+
+def ready(rt, name):
+    """The program's number, if it was built from the sources that are there."""
+    try:
+        stamp = (PLACE / name).read_text()
+    except FileNotFoundError:
+        return ""
+    program = program_of(name)
+    return program if program and stamp == f"{sources(rt, name)} {program}\n" else ""
 
 
 def write_stamp(name, stamp):
-    try:
-        (PLACE / name).write_text(f"{stamp} {program_of(name)}\n")
-    except FileNotFoundError:
-        raise Trouble(f"`rt check` passed, but left no target/bin/{name}; remove target/ and try again") from None
-    except OSError as error:
-        raise Trouble(f"target/plan/{name} can't be written: {error.strerror}") from None
+    if not program_of(name):
+        raise Trouble(f"`rt check` passed, but left no target/bin/{name}; remove target/ and try again")
+    (PLACE / name).write_text(f"{stamp} {program_of(name)}\n")
 
 
 # ---- the build
 
 
 def lines_of(pipe, tick):
-    """The lines of a pipe as they come; `tick` is called about once a second."""
+    """The lines of a pipe as they come; `tick` is called at least once a second."""
     rest = b""
     while True:
         tick()
@@ -118,7 +103,7 @@ def lines_of(pipe, tick):
 
 
 def end(build):
-    """Ends a build with all that it started. The group is the build's own as long as it isn't waited for."""
+    """Ends a build with all that it started. The group can be no other's as long as the build isn't waited for."""
     with kept_back():
         for number in (signal.SIGTERM, signal.SIGKILL):
             os.killpg(build.pid, number)
@@ -127,22 +112,21 @@ def end(build):
 
 
 def check(rt, names, lock, progress):
-    """Runs `rt check`; answers its status. It inherits the lock, so that a build outlives nobody's lock."""
-    build = None
+    """Runs `rt check` and answers its status. It inherits the lock: if the script is killed, the build still has it."""
+    build, piped = None, {"stdin": subprocess.DEVNULL, "stdout": subprocess.PIPE, "stderr": subprocess.STDOUT}
     try:
         with kept_back():
-            build = subprocess.Popen(
-                [rt, "check", *names], cwd=ROOT, stdin=subprocess.DEVNULL, stdout=subprocess.PIPE, stderr=subprocess.STDOUT,
-                start_new_session=True, pass_fds=[lock.file],
-            )
+            command = [rt, "check", *names]
+            build = subprocess.Popen(command, cwd=ROOT, start_new_session=True, pass_fds=[lock], **piped)
         for line in lines_of(build.stdout, progress.tick):
             progress.heard(line)
         return build.wait()
     except BaseException:
         if build and build.returncode is None:
             end(build)
-        progress.line.clear()
         raise
+    finally:
+        progress.line.clear()
 
 
 def reason_of(said):
@@ -152,35 +136,36 @@ def reason_of(said):
 
 
 def build(rt, names, lock):
-    if not os.access(PLACE, os.W_OK):
-        raise Trouble(f"target/ can't be written, and {' and '.join(names)} isn't built from these sources yet")
     stamps = {name: sources(rt, name) for name in names}  # of before: what changes meanwhile is built again
     progress = Progress(names, order(names))
     status = check(rt, names, lock, progress)
     if status:
-        progress.line.clear()
         raise Trouble(f"`rt check {' '.join(names)}` failed with status {status}: {reason_of(progress.said)}")
     for name in names:
         write_stamp(name, stamps[name])
     progress.ended()
 
 
-def make_ready(rt, names, lock):
-    """Builds what isn't ready; afterwards the lock is held together with other runs."""
-    lock.take(fcntl.LOCK_SH)
-    while not all(is_ready(rt, name) for name in names):
-        lock.take(fcntl.LOCK_EX)
-        if not all(is_ready(rt, name) for name in names):
+def made_ready(rt, names):
+    """Each program's number, once all of them are built from the sources that are there."""
+    while True:
+        programs = {name: ready(rt, name) for name in names}
+        if all(programs.values()):
+            return programs
+        lock = wait_for_lock()
+        if not all(ready(rt, name) for name in names):
             build(rt, names, lock)
-        lock.take(fcntl.LOCK_SH)
+        os.close(lock)
 
 
 def answer(name, data):
     """What a program, made ready where needed, writes for this input."""
-    rt, lock = find_rt(), Lock()
-    make_ready(rt, [name], lock)
-    return run(rt, name, data)
-
-
-def build_all(names):
-    make_ready(find_rt(), names, Lock())
+    rt = find_rt()
+    while True:
+        program = made_ready(rt, [name])[name]
+        ran = run(rt, name, data)
+        if program_of(name) == program:
+            break
+    if ran.returncode:
+        raise Trouble(f"{name} ended with status {ran.returncode}: {shown(ran.stderr.decode('utf-8', 'replace').strip())}")
+    return ran.stdout

@@ -6,7 +6,6 @@ import shutil
 import subprocess
 from pathlib import Path
 
-from desk.signals import kept_back
 from desk.talk import Trouble, shown
 
 ROOT = Path(__file__).resolve().parent.parent
@@ -80,18 +79,6 @@ def command(rt, name):
 
 
 def run(rt, name, data):
-    """What the program writes for this input."""
+    """Runs the program on this input."""
     environment = {word: value for word, value in os.environ.items() if not word.startswith("QEMU_")}
-    program = None
-    try:
-        with kept_back():
-            pipes = {stream: subprocess.PIPE for stream in ("stdin", "stdout", "stderr")}
-            program = subprocess.Popen(command(rt, name), env=environment, start_new_session=True, **pipes)
-        wrote, said = program.communicate(data)
-    except BaseException:
-        if program:
-            program.kill()
-        raise
-    if program.returncode:
-        raise Trouble(f"{name} ended with status {program.returncode}: {shown(said.decode('utf-8', 'replace').strip())}")
-    return wrote.decode("utf-8", "replace")
+    return subprocess.run(command(rt, name), input=data, env=environment, stdout=subprocess.PIPE, stderr=subprocess.PIPE)

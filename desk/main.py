@@ -2,7 +2,7 @@
 
 import re
 
-from desk import build, command, explain, feed, picture, signals, talk
+from desk import build, command, explain, feed, kit, picture, signals, talk
 from desk.lanes import warnings
 from desk.talk import PLANNED, REFUSED, Trouble, put, say, shown
 
@@ -13,7 +13,7 @@ REFUSAL = re.compile(r"refused (\d+)\n")
 def explained(wish, sheet, number):
     """After a refusal: the words where they are wanted, else how to get them."""
     if wish.explain:
-        put(explain.explanation(sheet, number))
+        put(explain.explanation(sheet, number).encode())
     elif talk.watched():
         again = "the same with --explain" if wish.path == "-" else f"./plan --explain {shown(wish.path)}"
         say(f"{again} says why")
@@ -23,25 +23,26 @@ def explained(wish, sheet, number):
 
 def plan(wish):
     sheet = feed.sheet_of(wish.path)
-    text = build.answer("lockerplan", sheet.data)
+    answer = build.answer("lockerplan", sheet.data)
+    text = answer.decode("ascii", "replace")
     refusal = REFUSAL.fullmatch(text)
     if not refusal and not text.startswith("inputs "):
         raise Trouble("lockerplan printed neither a plan nor a refusal")
-    put(text)
+    put(answer)
     if refusal:
         explained(wish, sheet, int(refusal[1]))
         return REFUSED
     if wish.picture:
         picture.draw(wish.picture, feed.named(wish.path), text, sheet.data)
     if wish.explain:
-        put("".join(f"{line}\n" for line in warnings(text, sheet.data)))
+        put("".join(f"{line}\n" for line in warnings(text, sheet.data)).encode())
     return PLANNED
 
 
 def probe(wish):
-    text = build.answer("probe", feed.requests_of(wish.path))
-    put(text)
-    if text.endswith("bad request\n"):
+    answer = build.answer("probe", feed.requests_of(wish.path))
+    put(answer)
+    if answer.endswith(b"bad request\n"):
         raise Trouble("the probe stopped at a request that is cut short or longer than docs/PROBE.md allows")
     return PLANNED
 
@@ -49,10 +50,10 @@ def probe(wish):
 def act(words):
     wish = command.understood(words)
     if wish.what == "help":
-        put(command.HELP)
+        put(command.HELP.encode())
         return PLANNED
     if wish.what == "build":
-        build.build_all(PROGRAMS)
+        build.made_ready(kit.find_rt(), PROGRAMS)
         say("lockerplan and probe are ready")
         return PLANNED
     talk.demand_output()
@@ -70,5 +71,8 @@ def main(words):
     except signals.Interrupted as interrupted:
         say("interrupted")
         signals.die(interrupted.args[0])
+    except OSError as error:
+        say(f"{shown(str(error.filename or 'the system'))}: {error.strerror}")
+        return talk.TROUBLE
     except Exception as error:
         return talk.fault(error)

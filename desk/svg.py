@@ -1,6 +1,6 @@
 """A drawing of lines, boxes and text in one width of letters, so that its room is known beforehand."""
 
-from xml.sax.saxutils import escape, quoteattr
+from html import escape
 
 FONT = "'DejaVu Sans Mono', Menlo, Consolas, 'Courier New', monospace"
 LETTER = 0.61  # a letter's width, of its height
@@ -17,7 +17,7 @@ class Drawing:
 
     def add(self, name, **words):
         inside = words.pop("inside", None)
-        pairs = "".join(f" {word.rstrip('_').replace('_', '-')}={quoteattr(str(value))}" for word, value in words.items())
+        pairs = "".join(f' {word.replace("_", "-")}="{escape(str(value))}"' for word, value in words.items())
         self.items.append(f"<{name}{pairs}/>" if inside is None else f"<{name}{pairs}>{escape(inside)}</{name}>")
 
     def text(self, x, y, text, size=12, **words):

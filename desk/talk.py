@@ -50,10 +50,10 @@ def demand_output():
         raise Trouble("standard output is closed, so the plan could not be shown")
 
 
-def put(text):
-    """Writes all of a text to standard output."""
+def put(data):
+    """Writes all of these bytes to standard output."""
     demand_output()
-    left = text.encode()
+    left = data
     try:
         while left:
             left = left[os.write(OUT, left) :]

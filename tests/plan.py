@@ -187,6 +187,13 @@ def builds(fake):
     after = fake.run(fake.sheet).status, fake.run("--probe", fake.sheet).status
     got = ran.status, *after, fake.builds()
     yield "--build makes both ready, with one build", same(got, (0, 0, 0, ["lockerplan probe"]))
+    fake.write("project/crates/probe/src/lib.rt", "// changed\n")
+    fake.write("kit/pause", "1")
+    other = fake.start("--probe", fake.sheet)
+    group_of(other)
+    ran = fake.run(fake.sheet)
+    yield "what is ready doesn't wait for another's build", same((ran.status, other.poll()), (0, None))
+    other.communicate()
     fake.write("kit/pause", "0")
 
 
@@ -258,7 +265,7 @@ def killed(fake):
 
 
 def real_runs():
-    if not build.is_ready(kit.find_rt(), "lockerplan"):
+    if not build.ready(kit.find_rt(), "lockerplan"):
         yield "the samples, by the proved program: not tried, since it isn't built (./plan --build)", ""
         return
     for path, _ in samples():
