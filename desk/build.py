@@ -12,7 +12,7 @@ import signal
 import subprocess
 import time
 
-from desk.kit import ROOT, find_rt, order, run, sources
+from desk.kit import ROOT, find_rt, order, rt_runs, run, sources
 from desk.progress import PATIENCE, Line, Progress, lasting
 from desk.signals import kept_back
 from desk.talk import Trouble, say, shown, watched
@@ -26,7 +26,7 @@ LOCK = PLACE / "lock"
 
 
 def taken():
-    """The lock's file if nobody else has it, else None. `rt ci` removes target/, and the lock with it: then it counts for nothing."""
+    """The lock's file, or None while another builds. A lock that `rt ci` removed with target/ counts for nothing."""
     try:
         PLACE.mkdir(parents=True, exist_ok=True)
         lock = os.open(LOCK, os.O_RDWR | os.O_CREAT, 0o666)
@@ -34,7 +34,7 @@ def taken():
         raise Trouble(f"target/ can't be written ({error.strerror}), and the program has to be built there first") from None
     try:
         fcntl.flock(lock, fcntl.LOCK_EX | fcntl.LOCK_NB)
-        if os.path.samestat(os.fstat(lock), os.stat(LOCK)):
+        if os.path.samestat(os.fstat(lock), os.stat(LOCK)) and not rt_runs():
             return lock
     except (BlockingIOError, FileNotFoundError):
         pass
@@ -50,11 +50,11 @@ def wait_for_lock():
             if lock is not None:
                 return lock
             waited = time.monotonic() - began
-            line.renew(f"plan: another ./plan is building here; waiting, {lasting(waited)} so far")
+            line.renew(f"plan: waiting for another build in this folder, {lasting(waited)} so far")
             if waited > PATIENCE and not told and not watched():
                 told = True
-                say("another ./plan is building here; waiting for it")
-            time.sleep(0.1)
+                say("waiting for another build in this folder, of ./plan or of rt")
+            time.sleep(0.2)
     finally:
         line.clear()
 
@@ -130,9 +130,10 @@ def check(rt, names, lock, progress):
 
 
 def reason_of(said):
-    """The line of `rt` that tells most: the first crate that wasn't proved, or the last line."""
+    """The line of `rt` that tells most, the first crate that wasn't proved or the last line, and where there is more."""
     said = [line for line in said if line.strip()] or ["it printed nothing"]
-    return shown(next((line for line in said if "NOT PROVED" in line or "FAILED" in line), said[-1]), 200)
+    line = next((line for line in said if "NOT PROVED" in line or "FAILED" in line), said[-1])
+    return f"{shown(line, 120)} (target/log/ has all that was said)"
 
 
 def build(rt, names, lock):

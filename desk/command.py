@@ -27,8 +27,8 @@ Exit status
   130, 143, 129   interrupted (SIGINT, SIGTERM, SIGHUP); a build that was begun is ended, and goes on from there next time
 
 Where the sources changed, the program is proved and built first, with `rt`, which takes minutes the first time; standard
-error shows how far it is. Of several ./plan at once one builds and the others wait. (`rt` itself doesn't wait: don't run it
-in this folder beside a build.) The program is proved; --explain and --picture are not, and say so where it matters.
+error shows how far it is. Of several ./plan at once one builds and the others wait; they wait for an `rt` in this folder too.
+(`rt` itself waits for nobody: don't start it beside a build.) The program is proved; --explain and --picture are not.
 """
 
 

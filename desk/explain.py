@@ -4,6 +4,7 @@ Worked out from document 01 beside the proved program, for areas of zeros, offse
 of all numbers only 2 to 8 can occur. Nothing here is proved: the words are shown only where their number is the program's.
 """
 
+import shutil
 import textwrap
 from typing import NamedTuple
 
@@ -13,6 +14,10 @@ from desk.device import Finding, many
 MOST_BITS = 65_528  # of a sync manager: 8,191 bytes
 MOST_LENGTH = 65_535  # of an FMMU entry, in bytes
 LISTED = 6  # PDOs or sync managers that are named one by one
+NOTE = (
+    "bytes, sync managers (SM), FMMUs and PDOs count from 0. These words are not proved: they were worked out beside the "
+    "proved program, from document 01, and are shown because they come to the program's number"
+)
 
 RULES = {
     2: "the sheet's length doesn't fit",
@@ -61,7 +66,8 @@ def listing(items):
 
 def why_coe(sheet):
     reader = next(manager for manager in sheet.managers if manager.usage == 2)
-    return f"on the CoE path, since flag bits 0 and 1 are set and SM{reader.number} is a read mailbox of {sheet.send:,} bytes"
+    mailbox = f"SM{reader.number} is a read mailbox of {many(sheet.send, 'byte')}"
+    return f"(The bay is on the CoE path, since flag bits 0 and 1 are set and {mailbox}.)"
 
 
 def check_bits(way, wanted):
@@ -70,7 +76,8 @@ def check_bits(way, wanted):
         if bits > MOST_BITS:
             parts = [f"{pdo.bits:,} of PDO {pdo.number} (0x{pdo.index:04X}, byte {pdo.at})" for pdo in pdos]
             what = f"SM{manager.number}: {bits:,} bits; a sync manager has room for {MOST_BITS:,}. They are {listing(parts)}"
-            to_do = f"take {many(bits - MOST_BITS, 'bit')} or more out, or give a PDO to another sync manager for {way.word}"
+            to_do = f"take {many(bits - MOST_BITS, 'bit')} or more out"
+            to_do += f", or give a PDO to another sync manager for {way.word}" if len(pdos) > 1 else ""
             raise Finding(6, f"SM{manager.number} ({way.word})", range(manager.at, manager.at + 5), what, to_do)
 
 
@@ -80,8 +87,8 @@ def check_usage(sheet, way, wanted):
         return
     manager, pdos = filled[0]
     has = ", ".join(f"FMMU{number} {device.FMMU_USAGES[usage]}" for number, usage in enumerate(sheet.usages)) or "none"
-    what = f"SM{manager.number}: {many(bits_of(pdos), 'bit')} of {way.word}; an FMMU with the usage {way.word} is needed "
-    what += f"{why_coe(sheet)}, and the sheet has: {has}"
+    what = f"SM{manager.number}: {many(bits_of(pdos), 'bit')} of {way.word}; on the CoE path they need an FMMU with the usage "
+    what += f"{way.word}, and the sheet has: {has}. {why_coe(sheet)}"
     to_do = f"give an FMMU that isn't needed the usage {way.fmmu_usage} ({way.word}), or add one: byte 9 and L count it"
     raise Finding(7, "the FMMU usages", range(sheet.usages_at, sheet.usages_at + len(sheet.usages)) or [9], what, to_do)
 
@@ -92,8 +99,8 @@ def check_entry(sheet, way, wanted):
     if sheet.on_coe() and total > MOST_LENGTH:
         entry = sheet.usages.index(way.fmmu_usage)
         parts = [f"{size_of(pdos):,} of SM{manager.number}" for manager, pdos in wanted.items() if bits_of(pdos)]
-        what = f"FMMU{entry}: {total:,} bytes; an FMMU entry has room for {MOST_LENGTH:,}. They are {listing(parts)}; "
-        what += f"all {way.word} share one entry {why_coe(sheet)}"
+        what = f"FMMU{entry}: {total:,} bytes; an FMMU entry has room for {MOST_LENGTH:,}. They are {listing(parts)}: "
+        what += f"on the CoE path all {way.word} share one entry. {why_coe(sheet)}"
         to_do = f"take {many(total - MOST_LENGTH, 'byte')} or more out of the {way.word}"
         raise Finding(8, f"FMMU{entry}, the first with the usage {way.word}", [sheet.usages_at + entry], what, to_do)
 
@@ -115,13 +122,14 @@ def finding(data):
 def place(found, lines):
     """The bytes of a finding, and the line of the text where they begin."""
     first, last = found.at[0], found.at[-1]
-    words = f"byte {first}" if first == last else f"bytes {first} to {last}"
+    words = f"byte {first}" if first == last else f"bytes {first} {'and' if last == first + 1 else 'to'} {last}"
     line = f", line {lines[first]}" if first < len(lines) else ""
     return f"{found.about}: {words} of the sheet{line}"
 
 
 def part(title, text):
-    return textwrap.fill(text, 110, initial_indent=f"  {title:<8}", subsequent_indent=" " * 10, break_on_hyphens=False)
+    width = shutil.get_terminal_size((100, 24)).columns
+    return textwrap.fill(text, max(40, width - 1), initial_indent=f"  {title:<8}", subsequent_indent=" " * 10)
 
 
 def explanation(sheet, number):
@@ -130,9 +138,8 @@ def explanation(sheet, number):
     if found is None or found.number != number:
         own = f"the number would be {found.number}" if found else "nothing would be refused"
         return f"No words for this refusal: worked out beside the program, {own}. The program is proved, this is not.\n"
-    titled = {f"rule {number}": RULES[number], "where": place(found, sheet.lines), "what": found.what, "to do": found.to_do}
-    return "\n".join([
-        *(part(title, text) for title, text in titled.items()),
-        "  (Bytes, sync managers SM, FMMUs and PDOs count from 0. The words are not proved: they were worked out beside the",
-        f"  program, from document 01, and are shown since they come to the program's number, {number}.)\n",
-    ])
+    titled = {
+        f"rule {number}": RULES[number], "where": place(found, sheet.lines), "what": found.what, "to do": found.to_do,
+        "note": NOTE,
+    }
+    return "".join(part(title, text) + "\n" for title, text in titled.items())

@@ -19,7 +19,7 @@ class Sheet(NamedTuple):
 
 
 def named(path):
-    return "standard input" if path == "-" else shown(path)
+    return "standard input" if path == "-" else shown(path) or "a file without a name"
 
 
 def open_input(path):
@@ -75,12 +75,12 @@ def digits_of(line, place):
 
 def sheet_of(path):
     """Two digits are a byte, white space is free, # to the end of the line is a comment."""
-    data, lines = b"", []
+    data, lines = bytearray(), []
     for number, line in enumerate(text_of(path).split("\n"), 1):
         digits = digits_of(line, f"{named(path)}, line {number}")
         data += bytes.fromhex(digits)
         lines += [number] * (len(digits) // 2)
-    return Sheet(data, lines)
+    return Sheet(bytes(data), lines)
 
 
 def requests_of(path):

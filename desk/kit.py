@@ -10,6 +10,7 @@ from desk.talk import Trouble, shown
 
 ROOT = Path(__file__).resolve().parent.parent
 PARTS = ("src", "specs", "proofs")  # of a crate: what a proof is about
+VERBS = ("check", "ci", "prove", "must-fail", "dev", "staticlib", "goals", "mir")  # what `rt` does in target/
 
 
 def find_rt():
@@ -24,6 +25,19 @@ def identity(rt):
     if asked.returncode:
         raise Trouble(f"`rt version` failed with status {asked.returncode}")
     return asked.stdout
+
+
+def rt_runs():
+    """Whether somebody builds in this folder with `rt` itself, which takes no lock."""
+    for process in Path("/proc").glob("[0-9]*"):
+        try:
+            _, rt, verb = [*(process / "cmdline").read_text(errors="replace").split("\0"), "", "", ""][:3]
+            folder = Path(os.readlink(process / "cwd"))
+        except OSError:  # it has ended, or is another account's
+            continue
+        if rt.endswith("/rt") and verb in VERBS and ROOT in (folder, *folder.parents):
+            return True
+    return False
 
 
 def listed():

@@ -144,7 +144,7 @@ def draw_stray(drawing, y, way, lane, plan):
     end, middle = draw_manager(drawing, below, lane, COLOURS[way.word]), below + TOP + HIGH / 2
     drawing.line(end + 6, middle, end + 40, middle, stroke=RED, stroke_width=2, stroke_dasharray="4 3")
     drawing.cross(end + 48, middle, RED)
-    drawing.text(end + 60, middle + 4, "in the wrong place" if lane.channel in there else "not reached", 11, fill=RED)
+    drawing.text(end + 60, middle + 4, "misplaced" if lane.channel in there else "not reached", 11, fill=RED)
     return 2 * ROW
 
 

@@ -23,7 +23,7 @@ class Line:
 
     def renew(self, text):
         if watched():
-            self.width = (os.get_terminal_size(ERR).columns or 80) - 1
+            self.width = max(20, os.get_terminal_size(ERR).columns or 80) - 1
             whisper(f"\r{text[:self.width]:<{self.width}}")
 
     def clear(self):

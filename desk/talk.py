@@ -47,7 +47,7 @@ def watched():
 
 def demand_output():
     if OUT in CLOSED:
-        raise Trouble("standard output is closed, so the plan could not be shown")
+        raise Trouble("standard output is closed")
 
 
 def put(data):

@@ -134,6 +134,11 @@ def flaws(text):
         if box[0] < 0 or box[1] < 0 or box[2] > float(root.get("width")) or box[3] > float(root.get("height")):
             yield f"{texts[k].text} leaves the drawing"
         yield from (f"{texts[k].text} is over {texts[j].text}" for j in range(k) if over(box, boxes[j]))
+    for entry in [item for item in root.iter(f"{SVG}rect") if item.get("rx")]:
+        x, y, width, height = (float(entry.get(word)) for word in ("x", "y", "width", "height"))
+        room = x, y, x + width, y + height
+        crossing = [item.text for item, box in zip(texts, boxes) if over(box, room) and not x < box[0] < box[2] < x + width]
+        yield from (f"{text} crosses an entry's box" for text in crossing)
     if len(list(root.iter())) > 6000:
         yield "too many parts"
     if root.find(f"{SVG}rect").get("fill") != "#ffffff":
