@@ -1,5 +1,6 @@
 """The command line, and what --help says."""
 
+import os
 from pathlib import Path
 from typing import NamedTuple
 
@@ -63,11 +64,14 @@ def taken_apart(words):
 
 
 def picture_file(name):
-    """A name that is no drawing's is more likely a sheet in the wrong place, and would be overwritten."""
+    """Judged before anything is built. A name that is no drawing's is likely a sheet, and would be overwritten."""
     if not name.endswith(".svg"):
         raise Trouble(f"--picture draws into a file whose name ends in .svg, and {shown(name)} doesn't")
-    if not Path(name).parent.is_dir():
+    folder = Path(name).parent
+    if not folder.is_dir():
         raise Trouble(f"{shown(name)}: its folder isn't there")
+    if not os.access(name if os.path.exists(name) else folder, os.W_OK):
+        raise Trouble(f"{shown(name)}: can't be written")
     return name
 
 

@@ -3,7 +3,7 @@
 from typing import NamedTuple
 
 from desk import device, printed
-from desk.explain import INPUTS, OUTPUTS, bits_of, counted
+from desk.explain import INPUTS, OUTPUTS, bits_of, counted, size_of
 from desk.printed import Channel, Entry
 from desk.talk import Trouble
 
@@ -41,8 +41,10 @@ def lanes(plan, sheet, way):
     logical, _ = plan.segments[way.word]
     found = []
     for manager, pdos in counted(sheet, way).items():
-        channel = plan.channels[manager.number]
-        found.append(Lane(channel, bits_of(pdos), logical, serving(plan, way, channel, logical)))
+        channel, bits = plan.channels[manager.number], bits_of(pdos)
+        if size_of(pdos) != channel.size:  # what was printed holds
+            bits = 8 * channel.size
+        found.append(Lane(channel, bits, logical, serving(plan, way, channel, logical)))
         logical += channel.size
     return found
 

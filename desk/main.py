@@ -1,6 +1,7 @@
 """What ./plan does, from the command line to the exit status."""
 
 import re
+import shlex
 
 from desk import build, command, explain, feed, kit, picture, signals, talk
 from desk.lanes import warnings
@@ -15,7 +16,7 @@ def explained(wish, sheet, number):
     if wish.explain:
         put(explain.explanation(sheet, number).encode())
     elif talk.watched():
-        again = "the same with --explain" if wish.path == "-" else f"./plan --explain {shown(wish.path)}"
+        again = "the same with --explain" if wish.path == "-" else f"./plan --explain {shown(shlex.quote(wish.path))}"
         say(f"{again} says why")
     if wish.picture:
         say("a sheet that is refused has no picture: none was drawn")
@@ -70,7 +71,7 @@ def main(words):
         return talk.TROUBLE
     except signals.Interrupted as interrupted:
         say("interrupted")
-        signals.die(interrupted.args[0])
+        return signals.die(interrupted.args[0])
     except OSError as error:
         say(f"{shown(str(error.filename or 'the system'))}: {error.strerror}")
         return talk.TROUBLE

@@ -88,13 +88,9 @@ def connect(drawing, way, y, left, right, colour):
 
 
 def rounding(lane):
-    """How the bits become bytes; the sheet's bits are told only where they come to the size that was printed."""
+    """How the bits become bytes."""
     size, over = lane.channel.size, 8 * lane.channel.size - lane.bits
-    if size == 0:
-        return "0 bits: no bytes"
-    if not 0 <= over < 8:
-        return many(size, "byte")
-    return f"{many(lane.bits, 'bit')}: {many(size, 'byte')}, {f'{over} left over' if over else 'none left over'}"
+    return f"{many(lane.bits, 'bit')}: {many(size, 'byte')}, {over or 'none'} left over" if size else "0 bits: no bytes"
 
 
 def draw_manager(drawing, y, lane, colour):

@@ -67,4 +67,6 @@ def taken_apart(text):
             plan.entries.append(entry_of(entry))
         else:
             raise Trouble(f"line {number} of the plan is of a form that isn't known here")
+    if set(plan.segments) != {"inputs", "outputs"}:
+        raise Trouble("the plan that was printed lacks a segment")
     return plan

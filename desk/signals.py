@@ -44,6 +44,7 @@ def kept_back():
 
 
 def die(number):
-    """Ends the script as the signal would have, so that a shell sees it."""
+    """Ends the script as the signal would have, so that a shell sees it; answers a status in case it doesn't."""
     signal.signal(number, signal.SIG_DFL)
     os.kill(os.getpid(), number)
+    return 128 + number

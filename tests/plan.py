@@ -75,6 +75,7 @@ def command_line(fake):
         (("--", "-none.hex"), "-none.hex: No such file"),
     ):
         yield f"./plan {' '.join(words)[:40]!r}", line_of(fake.run(*words), phrase)
+    yield "--picture where nobody may write", line_of(fake.as_nobody("--picture", "a.svg", "b.hex"), "a.svg: can't be written")
     fake.write("-odd.hex", fake.sheet.read_bytes())
     yield "-- before a name that begins with -", same(fake.run("--", "-odd.hex").status, 0)
 
