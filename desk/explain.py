@@ -87,8 +87,8 @@ def check_usage(sheet, way, wanted):
         return
     manager, pdos = filled[0]
     has = ", ".join(f"FMMU{number} {device.FMMU_USAGES[usage]}" for number, usage in enumerate(sheet.usages)) or "none"
-    what = f"SM{manager.number}: {many(bits_of(pdos), 'bit')} of {way.word}; on the CoE path they need an FMMU with the usage "
-    what += f"{way.word}, and the sheet has: {has}. {why_coe(sheet)}"
+    what = f"SM{manager.number}: {many(bits_of(pdos), 'bit')} of {way.word}; on the CoE path they need an FMMU with the "
+    what += f"usage {way.word}, and the sheet has: {has}. {why_coe(sheet)}"
     to_do = f"give an FMMU that isn't needed the usage {way.fmmu_usage} ({way.word}), or add one: byte 9 and L count it"
     raise Finding(7, "the FMMU usages", range(sheet.usages_at, sheet.usages_at + len(sheet.usages)) or [9], what, to_do)
 

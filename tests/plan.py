@@ -7,6 +7,7 @@ Builds, waiting and interrupts are tried with a fake `rt` (tests/stub.py), and t
 built: ./plan --build.
 """
 
+import contextlib
 import os
 import pty
 import resource
@@ -24,6 +25,7 @@ import plan_sheets  # noqa: E402
 from build import SAMPLE  # noqa: E402
 from desk import build, feed, kit  # noqa: E402
 from samples import samples  # noqa: E402
+from stream import Request  # noqa: E402
 from stub import CRATES, PLANNED, Fake  # noqa: E402
 
 BAY = (ROOT / "samples" / "bay.hex").read_text()
@@ -55,6 +57,14 @@ def same(got, wanted):
     return "" if got == wanted else f"{got!r}, not {wanted!r}"
 
 
+@contextlib.contextmanager
+def read_only(path):
+    mode = path.stat().st_mode
+    path.chmod(0o555)
+    yield
+    path.chmod(mode)
+
+
 # ---- the command line
 
 
@@ -75,7 +85,9 @@ def command_line(fake):
         (("--", "-none.hex"), "-none.hex: No such file"),
     ):
         yield f"./plan {' '.join(words)[:40]!r}", line_of(fake.run(*words), phrase)
-    yield "--picture where nobody may write", line_of(fake.as_nobody("--picture", "a.svg", "b.hex"), "a.svg: can't be written")
+    with read_only(fake.folder):
+        ran = fake.as_nobody("--picture", "a.svg", "b.hex")
+    yield "--picture where nobody may write", line_of(ran, "a.svg: can't be written")
     fake.write("-odd.hex", fake.sheet.read_bytes())
     yield "-- before a name that begins with -", same(fake.run("--", "-odd.hex").status, 0)
 
@@ -190,7 +202,7 @@ def builds(fake):
     yield "the next takes under half a second of processor time", slower(began, 0.5)
     fake.forget()
     ran = fake.run(fake.sheet)
-    wanted = ["building lockerplan: 3 crates", "low is proved, 1 of 3, ", "high is proved, 2 of 3, ", " so far", "built after"]
+    wanted = ["building lockerplan: 3 crates", "low is proved, 1 of 3, ", "high is proved, 2 of 3, ", " so far", "after"]
     yield "progress in plain lines", same([phrase for phrase in wanted if phrase not in ran.err or "\r" in ran.err], [])
     fake.forget()
     shown = on_terminal(fake, fake.sheet)
@@ -221,12 +233,14 @@ def failed_builds(fake):
     (fake.kit / "bin/rt").rename(fake.kit / "bin/gone")
     yield "no rt on the PATH", line_of(fake.shell('PATH=/usr/bin:/bin "$PLAN" "$SHEET"'), "no `rt` on the PATH")
     (fake.kit / "bin/gone").rename(fake.kit / "bin/rt")
-    fake.project.chmod(0o755)
-    yield "target/ can't be made", line_of(fake.as_nobody(fake.sheet), "target/ can't be written")
+    with read_only(fake.project):
+        yield "target/ can't be made", line_of(fake.as_nobody(fake.sheet), "target/ can't be written")
     fake.run(fake.sheet)
-    yield "what another built is run without writing", same(fake.as_nobody(fake.sheet).status, 0)
-    fake.write("project/crates/low/src/lib.rt", "// changed again\n")
-    yield "target/ can't be written", line_of(fake.as_nobody(fake.sheet), "target/ can't be written")
+    place = fake.project / "target" / "plan"
+    with read_only(place), read_only(place / "lock"):
+        yield "what another built is run without writing", same(fake.as_nobody(fake.sheet).status, 0)
+        fake.write("project/crates/low/src/lib.rt", "// changed again\n")
+        yield "target/ can't be written", line_of(fake.as_nobody(fake.sheet), "target/ can't be written")
 
 
 def beside_rt(fake):
@@ -310,6 +324,21 @@ def real_runs():
     yield "both take under a second of processor time", slower(began, 1)
 
 
+def real_refusals():
+    """The probe plans many sheets in one run (its request L)."""
+    if not build.ready(kit.find_rt(), "probe"):
+        yield "damaged sheets, by the proved program: not tried, since the probe isn't built (./plan --build)", ""
+        return
+    sheets = list(plan_sheets.damaged())
+    asked = b"".join(Request("L", sheet=data).bytes() for data in sheets)
+    ran = subprocess.run([ROOT / "plan", "--probe", "-"], input=asked, capture_output=True)
+    first = [line.split() for line in ran.stdout.decode().splitlines() if line.startswith(("inputs", "refused"))]
+    numbers = [int(words[1]) if words[0] == "refused" else 0 for words in first]
+    wrong = [data.hex() for data, number in zip(sheets, numbers) if plan_sheets.explained(data) != number]
+    what = f"{len(sheets):,} damaged sheets have the proved program's number in words"
+    yield what, same((len(numbers), wrong[:2]), (len(sheets), []))
+
+
 def cases():
     fake = Fake()
     try:
@@ -319,6 +348,7 @@ def cases():
         fake.remove()
     yield from plan_sheets.cases()
     yield from real_runs()
+    yield from real_refusals()
 
 
 def main():
