@@ -60,7 +60,7 @@ def described(letter):
     """A character without showing what could do harm on a terminal."""
     if letter == "\ufffd":
         return "a byte that is no UTF-8"
-    return f"'{letter}'" if letter.isascii() and letter.isprintable() else f"the character U+{ord(letter):04X}"
+    return f"'{letter}'" if " " < letter <= "~" else f"the character U+{ord(letter):04X}"
 
 
 def digits_of(line, place):

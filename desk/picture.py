@@ -90,7 +90,8 @@ def connect(drawing, way, y, left, right, colour):
 def rounding(lane):
     """How the bits become bytes."""
     size, over = lane.channel.size, 8 * lane.channel.size - lane.bits
-    return f"{many(lane.bits, 'bit')}: {many(size, 'byte')}, {over or 'none'} left over" if size else "0 bits: no bytes"
+    left = many(over, "bit") if over else "none"
+    return f"{many(lane.bits, 'bit')}: {many(size, 'byte')}, {left} left over" if size else "0 bits: no bytes"
 
 
 def draw_manager(drawing, y, lane, colour):

@@ -4,7 +4,7 @@
     python3 tests/plan.py
 
 Builds, waiting and interrupts are tried with a fake `rt` (tests/stub.py), and the samples by the proved program where that is
-built: ./plan --build.
+built: ./plan --build. It needs Python 3.9, the script itself 3.6.
 """
 
 import contextlib
