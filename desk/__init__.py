@@ -1,0 +1,1 @@
+"""What ./plan runs: desk/README.md says which file does what."""

@@ -1,0 +1,145 @@
+"""A refusal in words: which rule, where in the sheet, with which numbers, and what to do.
+
+Worked out from document 01 beside the proved program, for areas of zeros, offset 0 and no table, as `lockerplan` has them; so
+of all numbers only 2 to 8 can occur. Nothing here is proved: the words are shown only where their number is the program's.
+"""
+
+import shutil
+import textwrap
+from typing import NamedTuple
+
+from desk import device
+from desk.device import Finding, many
+
+MOST_BITS = 65_528  # of a sync manager: 8,191 bytes
+MOST_LENGTH = 65_535  # of an FMMU entry, in bytes
+LISTED = 6  # PDOs or sync managers that are named one by one
+NOTE = (
+    "bytes, sync managers (SM), FMMUs and PDOs count from 0. These words are not proved: they were worked out beside the "
+    "proved program, from document 01, and are shown because they come to the program's number"
+)
+
+RULES = {
+    2: "the sheet's length doesn't fit",
+    3: "the sheet's version isn't 1",
+    4: "a field of the sheet breaks a rule",
+    5: "a control byte has a mode or a direction without a name",
+    6: "a sync manager has more bits than it has room for",
+    7: "there is data to map, and no FMMU for its direction",
+    8: "an FMMU entry would become too long",
+}
+
+
+class Way(NamedTuple):
+    """What a direction takes: the sync managers' usage, the FMMU usage and the EEPROM kind."""
+
+    word: str
+    usage: int
+    fmmu_usage: int
+    kind: int
+
+
+INPUTS, OUTPUTS = Way("inputs", 4, 2, 1), Way("outputs", 3, 1, 2)
+
+
+def counted(sheet, way):
+    """For each wanted sync manager, in rising number, the PDOs whose bits it has."""
+    kind = 0 if sheet.on_coe() else way.kind
+    wanted = [manager for manager in sheet.managers if manager.usage == way.usage]
+    return {m: [pdo for pdo in sheet.pdos if (pdo.kind, pdo.manager) == (kind, m.number)] for m in wanted}
+
+
+def bits_of(pdos):
+    return sum(pdo.bits for pdo in pdos)
+
+
+def size_of(pdos):
+    """Each sync manager is rounded up to bytes by itself."""
+    return (bits_of(pdos) + 7) // 8
+
+
+def listing(items):
+    """The parts of a sum, the first few of them one by one."""
+    more = [f"{len(items) - LISTED} more"] if len(items) > LISTED else []
+    return " + ".join([*items[:LISTED], *more])
+
+
+def why_coe(sheet):
+    reader = next(manager for manager in sheet.managers if manager.usage == 2)
+    mailbox = f"SM{reader.number} is a read mailbox of {many(sheet.send, 'byte')}"
+    return f"(The bay is on the CoE path, since flag bits 0 and 1 are set and {mailbox}.)"
+
+
+def check_bits(way, wanted):
+    for manager, pdos in wanted.items():
+        bits = bits_of(pdos)
+        if bits > MOST_BITS:
+            parts = [f"{pdo.bits:,} of PDO {pdo.number} (0x{pdo.index:04X}, byte {pdo.at})" for pdo in pdos]
+            what = f"SM{manager.number}: {bits:,} bits; a sync manager has room for {MOST_BITS:,}. They are {listing(parts)}"
+            to_do = f"take {many(bits - MOST_BITS, 'bit')} or more out"
+            to_do += f", or give a PDO to another sync manager for {way.word}" if len(pdos) > 1 else ""
+            raise Finding(6, f"SM{manager.number} ({way.word})", range(manager.at, manager.at + 5), what, to_do)
+
+
+def check_usage(sheet, way, wanted):
+    filled = [(manager, pdos) for manager, pdos in wanted.items() if bits_of(pdos)]
+    if not sheet.on_coe() or not filled or way.fmmu_usage in sheet.usages:
+        return
+    manager, pdos = filled[0]
+    has = ", ".join(f"FMMU{number} {device.FMMU_USAGES[usage]}" for number, usage in enumerate(sheet.usages)) or "none"
+    what = f"SM{manager.number}: {many(bits_of(pdos), 'bit')} of {way.word}; on the CoE path they need an FMMU with the "
+    what += f"usage {way.word}, and the sheet has: {has}. {why_coe(sheet)}"
+    to_do = f"give an FMMU that isn't needed the usage {way.fmmu_usage} ({way.word}), or add one: byte 9 and L count it"
+    raise Finding(7, "the FMMU usages", range(sheet.usages_at, sheet.usages_at + len(sheet.usages)) or [9], what, to_do)
+
+
+def check_entry(sheet, way, wanted):
+    """From areas of zeros only the CoE path lays several sync managers on one entry."""
+    total = sum(map(size_of, wanted.values()))
+    if sheet.on_coe() and total > MOST_LENGTH:
+        entry = sheet.usages.index(way.fmmu_usage)
+        parts = [f"{size_of(pdos):,} of SM{manager.number}" for manager, pdos in wanted.items() if bits_of(pdos)]
+        what = f"FMMU{entry}: {total:,} bytes; an FMMU entry has room for {MOST_LENGTH:,}. They are {listing(parts)}: "
+        what += f"on the CoE path all {way.word} share one entry. {why_coe(sheet)}"
+        to_do = f"take {many(total - MOST_LENGTH, 'byte')} or more out of the {way.word}"
+        raise Finding(8, f"FMMU{entry}, the first with the usage {way.word}", [sheet.usages_at + entry], what, to_do)
+
+
+def finding(data):
+    """The first rule broken, as `lockerplan` goes: mailboxes, inputs, outputs. None where none is."""
+    try:
+        sheet = device.read(data)
+        for way in (INPUTS, OUTPUTS):
+            wanted = counted(sheet, way)
+            check_bits(way, wanted)
+            check_usage(sheet, way, wanted)
+            check_entry(sheet, way, wanted)
+    except Finding as found:
+        return found
+    return None
+
+
+def place(found, lines):
+    """The bytes of a finding, and the line of the text where they begin."""
+    first, last = found.at[0], found.at[-1]
+    words = f"byte {first}" if first == last else f"bytes {first} {'and' if last == first + 1 else 'to'} {last}"
+    line = f", line {lines[first]}" if first < len(lines) else ""
+    return f"{found.about}: {words} of the sheet{line}"
+
+
+def part(title, text):
+    width = shutil.get_terminal_size((100, 24)).columns
+    return textwrap.fill(text, max(40, width - 1), initial_indent=f"  {title:<8}", subsequent_indent=" " * 10)
+
+
+def explanation(sheet, number):
+    """The text for a sheet that the program refused with this number."""
+    found = finding(sheet.data)
+    if found is None or found.number != number:
+        own = f"the number would be {found.number}" if found else "nothing would be refused"
+        return f"No words for this refusal: worked out beside the program, {own}. The program is proved, this is not.\n"
+    titled = {
+        f"rule {number}": RULES[number], "where": place(found, sheet.lines), "what": found.what, "to do": found.to_do,
+        "note": NOTE,
+    }
+    return "".join(part(title, text) + "\n" for title, text in titled.items())
