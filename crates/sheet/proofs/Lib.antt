@@ -1,5 +1,7 @@
 -- Laws that belong to no one function.
-pub mod Named
-pub mod Reading
+pub mod Fields
+pub mod Managers
+pub mod Kept
 pub mod Sound
+pub mod Reading
 pub mod Unique

@@ -1,83 +1,87 @@
--- From device data to the answer of reading: refusals in their order, and nothing beside one.
+-- What `check` says of a call that goes on after it, and of reading.
 -- Assumes nothing.
 use mathlib.Core.Path.{_≡_, refl, sym, _∙_, ap}
-use mathlib.Core.Bool.{Bool, true, false, cond}
-use mathlib.Core.List.{List, [], _∷_}
-use Prim.Native.Nat.{ℕ, _+_, _-_}
+use mathlib.Core.List.{List, _++_}
+use Prim.Native.Nat.{ℕ, _-_, _+_}
 use lib.ListN.{getD, replicate}
 use lib.Seq.{take-at}
 use Rattle.wire.specs.Field.{flagAt}
 use Rattle.wire.specs.Number.{bigAt}
-use Rattle.wire.specs.Outcome.{Outcome, refused, accepted, Refusal, when, decide}
-use Rattle.wire.proofs.Order.{passed, passed-answer, stopped}
+use Rattle.wire.specs.Outcome.{Outcome, refused, accepted, Refusal, first, decide}
+use Rattle.wire.specs.Lists.{listOf}
+use Rattle.wire.proofs.Order.{passed, stopped}
+use Rattle.wire.proofs.Lists.{length-listOf}
 use Rattle.sheet.specs.declared.SyncManager.{SyncManager}
 use Rattle.sheet.specs.declared.Device.{Device}
 use Rattle.sheet.specs.declared.SheetRead.{SheetRead}
-use Rattle.wire.specs.Lists.{listOf, someBelow}
+use Rattle.sheet.specs.declared.Answer.{Answer}
+use Rattle.sheet.specs.declared.Answer.the-variants.{Accepted, Refused}
 use Rattle.sheet.specs.Device.{Data, pdosFrom, dataOf}
-use Rattle.sheet.specs.Sheet.{managerCount, usageCount, pdoCount, managerPlace, usagesPlace, pdosPlace, managerAt, noManager, unnamedAt, someUnnamed, sheetRefusals, sheetData, readSheet, managersOf, deviceOf, answerOf, sheetReadOf, deviceAfter, ReadsAs}
-use Rattle.wire.proofs.Lists.{length-listOf}
+use Rattle.sheet.specs.Sheet.{managerCount, usageCount, pdoCount, managerPlace, usagesPlace, pdosPlace, managerAt, noManager, sheetRefusals, sheetData, readSheet, deviceOf, noDevice, answerOf, sheetReadOf, deviceAfter, ReadsAs}
+use Rattle.sheet.proofs.Kept.{Accepts, accepted-accepts}
 
-abbrev five : List ℕ → ℕ → List Refusal
-five s n = when 5 (someBelow (unnamedAt s) n) ∷ []
+-- what `check` promises of its answer
+abbrev pub Checked : List ℕ → Answer → Type 0
+Checked s a = answerOf {A = Unit {0}} a tt ≡ decide (sheetRefusals s) tt
 
--- the device's answer from that of its sync managers: 5, or its data
-pub device-refused : (s : List ℕ) (n number : ℕ) → n ≡ managerCount s → refused number ≡ decide (five s n) (managersOf s n) → sheetReadOf (refused number) ≡ sheetReadOf (decide (when 5 (someUnnamed s) ∷ []) (deviceOf s))
-unfolding someUnnamed
-device-refused s n number en e =
-    ap sheetReadOf (stopped (five s n) (managersOf s n) number (accepted (deviceOf s)) e ∙ ap (λ (m : ℕ). decide (five s m) (deviceOf s)) en)
+module _ (s : List ℕ) where
+  -- the case that a `match` found
+  pub checked-case : {a b : Answer} → Checked s a → a ≡ b → Checked s b
+  checked-case e p = sym (ap (λ (x : Answer). answerOf {A = Unit {0}} x tt) p) ∙ e
 
-pub managers-list : (s : List ℕ) (n : ℕ) (l : List SyncManager) → n ≡ managerCount s → accepted l ≡ decide (five s n) (managersOf s n) → l ≡ managersOf s (managerCount s)
-managers-list s n l en e = passed-answer (five s n) (managersOf s n) l e ∙ ap (managersOf s) en
+  -- accepted: the sheet keeps what it has to, and what follows decides
+  pub checked-accepts : Checked s Accepted → Accepts s
+  checked-accepts e = accepted-accepts s tt tt e
 
-pub device-read : (s : List ℕ) (n : ℕ) (l : List SyncManager) {d : Device} → n ≡ managerCount s → accepted l ≡ decide (five s n) (managersOf s n) → d ≡ deviceOf s → sheetReadOf (accepted d) ≡ sheetReadOf (decide (when 5 (someUnnamed s) ∷ []) (deviceOf s))
-unfolding someUnnamed
-device-read s n l en e p =
-    ap sheetReadOf (ap accepted p ∙ sym (passed (five s n) (managersOf s n) l (accepted (deviceOf s)) e) ∙ ap (λ (m : ℕ). decide (five s m) (deviceOf s)) en)
+  pub checked-on : {B : Type 0} (o : Outcome B) → Checked s Accepted → first (sheetRefusals s) o ≡ o
+  checked-on o e = passed (sheetRefusals s) tt tt o e
 
--- the record that code holds says what the sheet says
-pub device-data : (s : List ℕ) → dataOf (deviceOf s) s ≡ sheetData s
-unfolding dataOf deviceOf sheetData
-device-data s =
-    let n = managerCount s in
-    let f = usageCount s in
-    let m : ℕ → SyncManager = λ k. managerAt s (managerPlace k) in
-    let u : ℕ → ℕ = λ k. getD s (usagesPlace s + k) 0 in
-    λ i.
-    record {
-      mailbox = flagAt (getD s 3 0) 0;
-      coeProtocol = flagAt (getD s 3 0) 1;
-      complete = flagAt (getD s 3 0) 2;
-      receive = bigAt s 4 2;
-      send = bigAt s 6 2;
-      managers = take-at (listOf m n) (replicate (16 - n) noManager) n (length-listOf m n) i;
-      usages = take-at (listOf u f) (replicate (16 - f) 0) f (length-listOf u f) i;
-      pdos = pdosFrom s (pdoCount s) (pdosPlace s);
-    }
+  pub checked-more : {B : Type 0} (more : List Refusal) (x : B) → Checked s Accepted → decide (sheetRefusals s ++ more) x ≡ decide more x
+  checked-more more x e = checked-on (decide more x) e
 
--- refusals in their order, whatever would be accepted
-says-after : (s : List ℕ) (rs : List Refusal) (d : Device) (x : Data) → dataOf d s ≡ x → let r = sheetReadOf (decide rs d) in answerOf (r .answer) (dataOf (r .device) s) ≡ decide rs x
-says-after s [] d x e = ap accepted e
-says-after s (q ∷ rs) d x e = go (q .holds) (says-after s rs d x e)
-  where
-    go : (t : Bool) → (let r = sheetReadOf (decide rs d) in answerOf (r .answer) (dataOf (r .device) s) ≡ decide rs x) → let r = sheetReadOf (cond t (refused (q .number)) (decide rs d)) in answerOf (r .answer) (dataOf (r .device) s) ≡ cond t (refused (q .number)) (decide rs x)
-    go true h = refl
-    go false h = h
+  -- refused: so is whatever follows
+  pub checked-stop : {B : Type 0} {n : ℕ} (o : Outcome B) → Checked s (Refused n) → first (sheetRefusals s) o ≡ refused n
+  checked-stop {B} {n} o e = sym (stopped (sheetRefusals s) tt n o e)
 
-holds-after : (s : List ℕ) (rs : List Refusal) (x : Data) → sheetReadOf (decide rs (deviceOf s)) .device ≡ deviceAfter (decide rs x) s
-holds-after s [] x = refl
-holds-after s (q ∷ rs) x = go (q .holds) (holds-after s rs x)
-  where
-    go : (t : Bool) → sheetReadOf (decide rs (deviceOf s)) .device ≡ deviceAfter (decide rs x) s → sheetReadOf (cond t (refused (q .number)) (decide rs (deviceOf s))) .device ≡ deviceAfter (cond t (refused (q .number)) (decide rs x)) s
-    go true h = refl
-    go false h = h
+  pub checked-whole : {B : Type 0} {n : ℕ} (more : List Refusal) (x : B) → Checked s (Refused n) → decide (sheetRefusals s ++ more) x ≡ refused n
+  checked-whole more x e = checked-stop (decide more x) e
 
--- the promise, from an answer and the reason why it is the first
-pub reads-as : (s : List ℕ) (r : SheetRead) (o : Outcome Device) → decide (sheetRefusals s) (deviceOf s) ≡ o → r ≡ sheetReadOf o → ReadsAs s r
-unfolding readSheet
-reads-as s r o e p =
-    let q : r ≡ sheetReadOf (decide (sheetRefusals s) (deviceOf s)) = p ∙ ap sheetReadOf (sym e) in
-    record {
-      says = ap (λ (x : SheetRead). answerOf (x .answer) (dataOf (x .device) s)) q ∙ says-after s (sheetRefusals s) (deviceOf s) (sheetData s) (device-data s);
-      holds = ap (λ (x : SheetRead). x .device) q ∙ holds-after s (sheetRefusals s) (sheetData s);
-    }
+  -- the record that code holds says what the sheet says
+  pub device-data : dataOf (deviceOf s) s ≡ sheetData s
+  unfolding dataOf deviceOf sheetData
+  device-data =
+      let n = managerCount s in
+      let f = usageCount s in
+      let m : ℕ → SyncManager = λ k. managerAt s (managerPlace k) in
+      let u : ℕ → ℕ = λ k. getD s (usagesPlace s + k) 0 in
+      λ i.
+      record {
+        mailbox = flagAt (getD s 3 0) 0;
+        coeProtocol = flagAt (getD s 3 0) 1;
+        complete = flagAt (getD s 3 0) 2;
+        receive = bigAt s 4 2;
+        send = bigAt s 6 2;
+        managers = take-at (listOf m n) (replicate (16 - n) noManager) n (length-listOf m n) i;
+        usages = take-at (listOf u f) (replicate (16 - f) 0) f (length-listOf u f) i;
+        pdos = pdosFrom s (pdoCount s) (pdosPlace s);
+      }
+
+  -- reading, after a refusal
+  pub reads-refused : {n : ℕ} {r : SheetRead} → Checked s (Refused n) → r ≡ sheetReadOf (refused n) → ReadsAs s r
+  unfolding readSheet
+  reads-refused {n} {r} e p =
+      let o : readSheet s ≡ refused n = checked-stop (accepted (sheetData s)) e in
+      record {
+        says = ap (λ (x : SheetRead). answerOf (x .answer) (dataOf (x .device) s)) p ∙ sym o;
+        holds = ap (λ (x : SheetRead). x .device) p ∙ sym (ap (λ (x : Outcome Data). deviceAfter x s) o);
+      }
+
+  -- and of a sheet that keeps the rules
+  pub reads-device : {d : Device} → Checked s Accepted → d ≡ deviceOf s → ReadsAs s (record { answer = Accepted; device = d })
+  unfolding readSheet
+  reads-device {d} e p =
+      let o : readSheet s ≡ accepted (sheetData s) = checked-on (accepted (sheetData s)) e in
+      record {
+        says = ap (λ (x : Device). accepted (dataOf x s)) p ∙ ap accepted device-data ∙ sym o;
+        holds = p ∙ sym (ap (λ (x : Outcome Data). deviceAfter x s) o);
+      }
