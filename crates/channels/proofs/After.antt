@@ -1,85 +1,126 @@
--- The images after some sync managers are written: a turn of the loop, its end, the wish of a number, who gets which size said in two ways, and how many bytes they are.
+-- The area after some sync managers are written: one, one after the other, a turn of a loop over them; who gets which size said in two ways.
 -- Assumes nothing.
 use mathlib.Core.Path.{_≡_, refl, sym, _∙_, ap, subst}
 use mathlib.Core.Bool.{Bool, true, false, cond}
 use mathlib.Core.List.{List, [], _∷_}
 use mathlib.Core.Option.{Option, none, some}
-use Prim.Native.Nat.{ℕ, suc, _+_, _*_, _-_, _<_, _≤_, min}
+use Prim.Native.Nat.{ℕ, suc, _+_, _*_, _<_, _≤_}
 use native.Mathlib.Nat.{zero-add, add-zero, zero-lt-suc}
 use native.Mathlib.Numerals.{add-one}
 use native.Mathlib.Omega.{arith}
-use lib.ListN.{length, getD, set, take, drop, replicate, length-set, length-take, drop-of-length-le}
-use lib.Seq.{drop-cons, getD-take}
-use borrow.Author.Tests.{eq-eqb, ne-eqb}
-use Rattle.wire.proofs.Lists.{at-number}
-use Rattle.sheet.specs.Sheet.{noManager}
+use lib.ListN.{length, getD, set, drop, length-set}
+use lib.Seq.{set-out}
+use lib.Dec.{eqb, leb}
+use borrow.Author.Tests.{eq-eqb, ne-eqb, eqb-true, eqb-false, leb-true, leb-false}
 use Rattle.sheet.specs.declared.SyncManager.{SyncManager}
 use Rattle.sync_manager_channel.specs.Image.{imageOf}
 use Rattle.sync_manager_channel.proofs.RoundTrip.{image-length}
-use Rattle.area.specs.Area.{entriesOf, storedAt, flat}
-use Rattle.area.proofs.Entry.{length-stored, stored-entry}
-use Rattle.area.proofs.Flat.{Rows, rows-set, flat-chunks}
-use Rattle.channels.specs.declared.Wish.{Wish}
-use Rattle.channels.specs.Channels.{channelFor, written, channelsAfter, noWish, wishOf, wished, filled, channelArea}
-
--- a sync manager's image stored at its place, and one that isn't wished
-module _ (k : ℕ) (m : SyncManager) (w : Wish) (area : List ℕ) (long : length area ≡ 128) where
-  abbrev Writes : List ℕ → Type 0
-  Writes after = (length after ≡ 128) × (entriesOf 8 after ≡ written k m (wishOf w) (entriesOf 8 area))
-
-  pub channel-stored : (at : ℕ) (image after : List ℕ) → k < 16 → at ≡ k * 8 → w .on ≡ true → image ≡ imageOf (channelFor m (w .size .0)) → after ≡ storedAt at image area → Writes after
-  channel-stored at image after h q on is e =
-      let size = ap length is ∙ image-length (channelFor m (w .size .0)) in (
-        ap length e ∙ length-stored at image area ∙ long,
-        ap (entriesOf 8) e
-            ∙ stored-entry 8 16 area image k at long size h q (omega arith)
-            ∙ ap (set (entriesOf 8 area) k) is
-            ∙ ap (λ (b : Bool). written k m (cond b (some (w .size .0)) none) (entriesOf 8 area)) (sym on),
-      )
-
-  pub channel-left : w .on ≡ false → Writes area
-  channel-left off = (long, ap (λ (b : Bool). written k m (cond b (some (w .size .0)) none) (entriesOf 8 area)) (sym off))
-
--- the loop over the first n sync managers: a turn, and what stands in the end in the area of 128 bytes
-module _ (ws : List Wish) (managers : List SyncManager) (n k : ℕ) (entries : List (List ℕ)) where
-  pub after-turn :
-      (d : SyncManager) (next : List (List ℕ)) → k < n → k < length managers → next ≡ written k (getD managers k d) (wishOf (getD ws k noWish)) entries
-      → channelsAfter (wished ws) (k + 1) (drop (k + 1) (take n managers)) next ≡ channelsAfter (wished ws) k (drop k (take n managers)) entries
-  unfolding channelsAfter
-  after-turn d next hn hk g =
-      let m = getD managers k d in
-      let ms = take n managers in
-      let h : k < length ms = rw length-take (omega arith) in
-      let e : m ∷ drop (suc k) ms ≡ drop k ms = ap (λ (x : SyncManager). x ∷ drop (suc k) ms) (sym (getD-take n managers k d hn)) ∙ sym (drop-cons ms k d h) in
-      rw add-one (ap (channelsAfter (wished ws) (suc k) (drop (suc k) ms)) g ∙ ap (λ (l : List SyncManager). channelsAfter (wished ws) k l entries) e)
-
-  after-end : min n (length managers) ≤ k → channelsAfter (wished ws) k (drop k (take n managers)) entries ≡ entries
-  unfolding channelsAfter
-  after-end h = let e : length (take n managers) ≤ k = rw length-take h in rw (drop-of-length-le (take n managers) e) refl
+use Rattle.area.specs.Area.{chunks, entriesOf, storedAt, flat}
+use Rattle.area.proofs.Entry.{stored-entry, stored-not, length-stored}
+use Rattle.area.proofs.Flat.{Rows, rows-set, rows-chunks, length-chunks, chunks-flat, flat-chunks, flat-bytes}
+use Rattle.channels.specs.Channels.{channelFor, written, channelsAfter, channelArea, wantedSize}
 
 -- an area of 128 bytes is all entries; any other stays
-pub channel-area-whole : (ms : List SyncManager) (ws : List Wish) (area : List ℕ) → length area ≡ 128 → channelArea ms ws area ≡ flat (channelsAfter (wished ws) 0 ms (entriesOf 8 area))
-unfolding channelArea
-channel-area-whole ms ws area h = rw (eq-eqb (length area) 128 h) refl
+module _ (write : List (List ℕ) → List (List ℕ)) (area : List ℕ) where
+  pub area-whole : length area ≡ 128 → channelArea write area ≡ flat (write (entriesOf 8 area))
+  unfolding channelArea
+  area-whole h = rw (eq-eqb (length area) 128 h) refl
 
-pub channel-area-other : (ms : List SyncManager) (ws : List Wish) (area : List ℕ) → (length area ≡ 128 → ⊥) → area ≡ channelArea ms ws area
-unfolding channelArea
-channel-area-other ms ws area h = rw (ne-eqb (length area) 128 h) refl
+  pub area-other : (length area ≡ 128 → ⊥) → channelArea write area ≡ area
+  unfolding channelArea
+  area-other h = rw (ne-eqb (length area) 128 h) refl
 
-pub after-all :
-    (ws : List Wish) (managers : List SyncManager) (n k : ℕ) (room area : List ℕ) → min n (length managers) ≤ k → length room ≡ 128 → length area ≡ 128
-    → channelsAfter (wished ws) k (drop k (take n managers)) (entriesOf 8 area) ≡ channelsAfter (wished ws) 0 (take n managers) (entriesOf 8 room)
-    → area ≡ channelArea (take n managers) ws room
-after-all ws managers n k room area h whole long inv =
-    sym (flat-chunks 8 16 area long)
-    ∙ ap flat (sym (after-end ws managers n k (entriesOf 8 area) h) ∙ inv)
-    ∙ sym (channel-area-whole (take n managers) ws room whole)
+-- nothing is written
+pub area-same : (area : List ℕ) → channelArea (λ es. es) area ≡ area
+area-same area = go (eqb (length area) 128) refl
+  where
+    go : (b : Bool) → eqb (length area) 128 ≡ b → channelArea (λ es. es) area ≡ area
+    go true e = let long = eqb-true (length area) 128 e in area-whole (λ es. es) area long ∙ flat-chunks 8 16 area long
+    go false e = area-other (λ es. es) area (eqb-false (length area) 128 e)
 
--- what sixteen filled places hold at a number
-pub filled-at : (f : SyncManager → ℕ → Wish) (ms : List SyncManager) (j : ℕ) → j < length ms → getD (filled f ms) j noWish ≡ f (getD ms j noManager) j
-filled-at f ms j h =
-    let at : ℕ → Wish = λ k. f (getD ms k noManager) k in
-    at-number at (length ms) j (replicate (16 - length ms) noWish) noWish h
+-- sixteen entries of eight bytes, and writing that leaves as many
+abbrev pub Sixteen : List (List ℕ) → Type 0
+Sixteen es = (length es ≡ 16) × Rows 8 es
+
+pub record Keeps (write : List (List ℕ) → List (List ℕ)) : Type 0 where
+  pub kept : (es : List (List ℕ)) → Sixteen es → Sixteen (write es)
+
+-- one writing after another
+pub area-then : (g h : List (List ℕ) → List (List ℕ)) → Keeps h → (area : List ℕ) → channelArea g (channelArea h area) ≡ channelArea (λ es. g (h es)) area
+area-then g h k area = go (eqb (length area) 128) refl
+  where
+    go : (b : Bool) → eqb (length area) 128 ≡ b → channelArea g (channelArea h area) ≡ channelArea (λ es. g (h es)) area
+    go true e =
+        let long = eqb-true (length area) 128 e in
+        let es = entriesOf 8 area in
+        let sixteen = k .kept es (length-chunks 8 16 area, rows-chunks 8 16 area long) in
+        let back : entriesOf 8 (flat (h es)) ≡ h es = ap (λ (n : ℕ). chunks 8 n (flat (h es))) (sym (sixteen .0)) ∙ chunks-flat 8 (h es) (sixteen .1) in
+        ap (channelArea g) (area-whole h area long)
+        ∙ area-whole g (flat (h es)) (flat-bytes 8 16 (h es) sixteen)
+        ∙ ap (λ (x : List (List ℕ)). flat (g x)) back
+        ∙ sym (area-whole (λ x. g (h x)) area long)
+    go false e =
+        let short = eqb-false (length area) 128 e in
+        ap (channelArea g) (area-other h area short) ∙ area-other g area short ∙ sym (area-other (λ es. g (h es)) area short)
+
+-- a sync manager's image leaves as many; so does a list of them
+pub written-kept : (k : ℕ) (m : SyncManager) (o : Option ℕ) → Keeps (written k m o)
+written-kept k m none = record { kept = λ es h. h }
+written-kept k m (some size) =
+    let image = imageOf (channelFor m size) in
+    record { kept = λ es h. (length-set es k image ∙ h .0, rows-set 8 es k image (h .1) (image-length (channelFor m size))) }
+
+pub channels-kept : (f : ℕ → SyncManager → Option ℕ) (k : ℕ) (ms : List SyncManager) → Keeps (channelsAfter f k ms)
+unfolding channelsAfter
+channels-kept f k [] = record { kept = λ es h. h }
+channels-kept f k (m ∷ ms) = record { kept = λ es h. channels-kept f (suc k) ms .kept (written k m (f k m) es) (written-kept k m (f k m) .kept es h) }
+
+-- who has the usage gets the size
+module _ (usage size : ℕ) (m : SyncManager) where
+  pub size-wanted : m .«usage_type» ≡ usage → wantedSize usage size m ≡ some size
+  size-wanted e = rw (eq-eqb (m .«usage_type») usage e) refl
+
+  pub size-unwanted : (m .«usage_type» ≡ usage → ⊥) → wantedSize usage size m ≡ none
+  size-unwanted e = rw (ne-eqb (m .«usage_type») usage e) refl
+
+-- an image stored at its place; a number past the last has none
+pub image-stored :
+    (k : ℕ) (m : SyncManager) (size at : ℕ) (image area after : List ℕ) → length area ≡ 128 → at ≡ k * 8 → image ≡ imageOf (channelFor m size) → after ≡ storedAt at image area
+    → after ≡ channelArea (written k m (some size)) area
+image-stored k m size at image area after long q is e = go (leb 16 k) refl
+  where
+    eight : length image ≡ 8
+    eight = ap length is ∙ image-length (channelFor m size)
+
+    go : (b : Bool) → leb 16 k ≡ b → after ≡ channelArea (written k m (some size)) area
+    go true h =
+        let past = leb-true 16 k h in
+        let many = length-chunks 8 16 area in
+        e ∙ sym (stored-not at image area (let n = eight in omega arith))
+        ∙ sym (flat-chunks 8 16 area long)
+        ∙ ap flat (sym (set-out (entriesOf 8 area) k (imageOf (channelFor m size)) (omega arith)))
+        ∙ sym (area-whole (written k m (some size)) area long)
+    go false h =
+        let below = leb-false 16 k h in
+        sym (flat-chunks 8 16 after (ap length e ∙ length-stored at image area ∙ long))
+        ∙ ap flat (ap (entriesOf 8) e ∙ stored-entry 8 16 area image k at long eight below q (omega arith) ∙ ap (set (entriesOf 8 area) k) is)
+        ∙ sym (area-whole (written k m (some size)) area long)
+
+-- a turn of a loop over sync managers: the next is written, or gets no image; and the end
+module _ (f : ℕ → SyncManager → Option ℕ) (k : ℕ) (m : SyncManager) (ms rest : List SyncManager) (first : ms ≡ m ∷ rest) where
+  pub area-turn : (area : List ℕ) (o : Option ℕ) → f k m ≡ o → channelArea (channelsAfter f (k + 1) rest) (channelArea (written k m o) area) ≡ channelArea (channelsAfter f k ms) area
+  unfolding channelsAfter
+  area-turn area o e =
+      area-then (channelsAfter f (k + 1) rest) (written k m o) (written-kept k m o) area
+      ∙ rw add-one (ap (λ (x : Option ℕ). channelArea (λ es. channelsAfter f (suc k) rest (written k m x es)) area) (sym e))
+      ∙ ap (λ (l : List SyncManager). channelArea (channelsAfter f k l) area) (sym first)
+
+  pub area-skip : (area : List ℕ) → f k m ≡ none → channelArea (channelsAfter f (k + 1) rest) area ≡ channelArea (channelsAfter f k ms) area
+  area-skip area e = ap (channelArea (channelsAfter f (k + 1) rest)) (sym (area-same area)) ∙ area-turn area none e
+
+pub area-end : (f : ℕ → SyncManager → Option ℕ) (k : ℕ) (ms : List SyncManager) (area : List ℕ) → ms ≡ [] → channelArea (channelsAfter f k ms) area ≡ area
+unfolding channelsAfter
+area-end f k ms area e = ap (λ (l : List SyncManager). channelArea (channelsAfter f k l) area) e ∙ area-same area
 
 -- two ways to say who gets which size, which agree at each sync manager there is
 next : (k i : ℕ) → k + suc i ≡ suc k + i
@@ -95,16 +136,3 @@ module _ (d : SyncManager) (f g : ℕ → SyncManager → Option ℕ) where
 
   pub channels-same : (ms : List SyncManager) (area : List (List ℕ)) → ((i : ℕ) → i < length ms → f i (getD ms i d) ≡ g i (getD ms i d)) → channelsAfter f 0 ms area ≡ channelsAfter g 0 ms area
   channels-same ms area h = same-from 0 ms area (λ i l. subst (λ (j : ℕ). f j (getD ms i d) ≡ g j (getD ms i d)) (sym (zero-add i)) (h i l))
-
--- as many entries of as many bytes as before
-written-kept : (k : ℕ) (m : SyncManager) (o : Option ℕ) (n : ℕ) (area : List (List ℕ)) → (length area ≡ n) × Rows 8 area → (length (written k m o area) ≡ n) × Rows 8 (written k m o area)
-written-kept k m none n area h = h
-written-kept k m (some size) n area h =
-    let image = imageOf (channelFor m size) in
-    (length-set area k image ∙ h .0, rows-set 8 area k image (h .1) (image-length (channelFor m size)))
-
-module _ (f : ℕ → SyncManager → Option ℕ) where
-  pub channels-kept : (k : ℕ) (ms : List SyncManager) (n : ℕ) (area : List (List ℕ)) → (length area ≡ n) × Rows 8 area → (length (channelsAfter f k ms area) ≡ n) × Rows 8 (channelsAfter f k ms area)
-  unfolding channelsAfter
-  channels-kept k [] n area h = h
-  channels-kept k (m ∷ ms) n area h = channels-kept (suc k) ms n (written k m (f k m) area) (written-kept k m (f k m) n area h)

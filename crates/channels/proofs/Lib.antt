@@ -1,3 +1,3 @@
--- Laws of the sync managers' images, for the functions here and for those that plan them.
+-- Laws that belong to no one function.
 pub mod After
 pub mod Unique

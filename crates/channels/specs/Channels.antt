@@ -53,5 +53,8 @@ channelArea write area = cond (notChannels area) area (flat (write (entriesOf 8 
 abbrev pub sizeAt : List ByteLen → ℕ → ℕ
 sizeAt sizes k = getD sizes k (record { 0 = 0 }) .0
 
+abbrev pub wantedSize : ℕ → ℕ → SyncManager → Option ℕ
+wantedSize usage size m = cond (eqb (m .«usage_type») usage) (some size) none
+
 abbrev pub sizeBy : ℕ → List ByteLen → ℕ → SyncManager → Option ℕ
-sizeBy usage sizes k m = cond (eqb (m .«usage_type») usage) (some (sizeAt sizes k)) none
+sizeBy usage sizes k m = wantedSize usage (sizeAt sizes k) m

@@ -1,12 +1,9 @@
 // The images of the sync managers: `write_sm_config` of configuration.rs, over a whole area.
 ghost use mathlib.Core.Path.{_≡_};
-ghost use mathlib.Core.Bool.{cond};
-ghost use mathlib.Core.Option.{none, some};
-ghost use lib.ListN.{getD};
-ghost use lib.Dec.{eqb};
+ghost use mathlib.Core.Option.{some};
 ghost use Rattle.grammar.specs.Grammar.{managerPlace};
 ghost use Rattle.sheet.specs.Sheet.{managerAt, managersIn};
-ghost use Rattle.channels.specs.Channels.{channelFor, written, channelsAfter, channelArea, sizeBy};
+ghost use Rattle.channels.specs.Channels.{channelFor, written, channelsAfter, channelArea, wantedSize, sizeBy};
 use pdi::ByteLen;
 use sheet::SyncManager;
 use sync_manager_channel::BufferState;
@@ -53,16 +50,23 @@ pub fn write_channel(area: &mut [u8], sheet: &[u8], k: u8, size: ByteLen)
     area::store(&image, area, 8 * wire::wide(k));
 }
 
+// Writes it if the sync manager has the usage.
+fn write_wanted(area: &mut [u8], sheet: &[u8], k: u8, usage: u8, size: ByteLen)
+    ensures { λ r. ⌜ now (area .exit) ≡ channelArea (written k (managerAt (now (sheet .entry)) (managerPlace k)) (wantedSize usage (size .0) (managerAt (now (sheet .entry)) (managerPlace k)))) (now (area .entry)) ⌝ }
+{
+    if sheet::usage_of(sheet, k) == usage {
+        write_channel(area, sheet, k, size);
+    }
+}
+
 // Writes the images of the sync managers of a usage, each with its size, in rising number; all other bytes stay.
 pub fn write_channels(area: &mut [u8], sheet: &[u8], usage: u8, sizes: [ByteLen; 16])
     ensures { λ r. ⌜ now (area .exit) ≡ channelArea (channelsAfter (sizeBy usage sizes) 0 (managersIn (now (sheet .entry)))) (now (area .entry)) ⌝ }
 {
-    let n = grammar::manager_count(sheet);
+    let n = sheet::front_count(sheet);
     let mut k = 0;
-    while k < n && k < 16 {
-        if sheet::usage_of(sheet, k) == usage {
-            write_channel(area, sheet, k, sizes[wire::wide(k)]);
-        }
+    while k < n {
+        write_wanted(area, sheet, k, usage, sizes[wire::wide(k)]);
         k += 1;
     }
 }

@@ -16,6 +16,7 @@ use Rattle.sheet.proofs.coe_protocol.Reads as coe-protocol
 use Rattle.sheet.proofs.complete_access.Reads as complete-access
 use Rattle.sheet.proofs.receive_size.Reads as receive-size
 use Rattle.sheet.proofs.send_size.Reads as send-size
+use Rattle.sheet.proofs.front_count.Reads as front-count
 use Rattle.sheet.proofs.usage_of.Reads as usage-of
 use Rattle.sheet.proofs.start_of.Reads as start-of
 use Rattle.sheet.proofs.manager.Reads as manager
@@ -66,3 +67,6 @@ same-read s x y p q =
 
 pub read-pins : Pins read.Post (λ κs r s. r)
 read-pins κs a x y s t p q = same-read _ x y p q
+
+pub front-count-pins : Pins front-count.Post (λ κs r s. r)
+front-count-pins κs a x y s t p q = same p q

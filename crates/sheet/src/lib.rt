@@ -3,7 +3,7 @@ ghost use mathlib.Core.Path.{_≡_};
 ghost use mathlib.Core.Bool.{false};
 ghost use Rattle.wire.specs.Outcome as Outcome;
 ghost use Rattle.wire.specs.Outcome.{decide};
-ghost use Prim.Native.Nat.{_+_, _*_, _≤_};
+ghost use Prim.Native.Nat.{min, _+_, _*_, _≤_};
 ghost use lib.ListN.{length};
 ghost use Rattle.grammar.specs.Grammar.{managerCount, managerPlace, broken};
 ghost use Rattle.sheet.specs.Sheet.{managerAt, someUnnamed, sheetRefusals, sheetData, managersOf, usagesOf, deviceOf, answerOf, sheetReadOf, ReadsAs};
@@ -127,6 +127,17 @@ pub fn send_size(sheet: &[u8]) -> ByteLen
     ensures { λ r. ⌜ r .0 ≡ sheetData (now (sheet .entry)) .send ⌝ }
 {
     ByteLen(wire::be16(wire::byte_at(sheet, 6), wire::byte_at(sheet, 7)))
+}
+
+// How many sync managers a pass looks at: sixteen at most, and a sheet that keeps the rules has no more.
+pub fn front_count(sheet: &[u8]) -> u8
+    ensures { λ r. ⌜ r ≡ min (managerCount (now (sheet .entry))) 16 ⌝ }
+{
+    let n = grammar::manager_count(sheet);
+    if 16 < n {
+        return 16;
+    }
+    n
 }
 
 // The usage of the sync manager with a number.

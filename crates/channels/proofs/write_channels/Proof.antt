@@ -1,49 +1,43 @@
 -- `channels::write_channels`: the sync managers that are left, written into the area, give the area with all of them written.
 -- Assumes nothing.
-use mathlib.Core.Path.{_≡_, refl, _∙_}
-use Prim.Native.Nat.{_-_, _≤_, min}
+use mathlib.Core.Path.{_≡_, refl, sym, _∙_, ap}
+use Prim.Native.Nat.{_+_, _-_, _≤_}
 use native.Mathlib.Omega.{arith}
 use denote.Ref.{now}
-use lib.ListN.{length, take, drop}
-use Rattle.area.specs.Area.{entriesOf}
-use Rattle.channels.specs.Channels.{channelsAfter, wished}
-use Rattle.channels.proofs.After.{after-turn, after-all, channel-area-other}
+use lib.ListN.{length, drop}
+use Rattle.sheet.specs.Sheet.{managerAt, managerPlace, managersIn}
+use Rattle.sheet.proofs.Managers.{front-manager, front-over}
+use Rattle.channels.specs.Channels.{channelsAfter, channelArea, sizeAt, wantedSize, sizeBy}
+use Rattle.channels.proofs.After.{area-turn, area-end}
 use Rattle.channels.proofs.write_channels.Statement.{statement}
 use Rattle.channels.proofs.write_channels.Tie as tie
 
 abbrev Inv-loop : tie.InvT-loop
-Inv-loop area₀ n managers wishes count k₀ area k =
-    (k ≤ count)
-    × (count ≡ min n 16)
-    × (length area ≡ 128)
-    × (channelsAfter (wished wishes) k (drop k (take n managers)) (entriesOf 8 area) ≡ channelsAfter (wished wishes) 0 (take n managers) (entriesOf 8 area₀))
+Inv-loop area₀ sheet usage sizes n k₀ area k =
+    (k ≤ n)
+    × (length area ≡ length area₀)
+    × (channelArea (channelsAfter (sizeBy usage sizes) k (drop k (managersIn sheet))) area ≡ channelArea (channelsAfter (sizeBy usage sizes) 0 (managersIn sheet)) area₀)
 
 abbrev μ-loop : tie.MeasureT-loop
-μ-loop area₀ n managers wishes count k₀ area k = count - k
+μ-loop area₀ sheet usage sizes n k₀ area k = n - k
 
-returns : tie.Need-returns Inv-loop μ-loop
-returns c = let a = c .before .before .args in channel-area-other (take (a .n) (a .t2)) (a .t4) (now (a .area)) (λ e. omega arith)
-
-least-requires : tie.Need-least-requires Inv-loop μ-loop
-least-requires c κs = tt
+front-count-requires : tie.Need-front-count-requires Inv-loop μ-loop
+front-count-requires c κs = tt
 
 loop-holds : tie.Need-loop-holds Inv-loop μ-loop
-loop-holds c = (omega arith, omega arith, omega arith, refl)
+loop-holds c = (omega arith, refl, refl)
 
-mul-write-channel : tie.Need-mul-write-channel Inv-loop μ-loop
-mul-write-channel c = omega arith
+wide-requires : tie.Need-wide-requires Inv-loop μ-loop
+wide-requires c κs = tt
 
-array-copy-out-write-channel : tie.Need-array-copy-out-write-channel Inv-loop μ-loop
-array-copy-out-write-channel c = omega arith
+mul-write-wanted : tie.Need-mul-write-wanted Inv-loop μ-loop
+mul-write-wanted c = omega arith
 
-mul-write-channel-2 : tie.Need-mul-write-channel-2 Inv-loop μ-loop
-mul-write-channel-2 c = omega arith
+array-copy-out-write-wanted : tie.Need-array-copy-out-write-wanted Inv-loop μ-loop
+array-copy-out-write-wanted c = omega arith
 
-array-copy-out-write-channel-2 : tie.Need-array-copy-out-write-channel-2 Inv-loop μ-loop
-array-copy-out-write-channel-2 c = omega arith
-
-write-channel-requires : tie.Need-write-channel-requires Inv-loop μ-loop
-write-channel-requires c κs = let l = c .before .before .before .before .loop in (l .inv .2, omega arith)
+write-wanted-requires : tie.Need-write-wanted-requires Inv-loop μ-loop
+write-wanted-requires c κs = tt
 
 add-k : tie.Need-add-k Inv-loop μ-loop
 add-k c = omega arith
@@ -53,23 +47,32 @@ loop-less c = omega arith
 
 loop-again : tie.Need-loop-again Inv-loop μ-loop
 loop-again c =
-    let w = c .before .before .write-channel .ensures in
+    let w = c .before .before .write-wanted .ensures in
     let l = c .before .before .before .before .before .before .before .loop in
-    let s = c .before .before .before .before .before .before .before .before .before .before .before in
-    let a = s .args in
-    let many = s .good .1 .0 .1 .0 .1 in
-    (omega arith, omega arith, w .0, after-turn (a .t4) (a .t2) (a .n) (l .k) (entriesOf 8 (l .area)) _ _ (omega arith) (omega arith) (w .1) ∙ l .inv .3)
+    let n = c .before .before .before .before .before .before .before .before .front-count .ensures in
+    let a = c .before .before .before .before .before .before .before .before .before .before .before .args in
+    let s = now (a .sheet) in
+    let m = managerAt s (managerPlace (l .k)) in
+    let ms = managersIn s in
+    let f = sizeBy (a .usage) (a .t4) in
+    let q = c .before .before .before .before .wide .ensures .0 in
+    let here : f (l .k) m ≡ wantedSize (a .usage) (sizeAt (a .t4) _) m = ap (λ j. wantedSize (a .usage) (sizeAt (a .t4) j) m) (sym q) in (
+      omega arith,
+      omega arith,
+      ap (channelArea (channelsAfter f (l .k + 1) (drop (l .k + 1) ms))) w
+          ∙ area-turn f (l .k) m (drop (l .k) ms) (drop (l .k + 1) ms) (front-manager s (l .k) (omega arith) (omega arith)) (l .area) _ here
+          ∙ l .inv .2,
+    )
 
 same-length : tie.Need-same-length Inv-loop μ-loop
 same-length c = omega arith
 
-returns-2 : tie.Need-returns-2 Inv-loop μ-loop
-returns-2 c =
+returns : tie.Need-returns Inv-loop μ-loop
+returns c =
     let l = c .before .loop in
-    let s = c .before .before .before .before .before in
-    let a = s .args in
-    let many = s .good .1 .0 .1 .0 .1 in
-    after-all (a .t4) (a .t2) (a .n) (l .k) (now (a .area)) (l .area) (omega arith) (omega arith) (l .inv .2) (l .inv .3)
+    let n = c .before .before .front-count .ensures in
+    let a = c .before .before .before .before .before .args in
+    sym (area-end (sizeBy (a .usage) (a .t4)) (l .k) (drop (l .k) (managersIn (now (a .sheet)))) (l .area) (front-over (now (a .sheet)) (l .k) (omega arith))) ∙ l .inv .2
 
 pub write-channels-spec : {M : Type 1} → statement M
 write-channels-spec =
@@ -77,16 +80,14 @@ write-channels-spec =
     (tie.spec
     Inv-loop
     μ-loop
-    returns
-    least-requires
+    front-count-requires
     loop-holds
-    mul-write-channel
-    array-copy-out-write-channel
-    mul-write-channel-2
-    array-copy-out-write-channel-2
-    write-channel-requires
+    wide-requires
+    mul-write-wanted
+    array-copy-out-write-wanted
+    write-wanted-requires
     add-k
     loop-less
     loop-again
     same-length
-    returns-2)
+    returns)
