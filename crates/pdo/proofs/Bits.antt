@@ -1,32 +1,17 @@
--- The exact bits: sixteen of them by number, and their bound.
+-- The exact bits of a sync manager: their bound, and a table's multipliers.
 -- Assumes nothing.
-use mathlib.Core.Path.{_≡_, refl, ap}
+use mathlib.Core.Path.{_≡_, refl}
 use mathlib.Core.Bool.{Bool, true, false, cond, _&&_}
 use mathlib.Core.List.{List, [], _∷_}
 use Prim.Native.Nat.{ℕ, _+_, _*_, _≤_, _<_}
 use native.Mathlib.Omega.{arith}
-use lib.ListN.{length, getD, length-map}
+use lib.ListN.{length, length-map}
 use lib.Dec.{eqb}
-use Rattle.pdi.specs.declared.BitLen.{BitLen}
 use Rattle.wire.specs.Lists.{Each, sum}
 use Rattle.sheet.specs.Device.{Pdo}
-use Rattle.wire.proofs.Lists.{length-listOf, getD-listOf}
 use Rattle.pdo.specs.declared.Oversampling.{Oversampling}
-use Rattle.pdo.specs.Bits.{multiplierOf, multipliersOf, firstOf, othersOf, bitsOf, askedFor, sumsOf}
+use Rattle.pdo.specs.Bits.{multiplierOf, multipliersOf, firstOf, othersOf, bitsOf}
 use Rattle.pdo.proofs.Records.{product-bounded}
-
-abbrev pub noBits : BitLen
-noBits = record { 0 = 0 }
-
--- sixteen of them
-pub sixteen : (kind : ℕ) (asked : List Bool) (ps : List Pdo) (ws : List ℕ) → length (sumsOf kind asked ps ws) ≡ 16
-unfolding sumsOf
-sixteen kind asked ps ws = length-listOf (λ k. record { 0 = cond (askedFor asked k) (bitsOf kind k ps ws) 0 }) 16
-
--- what the sums hold for sync manager k
-pub tally-at : (kind : ℕ) (asked : List Bool) (k : ℕ) (ps : List Pdo) (ws : List ℕ) → k < 16 → getD (sumsOf kind asked ps ws) k noBits .0 ≡ cond (askedFor asked k) (bitsOf kind k ps ws) 0
-unfolding sumsOf
-tally-at kind asked k ps ws h = ap (λ (b : BitLen). b .0) (getD-listOf (λ n. record { 0 = cond (askedFor asked n) (bitsOf kind n ps ws) 0 }) 16 k noBits h)
 
 -- what counts or doesn't
 pub at-most : (t : Bool) (x : ℕ) → cond t x 0 ≤ x

@@ -2,7 +2,6 @@
 pub mod Part
 pub mod Records
 pub mod Some
-pub mod Turns
 pub mod Bits
 pub mod Sums
 pub mod Unique

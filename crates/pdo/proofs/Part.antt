@@ -6,7 +6,7 @@ use mathlib.Core.List.{List, [], _∷_, _++_}
 use Prim.Native.Nat.{ℕ, zero, suc, _+_, _≤_, _<_}
 use native.Mathlib.Numerals.{add-one}
 use native.Mathlib.Omega.{arith}
-use lib.ListN.{length, getD, take, drop, length-drop, drop-of-length-le, List·getD-eq-default}
+use lib.ListN.{length, getD, take, drop, drop-of-length-le, List·getD-eq-default}
 use lib.Seq.{take-suc, take-all, drop-cons, getD-drop}
 use lib.Dec.{ltb}
 use borrow.Author.Tests.{ltb-true, ltb-false}
@@ -46,12 +46,3 @@ sum-upto l from (suc m) =
 -- m of them from a place on by number, r being the sum of a part n long: it has all of them
 pub sum-part : (l : List ℕ) (from m n r : ℕ) → r ≡ sum (take n (drop from l)) → n ≡ m → r ≡ sum (listOf (λ k. getD l (from + k) 0) m)
 sum-part l from m n r e h = e ∙ ap (λ (x : ℕ). sum (take x (drop from l))) h ∙ sym (sum-upto l from m)
-
--- or it has all that are left
-pub sum-rest :
-    (l : List ℕ) (from m n r : ℕ) → r ≡ sum (take n (drop from l)) → length l ≤ from + n → length l ≤ from + m → r ≡ sum (listOf (λ k. getD l (from + k) 0) m)
-sum-rest l from m n r e h g =
-    let d = length-drop from l in
-    let a = take-all n (drop from l) (omega arith) in
-    let b = take-all m (drop from l) (omega arith) in
-    e ∙ ap sum (a ∙ sym b) ∙ sym (sum-upto l from m)

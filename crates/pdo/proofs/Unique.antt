@@ -3,13 +3,9 @@
 use Rattle.wire.proofs.Pins.{Pins, same}
 use Rattle.pdo.proofs.PdoDirection.filter_terms.Reads as filter-terms
 use Rattle.pdo.proofs.coe_on.Reads as coe-on
-use Rattle.pdo.proofs.tally.Reads as tally
 
 pub filter-terms-pins : Pins filter-terms.Post (λ κs r s. r)
 filter-terms-pins κs a x y s t p q = same p q
 
 pub coe-on-pins : Pins coe-on.Post (λ κs r s. r)
 coe-on-pins κs a x y s t p q = same p q
-
-pub tally-pins : Pins tally.Post (λ κs r s. r)
-tally-pins κs a x y s t p q = same p q

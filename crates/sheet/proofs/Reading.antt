@@ -1,8 +1,8 @@
 -- What `check` says of a call that goes on after it, and of reading.
 -- Assumes nothing.
-use mathlib.Core.Path.{_≡_, refl, sym, _∙_, ap}
+use mathlib.Core.Path.{_≡_, sym, _∙_, ap}
 use mathlib.Core.List.{List, _++_}
-use Prim.Native.Nat.{ℕ, _-_, _+_}
+use Prim.Native.Nat.{ℕ, _+_, _-_}
 use lib.ListN.{getD, replicate}
 use lib.Seq.{take-at}
 use Rattle.wire.specs.Field.{flagAt}
@@ -17,7 +17,8 @@ use Rattle.sheet.specs.declared.SheetRead.{SheetRead}
 use Rattle.sheet.specs.declared.Answer.{Answer}
 use Rattle.sheet.specs.declared.Answer.the-variants.{Accepted, Refused}
 use Rattle.sheet.specs.Device.{Data, pdosFrom, dataOf}
-use Rattle.sheet.specs.Sheet.{managerCount, usageCount, pdoCount, managerPlace, usagesPlace, pdosPlace, managerAt, noManager, sheetRefusals, sheetData, readSheet, deviceOf, noDevice, answerOf, sheetReadOf, deviceAfter, ReadsAs}
+use Rattle.sheet.specs.Sheet.{managerCount, usageCount, pdoCount, managerPlace, usagesPlace, pdosPlace, managerAt, noManager}
+use Rattle.sheet.specs.Sheet.{sheetRefusals, sheetData, readSheet, deviceOf, answerOf, sheetReadOf, deviceAfter, ReadsAs}
 use Rattle.sheet.proofs.Kept.{Accepts, accepted-accepts}
 
 -- what `check` promises of its answer
