@@ -33,9 +33,9 @@ def without(pattern, text):
 
 
 # of a path: up to the braces, what is in them, or the module's other name
-ANTT_USE = re.compile(r"^(?P<pub>(?:unfoldable )?pub )?use (?P<path>[^{;\s]+?)(?:\.\{(?P<names>[^}]*)\}| as (?P<other>\S+))?$", re.M)
-GHOST_USE = re.compile(ANTT_USE.pattern.replace("use ", "ghost use ").replace("$", ";$"), re.M)
-RUST_USE = re.compile(r"^(?P<pub>pub )?use (?P<path>[\w:]+?)(?:::\{(?P<names>[^}]*)\}| as (?P<other>\w+))?;$", re.M)
+ANTT_USE = re.compile(r"^(?P<pub>(?:unfoldable )?pub )?use (?P<path>[^{;\s]+?)(?:\.\{(?P<names>[^}]*)\}| as (?P<other>\S+))? *$", re.M)
+GHOST_USE = re.compile(ANTT_USE.pattern.replace("use ", "ghost use ").replace(" *$", "; *$"), re.M)
+RUST_USE = re.compile(r"^(?P<pub>pub )?use (?P<path>[\w:]+?)(?:::\{(?P<names>[^}]*)\}| as (?P<other>\w+))?; *$", re.M)
 
 
 def brought_by(found):
@@ -94,25 +94,33 @@ def written(name):
             yield from ({"_" + part}, {part + "_"})
 
 
-def unused_antt(names, text, paths=()):
+def unused_antt(names, text, paths):
     alone, heads = words(text)
-    heads |= set(paths)
+    heads |= paths
     for brought in names:
         name = plain(brought.name)
-        if name not in heads if brought.module else not any(way <= alone for way in written(name)):
+        used = name in heads if brought.module else any(way <= alone for way in written(name))
+        if not used:
             yield brought
+
+
+def all_read(text):
+    """A `use` line of another form would be passed over unseen."""
+    if left := re.search(r"^(?:\w+ )*use \S.*", text, re.M):
+        sys.exit(f"a line that isn't understood: {left[0]}")
 
 
 def unused_in_antt(text):
     text = without(r"\{-.*?-\}|(?:^|(?<=\s))--[^\n]*", text)
     names, text, paths = taken(ANTT_USE, text)
+    all_read(text)
     yield from unused_antt(names, text, paths)
 
 
 def clauses(text):
     """A source's contracts, and the source without them."""
     said = ""
-    for found in re.finditer(r"^\s*(?:requires|ensures) \{", text, re.M):
+    for found in re.finditer(r"^\s*(?:ghost|requires|ensures) \{", text, re.M):
         end, depth = found.end(), 1
         while depth:
             depth += {"{": 1, "}": -1}.get(text[end], 0)
@@ -126,6 +134,7 @@ def unused_in_rust(text):
     text = without(r"//[^\n]*", text)
     ghosts, text, paths = taken(GHOST_USE, text)
     names, text, _ = taken(RUST_USE, text)
+    all_read(text)
     said, text = clauses(text)
     yield from unused_antt(ghosts, said, paths)
     code = set(re.findall(r"\w+", text))
