@@ -5,7 +5,8 @@
     python3 tests/bad.py --model    without the program, which has to be built
 
 A bad request ends the run, so crates/probe/stdin holds only one of them. Here each stands behind a good one, which is
-answered, and before another, which isn't. The limits are read from the page: at each the probe answers, one past it not.
+answered, and before another, which isn't. The limits are read from the page: at each the probe answers, one past it it
+doesn't.
 """
 
 import io

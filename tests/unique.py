@@ -1,11 +1,12 @@
 #!/usr/bin/env python3
 """Holds each public function of the libraries to its uniqueness instance: `python3 tests/unique.py`.
 
-A public function is a `pub fn` of crates/NAME/src, free or in an `impl`; what a crate passes on counts where it is defined.
-Its instance is a declaration of the crate's proofs/Unique.antt of the type `Pins CONTRACT LOOK`. The contract is the one
-generated for the function (`use ..FUNCTION.Reads as f`, `f.Post`); of a function that is walked it is an `abbrev` of which a
-`States` says that it is what the source states. The look has to see the answer and each place that is lent.
-Prints what is missing or wrong, and fails where anything is. That an instance holds is for the check to say.
+A public function is a `pub fn` of crates/NAME/src, free or in an `impl`; what a crate passes on counts where it is
+defined. Its instance is a declaration of the crate's proofs/Unique.antt of the type `Pins CONTRACT LOOK`. The contract
+is the one generated for the function (`use ..FUNCTION.Reads as f`, `f.Post`); of a function that is walked it is an
+`abbrev` of which a `States` says that it is what the source states. The look has to see the answer and each place that
+is lent to be written. Prints what is missing or wrong, and fails where anything is. That an instance holds is for the
+check to say.
 """
 
 import re
@@ -21,7 +22,7 @@ class Function(NamedTuple):
     file: str
     public: bool
     answers: bool
-    lent: int  # how many places are lent to it
+    lent: int  # how many places are lent to it to be written
 
 
 def crates():
@@ -40,7 +41,10 @@ def close(text, at):
     raise SystemExit(f"no closing parenthesis: {text[at:at + 60]}")
 
 
-FUNCTION = re.compile(r"^(?:impl\b[^{]*?(?P<type>\w+) \{|(?P<end>\})|\s*(?P<pub>pub )?(?:\w+ )*fn (?P<name>\w+)[^(]*)", re.M)
+# the head of an `impl`, the end of one, or the head of a function up to its parameters
+FUNCTION = re.compile(
+    r"^(?:impl\b[^{]*?(?P<type>\w+) \{|\}|\s*(?P<pub>pub )?(?:\w+ )*fn (?P<name>\w+)[^(]*)", re.M
+)
 
 
 def functions_in(text, module, file):
@@ -107,7 +111,7 @@ class Unique:
         return module.removeprefix(self.root).removesuffix(ending)
 
     def instances(self):
-        """Each instance: its name, the function's path, whether the look sees the answer, how many lent places it sees."""
+        """Each instance: its name, the function's path, whether the look sees the answer, how many places it sees."""
         for name, contract, result, places, look in self.pins:
             seen = set(re.findall(rf"now \({re.escape(places)}([ .0-9]*)\)", look))
             yield name, self.function(contract), result in re.split(r"[\s()]+", look), len(seen)
@@ -134,8 +138,6 @@ def wrong_in(crate, public):
         if path not in named:
             yield f"{function.file}: {crate}'s {path} has no instance in {unique.file}"
     yield from wrong_instances(unique, public)
-    if public and not {"mod Unique", "pub mod Unique"} & set(statements(ROOT / "crates" / crate / "proofs" / "Lib.antt")):
-        yield f"crates/{crate}/proofs/Lib.antt doesn't declare Unique"
 
 
 def main():

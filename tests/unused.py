@@ -1,10 +1,10 @@
 #!/usr/bin/env python3
 """Lists the names that a file brings in and doesn't use: `python3 tests/unused.py`.
 
-Looks at each .antt and .rt file of crates/ and prints file, line and name; what is passed on (`pub use`) is left out. Fails
-where there is any. An operator `_+_` is used as `+`, `_+_`, `_+` or `+_`; a module that is brought in under a name is used
-before a dot; a field or member right behind a dot, a record's field that is set and an argument given by its name use none.
-A name that only a bound variable shares isn't found.
+Looks at each .antt and .rt file of crates/ and prints file, line and name; what is passed on (`pub use`) is left out.
+Fails where there is any. An operator `_+_` is used as `+`, `_+_`, `_+` or `+_`; a module that is brought in under a
+name is used before a dot; a field or member right behind a dot, a record's field that is set and an argument given by
+its name use none. A name that only a bound variable shares isn't found.
 """
 
 import re
@@ -33,7 +33,9 @@ def without(pattern, text):
 
 
 # of a path: up to the braces, what is in them, or the module's other name
-ANTT_USE = re.compile(r"^(?P<pub>(?:unfoldable )?pub )?use (?P<path>[^{;\s]+?)(?:\.\{(?P<names>[^}]*)\}| as (?P<other>\S+))? *$", re.M)
+ANTT_USE = re.compile(
+    r"^(?P<pub>(?:unfoldable )?pub )?use (?P<path>[^{;\s]+?)(?:\.\{(?P<names>[^}]*)\}| as (?P<other>\S+))? *$", re.M
+)
 GHOST_USE = re.compile(ANTT_USE.pattern.replace("use ", "ghost use ").replace(" *$", "; *$"), re.M)
 RUST_USE = re.compile(r"^(?P<pub>pub )?use (?P<path>[\w:]+?)(?:::\{(?P<names>[^}]*)\}| as (?P<other>\w+))?; *$", re.M)
 
