@@ -1,61 +1,188 @@
 #!/usr/bin/env python3
-"""Runs `probe` on bad requests of each kind and compares with the model: `python3 tests/bad.py`.
+"""Holds the model and the program `probe` to what docs/PROBE.md says of bad requests, limits, repetitions and refusals.
+
+    python3 tests/bad.py            the page's numbers, the model and the program
+    python3 tests/bad.py --model    without the program, which has to be built
 
 A bad request ends the run, so crates/probe/stdin holds only one of them. Here each stands behind a good one, which is
-answered, and before another, which isn't.
+answered, and before another, which isn't. The limits are read from the page: at each the probe answers, one past it it
+doesn't.
 """
 
 import io
+import re
 import subprocess
 import sys
+from collections import Counter
 from pathlib import Path
 
 import model
-from build import SAMPLE
-from stream import CHANNEL_RECORD, FMMU_RECORD, Request
+from build import SAMPLE, area, coe, entry, on_coe
+from stream import BadRequest, Request, requests
 
-PLAN = Path(__file__).resolve().parent.parent / "plan"
-GOOD = Request("r", c=17).bytes()
-FMMU_BYTES, CHANNEL_BYTES = sum(FMMU_RECORD), sum(CHANNEL_RECORD)
+ROOT = Path(__file__).resolve().parent.parent
+PAGE = (ROOT / "docs" / "PROBE.md").read_text()
+LAST = 4_294_967_295
+GOOD, ANSWER = Request("r", c=17).bytes(), ["3"]  # 17 bits are 3 bytes
+BAD = [*ANSWER, "bad request"]
+
+
+def number(pattern):
+    """The one number that the page gives at a place."""
+    found = re.findall(pattern, PAGE, re.M)
+    if len(found) != 1:
+        sys.exit(f"docs/PROBE.md says {len(found)} times: {pattern}")
+    return int(found[0].replace(",", ""))
+
+
+def most(at):
+    """The limit that the head's table states for the number at a place."""
+    return number(rf"^\| {at}-\d+ \|.* at most ([\d,]+)")
+
+
+ROOM, SHEET, TABLE, FMMUS, CHANNELS = (most(at) for at in (2, 20, 22, 24, 26))
+FMMU_RECORD = number(r"^An FMMU record is (\d+) bytes")
+CHANNEL_RECORD = number(r"^A sync manager record is (\d+) bytes")
+
+
+def between(name, request, *lines):
+    """A request that is answered, between two others."""
+    return name, GOOD + request.bytes() + GOOD, [*ANSWER, *lines, *ANSWER]
+
+
+def refused(name, stream):
+    """A stream behind a good request, whose first request is bad."""
+    return name, GOOD + stream, BAD
+
+
+def cut_short():
+    for size in (1, 27):
+        yield refused(f"a head of {size} bytes", GOOD[:size])
+    whole = Request("p", sheet=SAMPLE, table=[(1, 2)], fmmus=bytes(256), channels=bytes(128)).bytes()
+    for missing in (1, 129, 385, 388, 445):
+        yield refused(f"{missing} bytes missing", whole[:-missing])
+    yield refused("the longest request, one byte missing", longest("R").bytes()[:-1])
+    yield "no request", b"", []
+
+
+def longest(letter):
+    parts = {"sheet": bytes(SHEET), "table": [(0, 0)] * TABLE, "fmmus": bytes(FMMUS), "channels": bytes(CHANNELS)}
+    return Request(letter, room=ROOM, **parts)
+
+
+def parts():
+    """Each limit: at it, for an entry point that takes the part; one past it, also where the part isn't taken."""
+    last = [(0, 0)] * (TABLE - 1) + [(0x1A00, 2)]
+    counted = Request("C", c=5, sheet=SAMPLE)  # 34 bits are 5 bytes, so that byte 5 is the next sync manager's first
+    yield between("the most room", Request("s", room=ROOM), f"7 |(empty){'~' * (ROOM - 7)}|")
+    yield between("the longest sheet", Request("d", sheet=bytes(SHEET)), "refused 2")
+    yield between("the last record of a table counts", counted._replace(table=last), "4 0 4483")
+    yield between("the longest FMMU part", Request("T", fmmus=bytes(FMMUS)), "refused 1")
+    yield between("the longest channel part", Request("Q", channels=bytes(CHANNELS)), "refused 1")
+    yield between("all at their most", longest("R"), "refused 1")
+    past = {"room": ROOM + 1, "sheet": bytes(SHEET + 1), "fmmus": bytes(FMMUS + 1), "channels": bytes(CHANNELS + 1)}
+    past["table"] = last[:1] + last
+    for letter in "sprz":
+        for part, value in past.items():
+            yield refused(f"{letter}, {part} past its limit", Request(letter, **{part: value}).bytes() + GOOD)
+
+
+def records():
+    for letter in "fWyZ":
+        part, size = ("fmmus", FMMU_RECORD) if letter in "fW" else ("channels", CHANNEL_RECORD)
+        for wrong in (0, size - 1, size + 1):
+            yield refused(f"{letter}, a record of {wrong}", Request(letter, **{part: bytes(wrong)}).bytes() + GOOD)
+    yield between("a channel of ones", Request("Z", room=8, channels=b"\xff" * CHANNEL_RECORD), "ok ffffffff76fbc303")
+    yield between("an entry of ones", Request("W", room=16, fmmus=b"\xff" * FMMU_RECORD), f"refused 13 {'ff' * 16}")
+    yield between("no room for a text", Request("f", fmmus=bytes(FMMU_RECORD)), "refused 12 ||")
+    yield between("no room for an image", Request("Z", channels=bytes(CHANNEL_RECORD)), "refused 1 -")
+
+
+def repetitions():
+    for times in (0, 1):
+        yield between(f"times {times}", Request("i", c=5, times=times), "5")
+    yield between("times 2", Request("i", c=5, times=2), "5: 5", "6: 6")
+    rising = [f"{LAST - 2 + k}: {65_533 + k}" for k in range(3)]
+    yield between("times at its most", Request("i", c=LAST - 2, times=LAST), *rising)
+    yield between("one value past the last", Request("i", c=LAST - 2, times=4), *rising)
+    yield between("only the last value", Request("i", c=LAST, times=2), rising[-1])
+    program = model.one_answer(Request("L", sheet=SAMPLE)).split("\n")
+    yield between("lockerplan under times", Request("L", c=7, times=3, sheet=SAMPLE), "7: " + program[0], *program[1:])
+    yield between("again under times", Request("B", a=1, c=7, times=3, sheet=SAMPLE), "7: 0 5 5 7")
+    yield between("no such letter under times", Request("z", c=7, times=3, sheet=SAMPLE), "7: no such entry point")
+
+
+def refusals():
+    """What follows a refusal, and where the passes of a plan start."""
+    bits = area(entry(0, 1, 0, bits=(1, 7, 0)))
+    yield between("translate refuses", Request("T", fmmus=bits), "refused 11")
+    yield between("count refuses", Request("C", sheet=SAMPLE[:-1], table=[(1, 2)]), "refused 2")
+    yield between("both sides refuse", Request("A", sheet=SAMPLE[:-1], fmmus=bits), "differ r11 r2")
+    yield between("a plan of no turns", Request("B", sheet=SAMPLE), "none")
+    yield between("the outputs begin where the inputs end", Request("B", a=2, sheet=SAMPLE), "0 5 5 7")
+    wide = [coe(2, 0x1600 + k, *[255] * 255) for k in range(2)]
+    yield between("only the outputs are refused", Request("B", a=2, sheet=on_coe(*wide)), "refused 6")
+    seven = on_coe(coe(3, 0x1A00, 1), *wide, usages=(1,))
+    yield between("the first pass refused is named", Request("B", a=2, sheet=seven), "refused 7")
+    yield between("lockerplan refuses", Request("L", sheet=seven), "refused 7")
+    yield between("any other direction", Request("C", write=255, sheet=SAMPLE), "2 0 4352")
+    strange = Request("z", room=1, sheet=SAMPLE, table=[(1, 2)], fmmus=bytes(3), channels=bytes(5))
+    yield between("no such letter, with parts", strange, "no such entry point")
 
 
 def streams():
-    """Each stream of requests with its name."""
-    for size in (1, 27):
-        yield f"a head of {size} bytes", GOOD + GOOD[:size]
-    whole = Request("p", sheet=SAMPLE, table=[(1, 2)], fmmus=bytes(256), channels=bytes(128)).bytes()
-    for missing in (1, 129, 385, 388, 445):
-        yield f"{missing} bytes missing", GOOD + whole[:-missing]
-    between = {
-        "room 513": Request("s", room=513),
-        "a sheet of 16,388": Request("d", sheet=bytes(16_388)),
-        "a table of 257": Request("p", table=[(0, 0)] * 257),
-        "an FMMU part of 513": Request("R", fmmus=bytes(513)),
-        "a channel part of 513": Request("Q", channels=bytes(513)),
-    }
-    for letter in "fW":
-        for size in (0, FMMU_BYTES - 1, FMMU_BYTES + 1):
-            between[f"{letter}, a record of {size}"] = Request(letter, fmmus=bytes(size))
-    for letter in "yZ":
-        for size in (0, CHANNEL_BYTES - 1, CHANNEL_BYTES + 1):
-            between[f"{letter}, a record of {size}"] = Request(letter, channels=bytes(size))
-    for name, request in between.items():
-        yield name, GOOD + request.bytes() + GOOD
-    # not bad: all parts at their most, and nothing at all
-    most = Request("R", 0, 512, sheet=bytes(16_387), table=[(0, 0)] * 256, fmmus=bytes(512), channels=bytes(512))
-    yield "all parts at their most", most.bytes() + GOOD
-    yield "no request", b""
+    """Each stream with its name and the lines that answer it."""
+    for group in (cut_short, parts, records, repetitions, refusals):
+        yield from group()
+
+
+def asked():
+    """What the page has to say of the requests in crates/probe/stdin."""
+    data = (ROOT / "crates" / "probe" / "stdin").read_bytes()
+    counts = Counter()
+    try:
+        for request in requests(io.BytesIO(data)):
+            counts[request.letter if request.letter in model.ANSWERS else "other"] += 1
+    except BadRequest:
+        counts["bad"] += 1
+    return counts
+
+
+def wrong_page():
+    """Where the page's counts aren't those of crates/probe/stdin."""
+    counts = asked()
+    told = {letter: int(count) for letter, count in re.findall(r"`(\w)` (\d+)\b", PAGE)}
+    for letter in model.ANSWERS:
+        if told.get(letter) != counts[letter]:
+            yield f"docs/PROBE.md says {told.get(letter)} requests of {letter} and not {counts[letter]}"
+    total = sum(counts.values())
+    if f"{total:,} requests" not in PAGE:
+        yield f"docs/PROBE.md doesn't say {total:,} requests"
+
+
+def by_model(stream):
+    return "".join(line + "\n" for line in model.answer_all(io.BytesIO(stream)))
+
+
+def by_program(stream):
+    ran = subprocess.run([ROOT / "plan", "--probe", "-"], input=stream, capture_output=True)
+    return ran.stdout.decode() + (f"exit status {ran.returncode} {ran.stderr.decode()}" if ran.returncode else "")
+
+
+def wrong_answers(who, answer):
+    for name, stream, lines in streams():
+        expected, said = "".join(line + "\n" for line in lines), answer(stream)
+        if said != expected:
+            yield f"{who}, {name}: {said!r} and not {expected!r}"
 
 
 def main():
-    wrong = 0
-    for name, stream in streams():
-        expected = "".join(line + "\n" for line in model.answer_all(io.BytesIO(stream)))
-        ran = subprocess.run([PLAN, "--probe", "-"], input=stream, capture_output=True)
-        if ran.returncode or ran.stdout.decode() != expected:
-            wrong += 1
-            print(f"{name}: {ran.stdout.decode()!r} and not {expected!r} {ran.stderr.decode()}")
-    print(f"{len(list(streams()))} streams, {wrong} answered otherwise")
+    wrong = [*wrong_page(), *wrong_answers("model", by_model)]
+    if sys.argv[1:] != ["--model"]:
+        wrong += wrong_answers("probe", by_program)
+    for line in wrong:
+        print(line)
+    print(f"{len(list(streams()))} streams; answered otherwise, or not as the page says: {len(wrong)}")
     sys.exit(1 if wrong else 0)
 
 
