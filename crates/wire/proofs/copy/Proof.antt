@@ -47,7 +47,7 @@ loop-again c =
       omega arith,
       omega arith,
       length-set (l .to) (l .i) _ ∙ l .inv .3,
-      copied (now (a .from)) (now (a .to)) (l .to) (l .i) (omega arith) (omega arith) (l .inv .4),
+      copied 0 (now (a .from)) (now (a .to)) (l .to) (l .i) (omega arith) (omega arith) (l .inv .4),
     )
 
 same-length : tie.Need-same-length Inv-loop μ-loop
