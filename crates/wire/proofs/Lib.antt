@@ -11,3 +11,6 @@ pub mod Digits
 pub mod Order
 pub mod Pins
 pub mod Unique
+pub mod Packed
+pub mod Images
+pub mod Built

@@ -9,7 +9,7 @@ use native.Mathlib.Omega.{arith}
 use lib.ListN.{length, getD, drop}
 use lib.Seq.{drop-cons, drop-length}
 use Rattle.wire.specs.Number.{littleAt, littleOf}
-use Rattle.wire.specs.Image.{Image}
+use Rattle.wire.specs.Image.{Bytes, Image}
 
 -- the number that x's n bytes are: what `littleAt` of a list that begins with them computes to
 abbrev pub joined : ℕ → ℕ → ℕ
@@ -39,10 +39,10 @@ pub spread-is : {n : ℕ} {l : List ℕ} → Image n l → spread n 0 l ≡ l
 spread-is {n} {l} h = spread-from n 0 l (omega arith)
 
 -- a number read and written
-pub little-back : {m : ℕ} {l : List ℕ} (n at : ℕ) → Image m l → littleOf n (littleAt l at n) ≡ spread n at l
-little-back {m} {l} zero at h = refl
-little-back {m} {l} (suc n) at h =
-    let b = h .bytes at in
+pub little-back : {l : List ℕ} (n at : ℕ) → Bytes l → littleOf n (littleAt l at n) ≡ spread n at l
+little-back zero at h = refl
+little-back {l} (suc n) at h =
+    let b = h .below at in
     let v = littleAt l (at + 1) n in
     let e : (getD l at 0 + 256 * v) / 256 ≡ v = omega arith in
     ap₂ (λ (x : ℕ) (t : List ℕ). x ∷ t) (omega arith) (ap (littleOf n) e ∙ little-back n (at + 1) h)
