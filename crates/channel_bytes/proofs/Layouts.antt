@@ -31,7 +31,7 @@ control-layout =
       small = λ c. control-laid c .small;
       back = λ c h. control-read-write c;
       clear = λ c. control-laid c .fields .1 .1 .1 .1 .1 .0;
-      read = control-named;
+      accept = control-named;
       fit = λ b. tt;
       exact = control-write-read;
     }
@@ -49,7 +49,7 @@ status-layout =
       small = λ s. status-laid s .small;
       back = λ s h. status-read-write s;
       clear = λ s. status-laid s .fields .1 .1 .0;
-      read = λ s. tt;
+      accept = λ s. tt;
       fit = λ b. tt;
       exact = λ b h a. status-write-read b h;
     }
@@ -66,14 +66,14 @@ enable-layout =
       bytes = λ e. cons-bytes (low-laid e .small) (cons-bytes (high-laid e .small) no-bytes);
       back = λ e l at q h. ap (λ (m : List ℕ). enableAt (getD m 0 0) (getD m 1 0)) q ∙ enable-read-write e;
       clear =
-        λ e l at q. (
-          ap (λ (m : List ℕ). bitsAt (getD m 0 0) 2 4) q ∙ low-laid e .fields .1 .1 .0,
-          (ap (λ (m : List ℕ). bitsAt (getD m 1 0) 2 6) q ∙ high-laid e .fields .1 .1 .0, tt),
-        );
-      read = λ e l at q. tt;
+          λ e l at q. (
+            ap (λ (m : List ℕ). bitsAt (getD m 0 0) 2 4) q ∙ low-laid e .fields .1 .1 .0,
+            (ap (λ (m : List ℕ). bitsAt (getD m 1 0) 2 6) q ∙ high-laid e .fields .1 .1 .0, tt),
+          );
+      accept = λ e l at q. tt;
       fit = λ l at h. tt;
-      same =
-        λ l at h a z i.
-        enable-low-write-read (getD l (at + 1) 0) (getD l at 0) (h .below at) .1 (z .0) i
-        ∷ enable-high-write-read (getD l at 0) (getD l (at + 1) 0) (h .below (at + 1)) .1 (z .1 .0) i ∷ [];
+      stays =
+          λ l at h a z i.
+          enable-low-write-read (getD l (at + 1) 0) (getD l at 0) (h .below at) .1 (z .0) i
+          ∷ enable-high-write-read (getD l at 0) (getD l (at + 1) 0) (h .below (at + 1)) .1 (z .1 .0) i ∷ [];
     }

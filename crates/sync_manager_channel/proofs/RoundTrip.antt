@@ -1,61 +1,25 @@
--- The layout both ways: a channel written and read, and bytes read and written. The laws are those of every layout (Images, in wire/proofs).
+-- The layout both ways: a channel written and read, and bytes read and written. The laws are those of every layout (Images, in wire/proofs),
+-- at the layout of a channel.
 -- Assumes nothing.
-use mathlib.Core.Path.{_≡_, refl, sym, _∙_, ap}
+use mathlib.Core.Path.{_≡_, sym, _∙_, ap}
 use mathlib.Core.Bool.{false}
 use mathlib.Core.Logic.{_↔_}
-use mathlib.Core.List.{List, [], _∷_}
+use mathlib.Core.List.{List}
 use Prim.Native.Nat.{ℕ}
 use lib.ListN.{length, getD}
 use Rattle.wire.specs.Image.{Bytes, Image, Clear}
-use Rattle.wire.specs.Outcome.{accepted, when}
+use Rattle.wire.specs.Outcome.{accepted}
 use Rattle.wire.specs.Room.{InRoom}
 use Rattle.wire.specs.declared.Written.{Written}
 use Rattle.wire.specs.declared.Written.the-variants.{Len}
-use Rattle.wire.proofs.Order.{passed-first}
-use Rattle.wire.proofs.Images.{Layout, Calls}
 use Rattle.wire.proofs.Images as images
-use Rattle.wire.proofs.Built.{number, _followed-by_, as-record}
-use Rattle.channel_bytes.specs.declared.Control.{Control}
-use Rattle.channel_bytes.specs.declared.Status.{Status}
-use Rattle.channel_bytes.specs.declared.Enable.{Enable}
 use Rattle.channel_bytes.specs.Bytes.{unnamed}
-use Rattle.channel_bytes.proofs.Layouts.{control-layout, status-layout, enable-layout}
 use Rattle.sync_manager_channel.specs.declared.SyncManagerChannel.{SyncManagerChannel}
 use Rattle.sync_manager_channel.specs.declared.ChannelRead.{ChannelRead}
 use Rattle.sync_manager_channel.specs.declared.ChannelRead.the-variants.{Channel}
 use Rattle.sync_manager_channel.specs.Image.{channelOf, imageOf, reserved, Fits, readChannel, writeChannel, channelReadOf}
+use Rattle.sync_manager_channel.proofs.Layouts.{layout, calls, fits}
 use Rattle.sync_manager_channel.proofs.Unique.{channel-back, channel-determined}
-
--- a channel's parts, as they stand in the image
-abbrev Parts : Type 0
-Parts = ℕ × (ℕ × (Control × (Status × Enable)))
-
-abbrev channel : Parts → SyncManagerChannel
-channel p =
-    record { «physical_start_address» = p .0; «length_bytes» = record { 0 = p .1 .0 }; control = p .1 .1 .0; status = p .1 .1 .1 .0; enable = p .1 .1 .1 .1 }
-
-abbrev parts : SyncManagerChannel → Parts
-parts s = (s .«physical_start_address», (s .«length_bytes» .0, (s .control, (s .status, s .enable))))
-
-abbrev layout : Layout 8 SyncManagerChannel
-layout =
-    as-record channel parts (λ s. refl) (λ p. refl)
-    (number 2 followed-by number 2 followed-by control-layout followed-by status-layout followed-by enable-layout)
-
-fits : (s : SyncManagerChannel) → Fits s → layout .Fits s
-fits s h = (h .start, (h .length, (tt, (tt, tt))))
-
--- 5 is what reading refuses, and writing refuses nothing, besides 1
-abbrev calls : Calls layout
-calls =
-    record {
-      unread = λ l. when 5 (unnamed (getD l 4 0)) ∷ [];
-      unwritten = λ s. [];
-      Typed = Fits;
-      reads = λ l a. rw (a .1 .1 .0);
-      accepts = λ l s e. (tt, (tt, (passed-first (when 5 (unnamed (getD l 4 0))) [] (layout .fields l 0) s e .0, (tt, tt))));
-      fits = λ s k h e. fits s h;
-    }
 
 -- what is written is eight bytes
 pub image-is : (s : SyncManagerChannel) → Image 8 (imageOf s)
@@ -75,9 +39,17 @@ pub written-named : (s : SyncManagerChannel) → unnamed (getD (imageOf s) 4 0) 
 unfolding imageOf
 written-named s = images.image-accepted layout s .1 .1 .0
 
+-- so reading what was written accepts it and gives it back
 pub read-written : (s : SyncManagerChannel) → Fits s → readChannel (imageOf s) ≡ accepted s
 unfolding channelOf imageOf
 read-written s h = images.image-read layout calls s (fits s h)
+
+-- what eight bytes say fits
+pub fields-fit : (l : List ℕ) → Image 8 l → Fits (channelOf l)
+unfolding channelOf
+fields-fit l h =
+    let p = layout .fit l 0 (h .bytes) in
+    record { start = p .0; length = p .1 .0 }
 
 -- whatever is written, its reserved bits are 0
 pub writing-clears-reserved : (s : SyncManagerChannel) → Clear reserved (imageOf s)

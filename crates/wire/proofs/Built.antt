@@ -3,10 +3,11 @@
 use mathlib.Core.Path.{_≡_, refl, sym, _∙_, ap, ap₂, subst}
 use mathlib.Core.Logic.{_↔_}
 use mathlib.Core.List.{List, [], _∷_, _++_}
-use Prim.Native.Nat.{ℕ, zero, suc, _+_, _*_, _/_, _%_, _^_, _<_}
-use native.Mathlib.Nat.{add-zero, zero-add, pow-suc}
+use Prim.Native.Nat.{ℕ, zero, suc, _+_, _-_, _*_, _/_, _%_, _^_, _<_, _≤_}
+use native.Mathlib.Nat.{add-zero, zero-add, div-eq-of-lt, zero-mod, lt-of-lt-of-le}
 use native.Mathlib.Omega.{arith}
 use lib.ListN.{length, getD, take, drop, length-append}
+use lib.Pow.{pow-mono}
 use lib.Seq.{take-append-seam, drop-append-seam}
 use Rattle.wire.specs.Field.{bitsAt}
 use Rattle.wire.specs.Number.{littleAt, littleOf}
@@ -35,9 +36,9 @@ number w =
       bytes = little-bytes w;
       back = λ x l at e h. little-stands w x l at e ∙ joined-is w x h;
       clear = λ x l at e. tt;
-      read = λ x l at e. tt;
+      accept = λ x l at e. tt;
       fit = λ l at h. little-fits w at h;
-      same = λ l at h a z. little-back w at h;
+      stays = λ l at h a z. little-back w at h;
     }
 
 -- a byte that is made up of fields and one reserved part
@@ -51,7 +52,7 @@ pub record Byte (R : Type 0) : Type 1 where
   pub small : (r : R) → put r < 256
   pub back : (r : R) → Fits r → get (put r) ≡ r
   pub clear : (r : R) → bitsAt (put r) shift width ≡ 0
-  pub read : (r : R) → Accepts (put r)
+  pub accept : (r : R) → Accepts (put r)
   pub fit : (b : ℕ) → Fits (get b)
   pub exact : (b : ℕ) → b < 256 → Accepts b → (put (get b) ≡ b) ↔ (bitsAt b shift width ≡ 0)
 
@@ -67,37 +68,51 @@ byte b =
       bytes = λ r. cons-bytes (b .small r) no-bytes;
       back = λ r l at e h. ap (λ (m : List ℕ). b .get (getD m 0 0)) e ∙ b .back r h;
       clear = λ r l at e. (ap (λ (m : List ℕ). bitsAt (getD m 0 0) (b .shift) (b .width)) e ∙ b .clear r, tt);
-      read = λ r l at e. subst (λ (m : List ℕ). b .Accepts (getD m 0 0)) (sym e) (b .read r);
+      accept = λ r l at e. subst (λ (m : List ℕ). b .Accepts (getD m 0 0)) (sym e) (b .accept r);
       fit = λ l at h. b .fit (getD l at 0);
-      same = λ l at h a z i. b .exact (getD l at 0) (h .below at) a .1 (z .0) i ∷ [];
+      stays = λ l at h a z i. b .exact (getD l at 0) (h .below at) a .1 (z .0) i ∷ [];
     }
+
+-- a byte whose fields are its lowest k bits, so that those above are reserved; no byte is refused
+module _ {R : Type 0} (k : ℕ) (put : R → ℕ) (get : ℕ → R) (Fits : R → Type 0) (fill : (r : R) → put r < 2 ^ k) where
+  pub fill-small : k ≤ 8 → (r : R) → put r < 256
+  fill-small h r = lt-of-lt-of-le (fill r) (pow-mono {i = k} {j = 8} h)
+
+  pub fill-clear : (r : R) → bitsAt (put r) k (8 - k) ≡ 0
+  fill-clear r = ap (λ (x : ℕ). x % 2 ^ (8 - k)) (div-eq-of-lt (fill r)) ∙ zero-mod (2 ^ (8 - k))
+
+  abbrev pub low-bits :
+      k ≤ 8 → ((r : R) → Fits r → get (put r) ≡ r) → ((b : ℕ) → Fits (get b)) → ((b : ℕ) → b < 256 → (put (get b) ≡ b) ↔ (bitsAt b k (8 - k) ≡ 0)) → Layout 1 R
+  low-bits most back fit exact =
+      byte
+      record {
+        put = put;
+        get = get;
+        shift = k;
+        width = 8 - k;
+        Fits = Fits;
+        Accepts = λ b. Unit {0};
+        small = fill-small most;
+        back = back;
+        clear = fill-clear;
+        accept = λ r. tt;
+        fit = fit;
+        exact = λ b h a. exact b h;
+      }
 
 -- a byte that is reserved whole
-abbrev pub none : Layout 1 (Unit {0})
-none =
-    byte
-    record {
-      put = λ r. 0;
-      get = λ b. tt;
-      shift = 0;
-      width = 8;
-      Fits = λ r. Unit {0};
-      Accepts = λ b. Unit {0};
-      small = λ (r : Unit {0}). omega arith;
-      back = λ r h. refl;
-      clear = λ r. refl;
-      read = λ r. tt;
-      fit = λ b. tt;
-      exact = λ b h a. exactly (λ b. 0) 0 8 tt b h;
-    }
+abbrev pub reserved-byte : Layout 1 (Unit {0})
+reserved-byte =
+    low-bits 0 (λ r. 0) (λ b. tt) (λ r. Unit {0}) (λ (r : Unit {0}). omega arith)
+    (omega arith) (λ r h. refl) (λ b. tt) (exactly (λ b. 0) 0 8 tt)
 
 -- the bytes from a place on, in two parts
-pub spread-parts : (m n at : ℕ) (l : List ℕ) → spread (m + n) at l ≡ spread m at l ++ spread n (at + m) l
-spread-parts zero n at l = rw (zero-add n, add-zero at)
-spread-parts (suc m) n at l =
+pub spread-append : (m n at : ℕ) (l : List ℕ) → spread (m + n) at l ≡ spread m at l ++ spread n (at + m) l
+spread-append zero n at l = rw (zero-add n, add-zero at)
+spread-append (suc m) n at l =
     let s : suc m + n ≡ suc (m + n) = omega arith in
     let p : at + 1 + m ≡ at + suc m = omega arith in
-    ap (λ (k : ℕ). spread k at l) s ∙ ap (λ (t : List ℕ). getD l at 0 ∷ t) (spread-parts m n (at + 1) l ∙ ap (λ (k : ℕ). spread m (at + 1) l ++ spread n k l) p)
+    ap (λ (k : ℕ). spread k at l) s ∙ ap (λ (t : List ℕ). getD l at 0 ∷ t) (spread-append m n (at + 1) l ∙ ap (λ (k : ℕ). spread m (at + 1) l ++ spread n k l) p)
 
 pub spread-length : (n at : ℕ) (l : List ℕ) → length (spread n at l) ≡ n
 spread-length zero at l = refl
@@ -106,7 +121,7 @@ spread-length (suc n) at l = ap suc (spread-length n (at + 1) l)
 -- where two images stand after one another, each stands
 module _ {m n : ℕ} {R S : Type 0} (a : Layout m R) (b : Layout n S) (r : R × S) (l : List ℕ) (at : ℕ) (e : spread (m + n) at l ≡ a .image (r .0) ++ b .image (r .1)) where
   both : spread m at l ++ spread n (at + m) l ≡ a .image (r .0) ++ b .image (r .1)
-  both = sym (spread-parts m n at l) ∙ e
+  both = sym (spread-append m n at l) ∙ e
 
   long : length (spread m at l) ≡ length (a .image (r .0))
   long = spread-length m at l ∙ sym (a .long (r .0))
@@ -131,7 +146,6 @@ clear-second [] qs l z = z
 clear-second (p ∷ ps) qs l z = clear-second ps qs l (z .1)
 
 infixr 60 _followed-by_
-
 -- the one, and then the other
 abbrev pub _followed-by_ : {m n : ℕ} {R S : Type 0} → Layout m R → Layout n S → Layout (m + n) (R × S)
 _followed-by_ {m} {n} a b =
@@ -144,21 +158,21 @@ _followed-by_ {m} {n} a b =
       long = λ r. length-append (a .image (r .0)) (b .image (r .1)) ∙ ap₂ _+_ (a .long (r .0)) (b .long (r .1));
       bytes = λ r. append-bytes (a .bytes (r .0)) (b .bytes (r .1));
       back =
-        λ r l at e h i. (
-          a .back (r .0) l at (first-stands a b r l at e) (h .0) i,
-          b .back (r .1) l (at + m) (second-stands a b r l at e) (h .1) i,
-        );
+          λ r l at e h i. (
+            a .back (r .0) l at (first-stands a b r l at e) (h .0) i,
+            b .back (r .1) l (at + m) (second-stands a b r l at e) (h .1) i,
+          );
       clear =
-        λ r l at e.
-        clear-both (a .reserved at) (b .reserved (at + m)) l (a .clear (r .0) l at (first-stands a b r l at e))
-        (b .clear (r .1) l (at + m) (second-stands a b r l at e));
-      read = λ r l at e. (a .read (r .0) l at (first-stands a b r l at e), b .read (r .1) l (at + m) (second-stands a b r l at e));
+          λ r l at e.
+          clear-both (a .reserved at) (b .reserved (at + m)) l (a .clear (r .0) l at (first-stands a b r l at e))
+          (b .clear (r .1) l (at + m) (second-stands a b r l at e));
+      accept = λ r l at e. (a .accept (r .0) l at (first-stands a b r l at e), b .accept (r .1) l (at + m) (second-stands a b r l at e));
       fit = λ l at h. (a .fit l at h, b .fit l (at + m) h);
-      same =
-        λ l at h c z.
-        ap₂ _++_ (a .same l at h (c .0) (clear-first (a .reserved at) (b .reserved (at + m)) l z))
-        (b .same l (at + m) h (c .1) (clear-second (a .reserved at) (b .reserved (at + m)) l z))
-        ∙ sym (spread-parts m n at l);
+      stays =
+          λ l at h c z.
+          ap₂ _++_ (a .stays l at h (c .0) (clear-first (a .reserved at) (b .reserved (at + m)) l z))
+          (b .stays l (at + m) h (c .1) (clear-second (a .reserved at) (b .reserved (at + m)) l z))
+          ∙ sym (spread-append m n at l);
     }
 
 -- the parts as a record that holds them
@@ -174,7 +188,7 @@ as-record to from there here a =
       bytes = λ s. a .bytes (from s);
       back = λ s l at e h. ap to (a .back (from s) l at e h) ∙ there s;
       clear = λ s l at e. a .clear (from s) l at e;
-      read = λ s l at e. a .read (from s) l at e;
+      accept = λ s l at e. a .accept (from s) l at e;
       fit = λ l at h. subst (a .Fits) (sym (here (a .fields l at))) (a .fit l at h);
-      same = λ l at h c z. ap (a .image) (here (a .fields l at)) ∙ a .same l at h c z;
+      stays = λ l at h c z. ap (a .image) (here (a .fields l at)) ∙ a .stays l at h c z;
     }

@@ -33,10 +33,10 @@ pub record Layout (n : ℕ) (R : Type 0) : Type 1 where
   -- where an image stands its record is read, reserved parts are 0, and the bytes are accepted
   pub back : (r : R) (l : List ℕ) (at : ℕ) → spread n at l ≡ image r → Fits r → fields l at ≡ r
   pub clear : (r : R) (l : List ℕ) (at : ℕ) → spread n at l ≡ image r → Clear (reserved at) l
-  pub read : (r : R) (l : List ℕ) (at : ℕ) → spread n at l ≡ image r → Accepts l at
+  pub accept : (r : R) (l : List ℕ) (at : ℕ) → spread n at l ≡ image r → Accepts l at
   -- what bytes say fits, and is written as they stand where reserved parts are 0
   pub fit : (l : List ℕ) (at : ℕ) → Bytes l → Fits (fields l at)
-  pub same : (l : List ℕ) (at : ℕ) → Bytes l → Accepts l at → Clear (reserved at) l → image (fields l at) ≡ spread n at l
+  pub stays : (l : List ℕ) (at : ℕ) → Bytes l → Accepts l at → Clear (reserved at) l → image (fields l at) ≡ spread n at l
 
 module _ {n : ℕ} {R : Type 0} (L : Layout n R) where
   -- what is written is n bytes, whatever the record
@@ -45,7 +45,7 @@ module _ {n : ℕ} {R : Type 0} (L : Layout n R) where
 
   -- its image is accepted
   pub image-accepted : (r : R) → L .Accepts (L .image r) 0
-  image-accepted r = L .read r (L .image r) 0 (spread-is (image-is r))
+  image-accepted r = L .accept r (L .image r) 0 (spread-is (image-is r))
 
   -- a record that fits, written and read, comes back
   pub read-write : (r : R) → L .Fits r → L .fields (L .image r) 0 ≡ r
@@ -63,7 +63,7 @@ module _ {n : ℕ} {R : Type 0} (L : Layout n R) where
   pub write-read : (l : List ℕ) → Image n l → L .Accepts l 0 → (L .image (L .fields l 0) ≡ l) ↔ Clear (L .reserved 0) l
   write-read l h a = (
     λ e. subst (Clear (L .reserved 0)) e (writing-clears-reserved (L .fields l 0)),
-    λ z. L .same l 0 (h .bytes) a z ∙ spread-is h,
+    λ z. L .stays l 0 (h .bytes) a z ∙ spread-is h,
   )
 
 -- 1 isn't given: the list is n long
@@ -78,11 +78,11 @@ is-long n l e = go (eqb (length l) n) (eqb-true (length l) n) e
 pub record Calls {n : ℕ} {R : Type 0} (L : Layout n R) : Type 1 where
   pub unread : List ℕ → List Refusal
   pub unwritten : R → List Refusal
-  -- what the types of a record's numbers say of them
-  pub Typed : R → Type 0
+  -- each number is in the range of its type
+  pub InRange : R → Type 0
   pub reads : (l : List ℕ) → L .Accepts l 0 → decide (unread l) (L .fields l 0) ≡ accepted (L .fields l 0)
   pub accepts : (l : List ℕ) (r : R) → accepted r ≡ decide (unread l) (L .fields l 0) → L .Accepts l 0
-  pub fits : (r : R) (k : ℕ) → Typed r → accepted k ≡ decide (unwritten r) n → L .Fits r
+  pub fits : (r : R) (k : ℕ) → InRange r → accepted k ≡ decide (unwritten r) n → L .Fits r
 
 module _ {n : ℕ} {R : Type 0} (L : Layout n R) (C : Calls L) where
   abbrev pub reading : List ℕ → Outcome R
@@ -106,7 +106,7 @@ module _ {n : ℕ} {R : Type 0} (L : Layout n R) (C : Calls L) where
       rw (eq-eqb (length l) n (L .long r)) (C .reads l (image-accepted L r) ∙ ap accepted (read-write L r h))
 
   -- a record that writing accepts stands in the room, and is read from there as it was
-  pub written-comes-back : (r : R) (k : ℕ) {room after : List ℕ} {w : Written} → C .Typed r → InRoom (writing r room) (L .image r) room w after → w ≡ Len k → reading after ≡ accepted r
+  pub written-comes-back : (r : R) (k : ℕ) {room after : List ℕ} {w : Written} → C .InRange r → InRoom (writing r room) (L .image r) room w after → w ≡ Len k → reading after ≡ accepted r
   written-comes-back r k {room} {after} t x is =
       let e : accepted k ≡ writing r room = sym (ap writtenOf is) ∙ x .says in
       let p = passed-first (when 1 (notLong n room)) (C .unwritten r) n k e in
