@@ -3,25 +3,19 @@
 use mathlib.Core.Path.{_≡_, refl, sym, _∙_, ap, ap₂, subst}
 use mathlib.Core.Logic.{_↔_}
 use mathlib.Core.List.{List, [], _∷_, _++_}
-use Prim.Native.Nat.{ℕ, zero, suc, _+_, _-_, _*_, _/_, _%_, _^_, _<_, _≤_}
-use native.Mathlib.Nat.{add-zero, zero-add, div-eq-of-lt, zero-mod, lt-of-lt-of-le}
+use Prim.Native.Nat.{ℕ, _+_, _-_, _%_, _^_, _<_, _≤_}
+use native.Mathlib.Nat.{div-eq-of-lt, zero-mod, lt-of-lt-of-le}
 use native.Mathlib.Omega.{arith}
 use lib.ListN.{length, getD, take, drop, length-append}
 use lib.Pow.{pow-mono}
 use lib.Seq.{take-append-seam, drop-append-seam}
 use Rattle.wire.specs.Field.{bitsAt}
 use Rattle.wire.specs.Number.{littleAt, littleOf}
-use Rattle.wire.specs.Image.{Part, part, Clear}
-use Rattle.wire.proofs.Numbers.{spread, joined, joined-is, little-back}
+use Rattle.wire.specs.Image.{part}
+use Rattle.wire.proofs.Numbers.{spread, spread-append, spread-length, joined-is, little-stands, little-back}
 use Rattle.wire.proofs.Bytes.{little-fits, no-bytes, cons-bytes, append-bytes, little-bytes, little-length}
-use Rattle.wire.proofs.Reserved.{exactly}
+use Rattle.wire.proofs.Reserved.{exactly, clear-both, clear-first, clear-second}
 use Rattle.wire.proofs.Images.{Layout}
-
--- bytes of a number that stand in a list
-pub little-stands : (n x : ℕ) (l : List ℕ) (at : ℕ) → spread n at l ≡ littleOf n x → littleAt l at n ≡ joined n x
-little-stands zero x l at e = refl
-little-stands (suc n) x l at e =
-    ap₂ (λ (b r : ℕ). b + 256 * r) (ap (λ (m : List ℕ). getD m 0 0) e) (little-stands n (x / 256) l (at + 1) (ap (drop 1) e))
 
 -- a number of w bytes, the low byte first
 abbrev pub number : (w : ℕ) → Layout w ℕ
@@ -106,18 +100,6 @@ reserved-byte =
     low-bits 0 (λ r. 0) (λ b. tt) (λ r. Unit {0}) (λ (r : Unit {0}). omega arith)
     (omega arith) (λ r h. refl) (λ b. tt) (exactly (λ b. 0) 0 8 tt)
 
--- the bytes from a place on, in two parts
-pub spread-append : (m n at : ℕ) (l : List ℕ) → spread (m + n) at l ≡ spread m at l ++ spread n (at + m) l
-spread-append zero n at l = rw (zero-add n, add-zero at)
-spread-append (suc m) n at l =
-    let s : suc m + n ≡ suc (m + n) = omega arith in
-    let p : at + 1 + m ≡ at + suc m = omega arith in
-    ap (λ (k : ℕ). spread k at l) s ∙ ap (λ (t : List ℕ). getD l at 0 ∷ t) (spread-append m n (at + 1) l ∙ ap (λ (k : ℕ). spread m (at + 1) l ++ spread n k l) p)
-
-pub spread-length : (n at : ℕ) (l : List ℕ) → length (spread n at l) ≡ n
-spread-length zero at l = refl
-spread-length (suc n) at l = ap suc (spread-length n (at + 1) l)
-
 -- where two images stand after one another, each stands
 module _ {m n : ℕ} {R S : Type 0} (a : Layout m R) (b : Layout n S) (r : R × S) (l : List ℕ) (at : ℕ) (e : spread (m + n) at l ≡ a .image (r .0) ++ b .image (r .1)) where
   both : spread m at l ++ spread n (at + m) l ≡ a .image (r .0) ++ b .image (r .1)
@@ -131,19 +113,6 @@ module _ {m n : ℕ} {R S : Type 0} (a : Layout m R) (b : Layout n S) (r : R × 
 
   pub second-stands : spread n (at + m) l ≡ b .image (r .1)
   second-stands = sym (drop-append-seam (spread m at l) (spread n (at + m) l)) ∙ ap₂ drop long both ∙ drop-append-seam (a .image (r .0)) (b .image (r .1))
-
--- parts of two lists that are 0
-pub clear-both : (ps qs : List Part) (l : List ℕ) → Clear ps l → Clear qs l → Clear (ps ++ qs) l
-clear-both [] qs l z y = y
-clear-both (p ∷ ps) qs l z y = (z .0, clear-both ps qs l (z .1) y)
-
-pub clear-first : (ps qs : List Part) (l : List ℕ) → Clear (ps ++ qs) l → Clear ps l
-clear-first [] qs l z = tt
-clear-first (p ∷ ps) qs l z = (z .0, clear-first ps qs l (z .1))
-
-pub clear-second : (ps qs : List Part) (l : List ℕ) → Clear (ps ++ qs) l → Clear qs l
-clear-second [] qs l z = z
-clear-second (p ∷ ps) qs l z = clear-second ps qs l (z .1)
 
 infixr 60 _followed-by_
 -- the one, and then the other

@@ -1,9 +1,9 @@
 -- Little-endian numbers over any width, and an image written out over any length.
 -- Assumes nothing.
 use mathlib.Core.Path.{_≡_, refl, sym, _∙_, ap, ap₂}
-use mathlib.Core.List.{List, [], _∷_}
+use mathlib.Core.List.{List, [], _∷_, _++_}
 use Prim.Native.Nat.{ℕ, zero, suc, _+_, _*_, _/_, _%_, _^_, _<_}
-use native.Mathlib.Nat.{pow-suc}
+use native.Mathlib.Nat.{add-zero, zero-add, pow-suc}
 use native.Mathlib.Numerals.{add-one}
 use native.Mathlib.Omega.{arith}
 use lib.ListN.{length, getD, drop}
@@ -37,6 +37,24 @@ spread-from (suc n) at l e =
 -- an image is its bytes written out
 pub spread-is : {n : ℕ} {l : List ℕ} → Image n l → spread n 0 l ≡ l
 spread-is {n} {l} h = spread-from n 0 l (omega arith)
+
+-- those bytes in two parts, and how many they are
+pub spread-append : (m n at : ℕ) (l : List ℕ) → spread (m + n) at l ≡ spread m at l ++ spread n (at + m) l
+spread-append zero n at l = rw (zero-add n, add-zero at)
+spread-append (suc m) n at l =
+    let s : suc m + n ≡ suc (m + n) = omega arith in
+    let p : at + 1 + m ≡ at + suc m = omega arith in
+    ap (λ (k : ℕ). spread k at l) s ∙ ap (λ (t : List ℕ). getD l at 0 ∷ t) (spread-append m n (at + 1) l ∙ ap (λ (k : ℕ). spread m (at + 1) l ++ spread n k l) p)
+
+pub spread-length : (n at : ℕ) (l : List ℕ) → length (spread n at l) ≡ n
+spread-length zero at l = refl
+spread-length (suc n) at l = ap suc (spread-length n (at + 1) l)
+
+-- bytes of a number that stand in a list
+pub little-stands : (n x : ℕ) (l : List ℕ) (at : ℕ) → spread n at l ≡ littleOf n x → littleAt l at n ≡ joined n x
+little-stands zero x l at e = refl
+little-stands (suc n) x l at e =
+    ap₂ (λ (b r : ℕ). b + 256 * r) (ap (λ (m : List ℕ). getD m 0 0) e) (little-stands n (x / 256) l (at + 1) (ap (drop 1) e))
 
 -- a number read and written
 pub little-back : {l : List ℕ} (n at : ℕ) → Bytes l → littleOf n (littleAt l at n) ≡ spread n at l

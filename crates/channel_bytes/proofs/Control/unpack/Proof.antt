@@ -3,9 +3,8 @@
 use mathlib.Core.Path.{_≡_, refl, _∙_, ap}
 use mathlib.Core.Bool.{false}
 use Rattle.wire.specs.Outcome.{accepted}
-use Rattle.wire.proofs.Fields.{masked}
+use Rattle.wire.proofs.Fields.{masked, masked-low}
 use Rattle.channel_bytes.specs.Bytes.{modeAt, directionAt, controlAt, unnamed}
-use Rattle.wire.proofs.Fields.{masked-low}
 use Rattle.channel_bytes.proofs.Named.{unnamed-mode, unnamed-direction, named}
 use borrow.Author.Needs.{needs}
 use Rattle.channel_bytes.proofs.Control.unpack.Statement.{statement}

@@ -34,9 +34,14 @@ same-length c = search needs
 
 returns-3 : tie.Need-returns-3
 returns-3 c =
-    let a = c .before .before .before .before .before .before .before .before .before .before .args in
-    let copied = c .before .before .copy .ensures ∙ ap (λ (l : List ℕ). over l (now (a .buf))) (c .before .before .before .before .before .pack .ensures) in
-    simp (eq-eqb _ _ (c .before .before .before .before .before .before .before .before .if1 .left), sym (c .before .before .before .before .before .before .before .too-wide .ensures) ∙ c .before .before .before .before .before .before .if2 .left) (record { says = refl; holds = copied })
+    let copied = c .before .before in
+    let packed = copied .before .before .before in
+    let narrow = packed .before in
+    let tested = narrow .before in
+    let sixteen = tested .before in
+    let room = now (sixteen .before .before .args .buf) in
+    let holds = copied .copy .ensures ∙ ap (λ (l : List ℕ). over l room) (packed .pack .ensures) in
+    simp (eq-eqb _ _ (sixteen .if1 .left), sym (tested .too-wide .ensures) ∙ narrow .if2 .left) (record { says = refl; holds = holds })
 
 pub pack-to-slice-spec : {M : Type 1} → statement M
 pack-to-slice-spec =
