@@ -13,7 +13,7 @@ use Rattle.wire.proofs.Fields.{bit-lt}
 use Rattle.wire.proofs.Order.{passed-first}
 use Rattle.wire.proofs.Reserved.{exactly}
 use Rattle.wire.proofs.Images.{Layout, Calls}
-use Rattle.wire.proofs.Built.{number, low-bits, reserved-byte, _followed-by_, as-record}
+use Rattle.wire.proofs.Built.{little, low-bits, reserved-byte, _followed-by_, as-record}
 use Rattle.fmmu.specs.declared.Fmmu.{Fmmu}
 use Rattle.fmmu.specs.Image.{InRange, Fits, tooWide}
 
@@ -83,12 +83,12 @@ values f = (
 abbrev pub layout : Layout 16 Fmmu
 layout =
     as-record entry values (λ f. refl) (λ p. refl)
-    ((number 4 followed-by number 2 followed-by bits followed-by bits)
-    followed-by (number 2 followed-by bits followed-by access followed-by enabled)
+    ((little 4 followed-by little 2 followed-by bits followed-by bits)
+    followed-by (little 2 followed-by bits followed-by access followed-by enabled)
     followed-by reserved-byte followed-by reserved-byte followed-by reserved-byte)
 
-pub fits : (f : Fmmu) → Fits f → layout .Fits f
-fits f h = ((h .start, (h .size, (h .start-bit, h .end-bit))), ((h .physical, (h .physical-bit, (tt, tt))), (tt, (tt, tt))))
+pub fits-layout : (f : Fmmu) → Fits f → layout .Fits f
+fits-layout f h = ((h .start, (h .size, (h .start-bit, h .end-bit))), ((h .physical, (h .physical-bit, (tt, tt))), (tt, (tt, tt))))
 
 -- an entry that isn't refused with 13 fits
 neither : (a b : Bool) → (a || b) ≡ false → (a ≡ false) × (b ≡ false)
@@ -114,5 +114,5 @@ calls =
       InRange = InRange;
       reads = λ l a. refl;
       accepts = λ l f e. ((tt, (tt, (tt, tt))), ((tt, (tt, (tt, tt))), (tt, (tt, tt))));
-      fits = λ f k t e. fits f (in-range-fits f t (passed-first (when 13 (tooWide f)) [] 16 k e .0));
+      fits = λ f k t e. fits-layout f (in-range-fits f t (passed-first (when 13 (tooWide f)) [] 16 k e .0));
     }

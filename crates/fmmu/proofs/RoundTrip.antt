@@ -16,7 +16,7 @@ use Rattle.fmmu.specs.declared.Fmmu.{Fmmu}
 use Rattle.fmmu.specs.declared.FmmuRead.{FmmuRead}
 use Rattle.fmmu.specs.declared.FmmuRead.the-variants.{Entry}
 use Rattle.fmmu.specs.Image.{fieldsOf, imageOf, reserved, InRange, Fits, readEntry, writeEntry, fmmuReadOf}
-use Rattle.fmmu.proofs.Layouts.{layout, calls, fits}
+use Rattle.fmmu.proofs.Layouts.{layout, calls, fits-layout}
 use Rattle.fmmu.proofs.Unique.{fmmu-read-back, fmmu-read-determined}
 
 -- what is written is sixteen bytes, whatever the entry
@@ -30,12 +30,12 @@ image-length f = image-is f .long
 -- an entry that fits, written and read, comes back
 pub read-write : (f : Fmmu) → Fits f → fieldsOf (imageOf f) ≡ f
 unfolding fieldsOf imageOf
-read-write f h = images.read-write layout f (fits f h)
+read-write f h = images.read-write layout f (fits-layout f h)
 
 -- so reading what was written gives it back
 pub read-written : (f : Fmmu) → Fits f → readEntry (imageOf f) ≡ accepted f
 unfolding fieldsOf imageOf
-read-written f h = images.image-read layout calls f (fits f h)
+read-written f h = images.read-written layout calls f (fits-layout f h)
 
 -- what sixteen bytes say fits
 pub fields-fit : (l : List ℕ) → Image 16 l → Fits (fieldsOf l)

@@ -7,7 +7,7 @@ use lib.ListN.{getD}
 use Rattle.wire.specs.Outcome.{when}
 use Rattle.wire.proofs.Order.{passed-first}
 use Rattle.wire.proofs.Images.{Layout, Calls}
-use Rattle.wire.proofs.Built.{number, _followed-by_, as-record}
+use Rattle.wire.proofs.Built.{little, _followed-by_, as-record}
 use Rattle.channel_bytes.specs.declared.Control.{Control}
 use Rattle.channel_bytes.specs.declared.Status.{Status}
 use Rattle.channel_bytes.specs.declared.Enable.{Enable}
@@ -30,10 +30,10 @@ values s = (s .«physical_start_address», (s .«length_bytes» .0, (s .control,
 abbrev pub layout : Layout 8 SyncManagerChannel
 layout =
     as-record channel values (λ s. refl) (λ p. refl)
-    (number 2 followed-by number 2 followed-by control-layout followed-by status-layout followed-by enable-layout)
+    (little 2 followed-by little 2 followed-by control-layout followed-by status-layout followed-by enable-layout)
 
-pub fits : (s : SyncManagerChannel) → Fits s → layout .Fits s
-fits s h = (h .start, (h .length, (tt, (tt, tt))))
+pub fits-layout : (s : SyncManagerChannel) → Fits s → layout .Fits s
+fits-layout s h = (h .start, (h .length, (tt, (tt, tt))))
 
 -- 5 is what reading refuses, and writing refuses nothing, besides 1
 abbrev pub calls : Calls layout
@@ -44,5 +44,5 @@ calls =
       InRange = Fits;
       reads = λ l a. rw (a .1 .1 .0);
       accepts = λ l s e. (tt, (tt, (passed-first (when 5 (unnamed (getD l 4 0))) [] (layout .fields l 0) s e .0, (tt, tt))));
-      fits = λ s k h e. fits s h;
+      fits = λ s k h e. fits-layout s h;
     }

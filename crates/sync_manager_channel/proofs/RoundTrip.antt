@@ -18,7 +18,7 @@ use Rattle.sync_manager_channel.specs.declared.SyncManagerChannel.{SyncM
 use Rattle.sync_manager_channel.specs.declared.ChannelRead.{ChannelRead}
 use Rattle.sync_manager_channel.specs.declared.ChannelRead.the-variants.{Channel}
 use Rattle.sync_manager_channel.specs.Image.{channelOf, imageOf, reserved, Fits, readChannel, writeChannel, channelReadOf}
-use Rattle.sync_manager_channel.proofs.Layouts.{layout, calls, fits}
+use Rattle.sync_manager_channel.proofs.Layouts.{layout, calls, fits-layout}
 use Rattle.sync_manager_channel.proofs.Unique.{channel-back, channel-determined}
 
 -- what is written is eight bytes
@@ -32,7 +32,7 @@ image-length s = image-is s .long
 -- a channel that was written is read as it was
 pub read-write : (s : SyncManagerChannel) → Fits s → channelOf (imageOf s) ≡ s
 unfolding channelOf imageOf
-read-write s h = images.read-write layout s (fits s h)
+read-write s h = images.read-write layout s (fits-layout s h)
 
 -- and its image is accepted
 pub written-named : (s : SyncManagerChannel) → unnamed (getD (imageOf s) 4 0) ≡ false
@@ -42,7 +42,7 @@ written-named s = images.image-accepted layout s .1 .1 .0
 -- so reading what was written accepts it and gives it back
 pub read-written : (s : SyncManagerChannel) → Fits s → readChannel (imageOf s) ≡ accepted s
 unfolding channelOf imageOf
-read-written s h = images.image-read layout calls s (fits s h)
+read-written s h = images.read-written layout calls s (fits-layout s h)
 
 -- what eight bytes say fits
 pub fields-fit : (l : List ℕ) → Image 8 l → Fits (channelOf l)

@@ -18,8 +18,8 @@ use Rattle.wire.proofs.Reserved.{exactly, clear-both, clear-first, clea
 use Rattle.wire.proofs.Images.{Layout}
 
 -- a number of w bytes, the low byte first
-abbrev pub number : (w : ℕ) → Layout w ℕ
-number w =
+abbrev pub little : (w : ℕ) → Layout w ℕ
+little w =
     record {
       image = littleOf w;
       fields = λ l at. littleAt l at w;
@@ -102,17 +102,17 @@ reserved-byte =
 
 -- where two images stand after one another, each stands
 module _ {m n : ℕ} {R S : Type 0} (a : Layout m R) (b : Layout n S) (r : R × S) (l : List ℕ) (at : ℕ) (e : spread (m + n) at l ≡ a .image (r .0) ++ b .image (r .1)) where
-  both : spread m at l ++ spread n (at + m) l ≡ a .image (r .0) ++ b .image (r .1)
-  both = sym (spread-append m n at l) ∙ e
+  two-stand : spread m at l ++ spread n (at + m) l ≡ a .image (r .0) ++ b .image (r .1)
+  two-stand = sym (spread-append m n at l) ∙ e
 
-  long : length (spread m at l) ≡ length (a .image (r .0))
-  long = spread-length m at l ∙ sym (a .long (r .0))
+  same-long : length (spread m at l) ≡ length (a .image (r .0))
+  same-long = spread-length m at l ∙ sym (a .long (r .0))
 
   pub first-stands : spread m at l ≡ a .image (r .0)
-  first-stands = sym (take-append-seam (spread m at l) (spread n (at + m) l)) ∙ ap₂ take long both ∙ take-append-seam (a .image (r .0)) (b .image (r .1))
+  first-stands = sym (take-append-seam (spread m at l) (spread n (at + m) l)) ∙ ap₂ take same-long two-stand ∙ take-append-seam (a .image (r .0)) (b .image (r .1))
 
   pub second-stands : spread n (at + m) l ≡ b .image (r .1)
-  second-stands = sym (drop-append-seam (spread m at l) (spread n (at + m) l)) ∙ ap₂ drop long both ∙ drop-append-seam (a .image (r .0)) (b .image (r .1))
+  second-stands = sym (drop-append-seam (spread m at l) (spread n (at + m) l)) ∙ ap₂ drop same-long two-stand ∙ drop-append-seam (a .image (r .0)) (b .image (r .1))
 
 infixr 60 _followed-by_
 -- the one, and then the other

@@ -100,8 +100,8 @@ module _ {n : ℕ} {R : Type 0} (L : Layout n R) (C : Calls L) where
       subst (λ (x : R). (L .image x ≡ l) ↔ Clear (L .reserved 0) l) (sym is) both
 
   -- an image is read as its record
-  pub image-read : (r : R) → L .Fits r → reading (L .image r) ≡ accepted r
-  image-read r h =
+  pub read-written : (r : R) → L .Fits r → reading (L .image r) ≡ accepted r
+  read-written r h =
       let l = L .image r in
       rw (eq-eqb (length l) n (L .long r)) (C .reads l (image-accepted L r) ∙ ap accepted (read-write L r h))
 
@@ -113,4 +113,4 @@ module _ {n : ℕ} {R : Type 0} (L : Layout n R) (C : Calls L) where
       let all = passed (when 1 (notLong n room) ∷ C .unwritten r) n k (accepted n) e in
       let long : length (L .image r) ≡ length room = L .long r ∙ sym (is-long n room (p .0)) in
       let stands : after ≡ L .image r = x .holds ∙ ap (λ (o : Outcome ℕ). roomAfter o (L .image r) room) all ∙ over-same (L .image r) room long in
-      ap reading stands ∙ image-read r (C .fits r k t (p .1))
+      ap reading stands ∙ read-written r (C .fits r k t (p .1))
