@@ -64,7 +64,8 @@ pub accepted-comes-back : (l : List ℕ) (f : Fmmu) → Bytes l → accepted f �
 unfolding fieldsOf imageOf
 accepted-comes-back l f h e = images.accepted-comes-back layout calls l f h e
 
--- an entry that `pack_to_slice` has written, by its promise, comes back from that room by the promise of `unpack_from_slice`
+-- an entry that `pack_to_slice` has written, by its promise, comes back from that room by the promise of `unpack_from_slice`;
+-- its numbers are in range at every call (`in-range`, beside the proof of `pack_to_slice`)
 pub written-comes-back :
     (f : Fmmu) (k : ℕ) {room after : List ℕ} {w : Written} {r : FmmuRead} → InRange f → InRoom (writeEntry f room) (imageOf f) room w after → w ≡ Len k
     → fmmuReadOf r ≡ readEntry after → r ≡ Entry f

@@ -21,7 +21,7 @@ use Rattle.sync_manager_channel.specs.Image.{channelOf, imageOf, reserve
 use Rattle.sync_manager_channel.proofs.Layouts.{layout, calls, fits-layout}
 use Rattle.sync_manager_channel.proofs.Unique.{channel-back, channel-determined}
 
--- what is written is eight bytes
+-- what is written is eight bytes, whatever the channel
 pub image-is : (s : SyncManagerChannel) → Image 8 (imageOf s)
 unfolding imageOf
 image-is s = images.image-is layout s
@@ -29,7 +29,7 @@ image-is s = images.image-is layout s
 pub image-length : (s : SyncManagerChannel) → length (imageOf s) ≡ 8
 image-length s = image-is s .long
 
--- a channel that was written is read as it was
+-- a channel that fits, written and read, comes back
 pub read-write : (s : SyncManagerChannel) → Fits s → channelOf (imageOf s) ≡ s
 unfolding channelOf imageOf
 read-write s h = images.read-write layout s (fits-layout s h)
@@ -51,7 +51,12 @@ fields-fit l h =
     let p = layout .fit l 0 (h .bytes) in
     record { start = p .0; length = p .1 .0 }
 
--- whatever is written, its reserved bits are 0
+-- reading drops the reserved bits: what was read, written and read again is what was read
+pub reading-drops-reserved : (l : List ℕ) → Image 8 l → channelOf (imageOf (channelOf l)) ≡ channelOf l
+unfolding channelOf imageOf
+reading-drops-reserved l h = images.reading-drops-reserved layout l h
+
+-- writing leaves every reserved bit 0, whatever the channel
 pub writing-clears-reserved : (s : SyncManagerChannel) → Clear reserved (imageOf s)
 unfolding imageOf
 writing-clears-reserved s = images.writing-clears-reserved layout s
@@ -66,12 +71,8 @@ pub accepted-comes-back : (l : List ℕ) (s : SyncManagerChannel) → Bytes l �
 unfolding channelOf imageOf
 accepted-comes-back l s h e = images.accepted-comes-back layout calls l s h e
 
--- reading drops the reserved bits: bytes that are read, written and read again say the same
-pub reading-drops-reserved : (l : List ℕ) → Image 8 l → channelOf (imageOf (channelOf l)) ≡ channelOf l
-unfolding channelOf imageOf
-reading-drops-reserved l h = images.reading-drops-reserved layout l h
-
--- a channel that `pack_to_slice` has written, by its promise, comes back from that room by the promise of `unpack_from_slice`
+-- a channel that `pack_to_slice` has written, by its promise, comes back from that room by the promise of `unpack_from_slice`;
+-- its numbers are in range at every call (`in-range`, beside the proof of `pack_to_slice`)
 pub written-comes-back :
     (s : SyncManagerChannel) (k : ℕ) {room after : List ℕ} {w : Written} {r : ChannelRead} → Fits s → InRoom (writeChannel room) (imageOf s) room w after → w ≡ Len k
     → channelReadOf r ≡ readChannel after → r ≡ Channel s

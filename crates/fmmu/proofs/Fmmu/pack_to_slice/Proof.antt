@@ -6,9 +6,14 @@ use Prim.Native.Nat.{ℕ}
 use denote.Ref.{now}
 use Rattle.wire.specs.Room.{over}
 use borrow.Author.Tests.{eq-eqb, ne-eqb}
+use Rattle.fmmu.specs.Image.{InRange}
 use borrow.Author.Needs.{needs}
 use Rattle.fmmu.proofs.Fmmu.pack_to_slice.Statement.{statement}
 use Rattle.fmmu.proofs.Fmmu.pack_to_slice.Tie as tie
+
+-- at every call the numbers are in the range of their types
+pub in-range : (c : tie.Start) → InRange (c .args .self)
+in-range c = record { start = search needs; size = search needs; physical = search needs }
 
 returns : tie.Need-returns
 returns c = simp (ne-eqb _ _ (c .if1 .taken)) (record { says = refl; holds = refl })
