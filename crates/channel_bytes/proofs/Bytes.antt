@@ -13,7 +13,7 @@ use Rattle.channel_bytes.specs.declared.Control.{Control}
 use Rattle.channel_bytes.specs.declared.Status.{Status}
 use Rattle.channel_bytes.specs.declared.Enable.{Enable}
 use Rattle.channel_bytes.specs.Bytes.{modeNumber, directionNumber, stateNumber, controlByte, statusByte, enableLow, enableHigh}
-use Rattle.channel_bytes.proofs.Packed.{Field, field, flag, reserve, Laid, laid}
+use Rattle.wire.proofs.Packed.{Field, field, flag, reserve, Laid, laid}
 
 pub mode-lt : (m : OperationMode) → modeNumber m < 4
 mode-lt Normal = omega arith

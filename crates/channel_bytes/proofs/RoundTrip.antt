@@ -17,7 +17,8 @@ use Rattle.channel_bytes.specs.declared.BufferState.the-variants.{First,
 use Rattle.channel_bytes.specs.declared.Control.{Control}
 use Rattle.channel_bytes.specs.declared.Status.{Status}
 use Rattle.channel_bytes.specs.declared.Enable.{Enable}
-use Rattle.channel_bytes.specs.Bytes.{modeNumber, modeAt, modeNamed, directionNumber, directionAt, directionNamed, stateNumber, stateAt, controlAt, unnamed, controlByte, statusAt, statusByte, enableAt, enableLow, enableHigh}
+use Rattle.channel_bytes.specs.Bytes.{modeNumber, modeAt, modeNamed, directionNumber, directionAt, directionNamed, stateNumber, stateAt}
+use Rattle.channel_bytes.specs.Bytes.{controlAt, unnamed, controlByte, statusAt, statusByte, enableAt, enableLow, enableHigh}
 use Rattle.channel_bytes.proofs.Bytes.{control-laid, status-laid, low-laid, high-laid}
 
 mode-back : (m : OperationMode) → modeAt (modeNumber m) ≡ m

@@ -41,6 +41,12 @@ imageOf f =
     ++ littleOf 2 (f .«physical_start_address»)
     ++ (f .«physical_start_bit» % 8 ∷ (bit (f .«read_enable») + 2 * bit (f .«write_enable»)) ∷ bit (f .enable) ∷ 0 ∷ 0 ∷ 0 ∷ [])
 
+-- the addresses and the length are in the range of their types: four bytes and two
+pub record InRange (f : Fmmu) : Type 0 where
+  pub start : f .«logical_start_address» < 256 ^ 4
+  pub size : f .«length_bytes» .0 < 256 ^ 2
+  pub physical : f .«physical_start_address» < 256 ^ 2
+
 -- each number of a record fits its width in the image
 pub record Fits (f : Fmmu) : Type 0 where
   pub start : f .«logical_start_address» < 256 ^ 4

@@ -1,8 +1,9 @@
 // src/fmmu.rs: one entry of the fieldbus memory management unit, its image of sixteen bytes and its text.
 ghost use mathlib.Core.Path.{_≡_};
 ghost use Rattle.wire.specs.Room.{InRoom, textIn};
+ghost use Rattle.wire.specs.Text.{page, Types};
 ghost use Rattle.fmmu.specs.Image.{fieldsOf, imageOf, tooWide, readEntry, writeEntry, fmmuReadOf};
-ghost use Rattle.fmmu.specs.Text.{fmmuText};
+ghost use Rattle.fmmu.specs.Text.{logicalText, accessText, physicalText, fmmuText};
 use pdi::ByteLen;
 use wire::Written;
 
@@ -122,22 +123,44 @@ impl Fmmu {
         ensures { λ r. ⌜ InRoom (textIn (fmmuText self) (now (room .entry))) (fmmuText self) (now (room .entry)) r (now (room .exit)) ⌝ }
     {
         let mut text = [0u8; 128];
-        let logical = fmmu_text::put_logical(
-            &mut text,
-            self.logical_start_address,
-            self.logical_start_bit,
-            self.length_bytes.0,
-            self.logical_end_bit,
-        );
-        let n = fmmu_text::put_physical(
-            &mut text,
-            logical,
-            self.physical_start_address,
-            self.physical_start_bit,
-            self.read_enable,
-            self.write_enable,
-            self.enable,
-        );
+        let logical = self.put_logical(&mut text);
+        let n = self.put_physical(&mut text, logical);
         wire::write_text(&text[..n], room)
+    }
+
+    // The half about the process data image, at the room's front.
+    fn put_logical(self, room: &mut [u8]) -> usize
+        ensures { λ r. ⌜ Types (page (now (room .entry)) 0) (page (now (room .exit)) r) (logicalText self) ⌝ }
+    {
+        let start_bit = self.logical_start_bit;
+        let end_bit = self.logical_end_bit;
+        let mut at = wire::put_hex8(room, 0, b"logical start 0x", self.logical_start_address);
+        at = wire::put_decimal(room, at, b":", start_bit as u16);
+        at = wire::put_decimal(room, at, b", size ", self.length_bytes.0);
+        wire::put_decimal(room, at, b", logical end bit ", end_bit as u16)
+    }
+
+    // The half about the device.
+    fn put_physical(self, room: &mut [u8], from: usize) -> usize
+        ensures { λ r. ⌜ Types (page (now (room .entry)) from) (page (now (room .exit)) r) (physicalText self) ⌝ }
+    {
+        let start_bit = self.physical_start_bit;
+        let mut at = wire::put_hex4(
+            room,
+            from,
+            b", physical start 0x",
+            self.physical_start_address,
+        );
+        at = wire::put_decimal(room, at, b":", start_bit as u16);
+        self.put_access(room, at)
+    }
+
+    // What it lets through, and whether it is on.
+    fn put_access(self, room: &mut [u8], from: usize) -> usize
+        ensures { λ r. ⌜ Types (page (now (room .entry)) from) (page (now (room .exit)) r) (accessText self) ⌝ }
+    {
+        let mut at = wire::put_either(room, from, self.read_enable, b", R", b", ");
+        at = wire::put_either(room, at, self.write_enable, b"W, ", b"O, ");
+        wire::put_either(room, at, self.enable, b"enabled", b"disabled")
     }
 }

@@ -11,7 +11,7 @@ use Rattle.channel_bytes.specs.declared.OperationMode.the-variants.{Normal, Mai
 use Rattle.channel_bytes.specs.declared.Direction.{Direction}
 use Rattle.channel_bytes.specs.declared.Direction.the-variants.{MasterRead, MasterWrite}
 use Rattle.sync_manager_channel.specs.declared.SyncManagerChannel.{SyncManagerChannel}
-use Rattle.sync_manager_channel.specs.Text.{areaText, directionName, modeName, stateText, channelText}
+use Rattle.sync_manager_channel.specs.Text.{areaText, directionName, modeName, settingsText, channelText}
 
 direction-length : (d : Direction) → length (directionName d) ≤ 11
 direction-length MasterRead = omega arith
@@ -26,7 +26,7 @@ enabled-length true = omega arith
 enabled-length false = omega arith
 
 pub channel-length : (s : SyncManagerChannel) → length (channelText s) ≤ 96
-unfolding channelText areaText stateText
+unfolding channelText areaText settingsText
 channel-length s =
     let n = decimal-length (s .«length_bytes» .0) in
     let d = direction-length (s .control .direction) in

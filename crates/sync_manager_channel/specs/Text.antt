@@ -34,12 +34,12 @@ abbrev pub modeText : OperationMode → List ℕ
 modeText m = (44 ∷ 32 ∷ 109 ∷ 111 ∷ 100 ∷ 101 ∷ 32 ∷ modeName m)
 
 -- , direction MasterWrite, mode Mailbox, enabled
-unfoldable pub stateText : SyncManagerChannel → List ℕ
-stateText s =
+unfoldable pub settingsText : SyncManagerChannel → List ℕ
+settingsText s =
     directionText (s .control .direction)
     ++ modeText (s .control .«operation_mode»)
     ++ (44 ∷ 32 ∷ [])
     ++ enabledText (s .enable .enable)
 
 unfoldable pub channelText : SyncManagerChannel → List ℕ
-channelText s = areaText s ++ stateText s
+channelText s = areaText s ++ settingsText s

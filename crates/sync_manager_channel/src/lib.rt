@@ -3,7 +3,7 @@ ghost use mathlib.Core.Path.{_≡_};
 ghost use Rattle.wire.specs.Room.{InRoom, textIn};
 ghost use Rattle.wire.specs.Text.{page, Types};
 ghost use Rattle.sync_manager_channel.specs.Image.{imageOf, readChannel, writeChannel, channelReadOf};
-ghost use Rattle.sync_manager_channel.specs.Text.{areaText, directionText, modeText, stateText, channelText};
+ghost use Rattle.sync_manager_channel.specs.Text.{areaText, directionText, modeText, settingsText, channelText};
 pub use channel_bytes::BufferState;
 pub use channel_bytes::Control;
 pub use channel_bytes::ControlRead;
@@ -99,7 +99,7 @@ impl SyncManagerChannel {
     {
         let mut text = [0u8; 96];
         let area = self.put_area(&mut text);
-        let n = self.put_state(&mut text, area);
+        let n = self.put_settings(&mut text, area);
         wire::write_text(&text[..n], room)
     }
 
@@ -112,8 +112,8 @@ impl SyncManagerChannel {
         wire::put_bytes(room, at, b")")
     }
 
-    fn put_state(self, room: &mut [u8], from: usize) -> usize
-        ensures { λ r. ⌜ Types (page (now (room .entry)) from) (page (now (room .exit)) r) (stateText self) ⌝ }
+    fn put_settings(self, room: &mut [u8], from: usize) -> usize
+        ensures { λ r. ⌜ Types (page (now (room .entry)) from) (page (now (room .exit)) r) (settingsText self) ⌝ }
     {
         let control = self.control;
         let direction = control.direction;

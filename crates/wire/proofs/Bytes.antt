@@ -1,25 +1,22 @@
 -- Numbers that their bytes bound, and lists that hold nothing but bytes.
 -- Assumes nothing.
+use mathlib.Core.Path.{_≡_, refl, ap}
 use mathlib.Core.List.{List, [], _∷_, _++_}
 use Prim.Native.Nat.{ℕ, zero, suc, _+_, _/_, _^_, _<_}
 use native.Mathlib.Nat.{pow-suc}
 use native.Mathlib.Omega.{arith}
-use lib.ListN.{getD}
+use lib.ListN.{length, getD}
 use Rattle.wire.specs.Number.{littleAt, littleOf}
-use Rattle.wire.specs.Image.{Image}
+use Rattle.wire.specs.Image.{Bytes}
 
--- n bytes of an image are a number below 256 ^ n
-pub little-fits : {m : ℕ} {l : List ℕ} (n at : ℕ) → Image m l → littleAt l at n < 256 ^ n
+-- n bytes are a number below 256 ^ n
+pub little-fits : {l : List ℕ} (n at : ℕ) → Bytes l → littleAt l at n < 256 ^ n
 little-fits zero at h = omega arith
-little-fits {m} {l} (suc n) at h =
+little-fits {l} (suc n) at h =
     let p = pow-suc 256 n in
-    let b = h .bytes at in
+    let b = h .below at in
     let r = little-fits n (at + 1) h in
     omega arith
-
--- a list that holds nothing but bytes
-pub record Bytes (l : List ℕ) : Type 0 where
-  pub below : (k : ℕ) → getD l k 0 < 256
 
 pub no-bytes : Bytes []
 no-bytes = record { below = λ k. omega arith }
@@ -38,7 +35,11 @@ append-bytes {l} {m} hl hm = go l hl
     go [] h = hm
     go (x ∷ l) h = cons-bytes (h .below 0) (go l (record { below = λ k. h .below (suc k) }))
 
--- the bytes of a number
+-- the bytes of a number, and how many they are
 pub little-bytes : (n x : ℕ) → Bytes (littleOf n x)
 little-bytes zero x = no-bytes
 little-bytes (suc n) x = cons-bytes (omega arith) (little-bytes n (x / 256))
+
+pub little-length : (n x : ℕ) → length (littleOf n x) ≡ n
+little-length zero x = refl
+little-length (suc n) x = ap suc (little-length n (x / 256))

@@ -28,7 +28,9 @@ weight-next base zero weight h l e = absurd (omega arith)
 weight-next base (suc n) weight h l e = rw (sub-one, e ∙ weight-is base n h)
 
 -- a turn of the loop: the high digit is typed, the others are left
-pub digits-turn : (base x left weight : ℕ) {p q : Page} → 0 < base → 0 < left → weight ≡ base ^ left / base → Types p q (glyphOf (x / weight % base) ∷ []) → typedAll q (digitsOf base (left - 1) x) ≡ typedAll p (digitsOf base left x)
+pub digits-turn :
+    (base x left weight : ℕ) {p q : Page} → 0 < base → 0 < left → weight ≡ base ^ left / base
+    → Types p q (glyphOf (x / weight % base) ∷ []) → typedAll q (digitsOf base (left - 1) x) ≡ typedAll p (digitsOf base left x)
 unfolding typedAll digitsOf
 digits-turn base x zero weight h l e t = absurd (omega arith)
 digits-turn base x (suc n) weight h l e t = rw (sub-one, t .is, e ∙ weight-is base n h)

@@ -12,3 +12,6 @@ pub mod Order
 pub mod Pins
 pub mod Stated
 pub mod Unique
+pub mod Packed
+pub mod Images
+pub mod Built

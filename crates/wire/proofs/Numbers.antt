@@ -1,15 +1,15 @@
 -- Little-endian numbers over any width, and an image written out over any length.
 -- Assumes nothing.
 use mathlib.Core.Path.{_≡_, refl, sym, _∙_, ap, ap₂}
-use mathlib.Core.List.{List, [], _∷_}
+use mathlib.Core.List.{List, [], _∷_, _++_}
 use Prim.Native.Nat.{ℕ, zero, suc, _+_, _*_, _/_, _%_, _^_, _<_}
-use native.Mathlib.Nat.{pow-suc}
+use native.Mathlib.Nat.{add-zero, zero-add, pow-suc}
 use native.Mathlib.Numerals.{add-one}
 use native.Mathlib.Omega.{arith}
 use lib.ListN.{length, getD, drop}
 use lib.Seq.{drop-cons, drop-length}
 use Rattle.wire.specs.Number.{littleAt, littleOf}
-use Rattle.wire.specs.Image.{Image}
+use Rattle.wire.specs.Image.{Bytes, Image}
 
 -- the number that x's n bytes are: what `littleAt` of a list that begins with them computes to
 abbrev pub joined : ℕ → ℕ → ℕ
@@ -38,11 +38,29 @@ spread-from (suc n) at l e =
 pub spread-is : {n : ℕ} {l : List ℕ} → Image n l → spread n 0 l ≡ l
 spread-is {n} {l} h = spread-from n 0 l (omega arith)
 
+-- those bytes in two parts, and how many they are
+pub spread-append : (m n at : ℕ) (l : List ℕ) → spread (m + n) at l ≡ spread m at l ++ spread n (at + m) l
+spread-append zero n at l = rw (zero-add n, add-zero at)
+spread-append (suc m) n at l =
+    let s : suc m + n ≡ suc (m + n) = omega arith in
+    let p : at + 1 + m ≡ at + suc m = omega arith in
+    ap (λ (k : ℕ). spread k at l) s ∙ ap (λ (t : List ℕ). getD l at 0 ∷ t) (spread-append m n (at + 1) l ∙ ap (λ (k : ℕ). spread m (at + 1) l ++ spread n k l) p)
+
+pub spread-length : (n at : ℕ) (l : List ℕ) → length (spread n at l) ≡ n
+spread-length zero at l = refl
+spread-length (suc n) at l = ap suc (spread-length n (at + 1) l)
+
+-- bytes of a number that stand in a list
+pub little-stands : (n x : ℕ) (l : List ℕ) (at : ℕ) → spread n at l ≡ littleOf n x → littleAt l at n ≡ joined n x
+little-stands zero x l at e = refl
+little-stands (suc n) x l at e =
+    ap₂ (λ (b r : ℕ). b + 256 * r) (ap (λ (m : List ℕ). getD m 0 0) e) (little-stands n (x / 256) l (at + 1) (ap (drop 1) e))
+
 -- a number read and written
-pub little-back : {m : ℕ} {l : List ℕ} (n at : ℕ) → Image m l → littleOf n (littleAt l at n) ≡ spread n at l
-little-back {m} {l} zero at h = refl
-little-back {m} {l} (suc n) at h =
-    let b = h .bytes at in
+pub little-back : {l : List ℕ} (n at : ℕ) → Bytes l → littleOf n (littleAt l at n) ≡ spread n at l
+little-back zero at h = refl
+little-back {l} (suc n) at h =
+    let b = h .below at in
     let v = littleAt l (at + 1) n in
     let e : (getD l at 0 + 256 * v) / 256 ≡ v = omega arith in
     ap₂ (λ (x : ℕ) (t : List ℕ). x ∷ t) (omega arith) (ap (littleOf n) e ∙ little-back n (at + 1) h)

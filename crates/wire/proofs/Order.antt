@@ -11,6 +11,14 @@ use Rattle.wire.specs.Outcome.{Outcome, refused, accepted, Refusal, firs
 pub never : {A : Type 0} {n : ℕ} {x : A} → refused n ≡ accepted x → ⊥
 never {A} {n} {x} e = let z : _≡_ {A = ℕ} 0 1 = cc in omega arith
 
+-- accepted: the first refusal doesn't hold, and the others accept too
+pub passed-first : {A : Type 0} (r : Refusal) (rs : List Refusal) (x b : A) → accepted b ≡ decide (r ∷ rs) x → (r .holds ≡ false) × (accepted b ≡ decide rs x)
+passed-first {A} r rs x b e = go (r .holds) e
+  where
+    go : (t : Bool) → accepted b ≡ cond t (refused (r .number)) (decide rs x) → (t ≡ false) × (accepted b ≡ decide rs x)
+    go true h = absurd (never (sym h))
+    go false h = (refl, h)
+
 -- accepted: it is that answer, and what comes after the refusals is reached
 pub passed-answer : {A : Type 0} (rs : List Refusal) (x b : A) → accepted b ≡ decide rs x → b ≡ x
 passed-answer [] x b e = cc

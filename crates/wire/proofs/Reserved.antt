@@ -1,12 +1,14 @@
--- Reserved bits of a byte that is read and written: it comes back exactly if they are 0.
+-- Reserved bits: a byte that is read and written comes back exactly if they are 0; the reserved parts of two layouts together.
 -- Assumes nothing.
 use mathlib.Core.Path.{_≡_, refl, subst}
 use mathlib.Core.Bool.{Bool, true, false, false≢true, _||_}
 use mathlib.Core.Logic.{_↔_}
+use mathlib.Core.List.{List, [], _∷_, _++_}
 use Prim.Native.Nat.{ℕ, _<_}
 use lib.Dec.{T, eqb}
 use borrow.Author.Tests.{eq-eqb, eqb-true}
 use Rattle.wire.specs.Field.{bitsAt}
+use Rattle.wire.specs.Image.{Part, Clear}
 use Rattle.wire.proofs.Below.{all, below}
 
 -- the same truth
@@ -36,3 +38,16 @@ pub exactly-accepted :
 exactly-accepted refused back shift width t b h e =
     together (back b) b (bitsAt b shift width) 0
     (subst (λ (r : Bool). T (r || alike (eqb (back b) b) (eqb (bitsAt b shift width) 0))) e (below (λ k. refused k || alike (eqb (back k) k) (eqb (bitsAt k shift width) 0)) 256 t b h))
+
+-- parts of two lists that are 0
+pub clear-both : (ps qs : List Part) (l : List ℕ) → Clear ps l → Clear qs l → Clear (ps ++ qs) l
+clear-both [] qs l z y = y
+clear-both (p ∷ ps) qs l z y = (z .0, clear-both ps qs l (z .1) y)
+
+pub clear-first : (ps qs : List Part) (l : List ℕ) → Clear (ps ++ qs) l → Clear ps l
+clear-first [] qs l z = tt
+clear-first (p ∷ ps) qs l z = (z .0, clear-first ps qs l (z .1))
+
+pub clear-second : (ps qs : List Part) (l : List ℕ) → Clear (ps ++ qs) l → Clear qs l
+clear-second [] qs l z = z
+clear-second (p ∷ ps) qs l z = clear-second ps qs l (z .1)

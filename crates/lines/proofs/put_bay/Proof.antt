@@ -30,7 +30,11 @@ same-length c = search needs
 returns : tie.Need-returns
 unfolding bayText
 returns c =
-    then (then (then (c .before .before .before .before .before .before .before .before .before .before .before .before .before .before .before .put-segment .ensures) (c .before .before .before .before .before .before .before .before .before .before .put-segment2 .ensures)) (c .before .before .before .before .before .before .put-channels .ensures)) (c .before .before .put-entries .ensures)
+    let entries = c .before .before in
+    let channels = entries .before .before .before .before in
+    let outputs = channels .before .before .before .before in
+    let inputs = outputs .before .before .before .before .before in
+    then (then (then (inputs .put-segment .ensures) (outputs .put-segment2 .ensures)) (channels .put-channels .ensures)) (entries .put-entries .ensures)
 
 pub put-bay-spec : {M : Type 1} → statement M
 put-bay-spec =

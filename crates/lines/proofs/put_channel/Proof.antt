@@ -39,11 +39,15 @@ same-length c = search needs
 
 returns : tie.Need-returns
 returns c =
-    let u = c .before .before .before .before .before .before .before .before .before .before .before .before .before .before .before .before in
+    let shown = c .before .before in
+    let front = shown .before .before .before .before .before in
+    let text = front .before .before .before .before in
+    let m = text .before .before .before in
+    let s = m .channel .given in
+    let u = m .before .before in
     let a = u .before .before .args in
-    let s = c .before .before .before .before .before .before .before .before .before .before .before .before .before .before .channel .given in
     image-typed (a .k) (a .image) (u .unpack .result) (u .unpack .ensures) (s .0 .0) (s .1)
-    (line-typed (channel-length (s .0 .0)) (c .before .before .before .before .before .before .before .before .before .before .before .fmt .ensures) (c .before .before .before .before .before .before .before .put-front .ensures) (c .before .before .put-shown .ensures))
+    (line-typed (channel-length (s .0 .0)) (text .fmt .ensures) (front .put-front .ensures) (shown .put-shown .ensures))
 
 returns-2 : tie.Need-returns-2
 returns-2 c =

@@ -40,10 +40,14 @@ same-length c = search needs
 
 returns-2 : tie.Need-returns-2
 returns-2 c =
-    let u = c .before .before .before .before .before .before .before .before .before .before .before .before .before .before .before in
+    let shown = c .before .before in
+    let front = shown .before .before .before .before .before in
+    let text = front .before .before .before .before in
+    let test = text .before .before in
+    let u = test .before .before in
     let a = u .before .before .args in
-    entry-typed (a .k) (a .image) (u .unpack .result) (u .unpack .ensures) (not-false _ (c .before .before .before .before .before .before .before .before .before .before .before .before .before .if1 .left))
-    (line-typed (fmmu-length (u .unpack .result)) (c .before .before .before .before .before .before .before .before .before .before .before .fmt .ensures) (c .before .before .before .before .before .before .before .put-front .ensures) (c .before .before .put-shown .ensures))
+    entry-typed (a .k) (a .image) (u .unpack .result) (u .unpack .ensures) (not-false _ (test .if1 .left))
+    (line-typed (fmmu-length (u .unpack .result)) (text .fmt .ensures) (front .put-front .ensures) (shown .put-shown .ensures))
 
 pub put-entry-spec : {M : Type 1} → statement M
 put-entry-spec =

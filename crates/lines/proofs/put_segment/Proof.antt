@@ -25,7 +25,11 @@ same-length : tie.Need-same-length
 same-length c = search needs
 
 returns : tie.Need-returns
-returns c = line-typed (segment-length (c .before .before .before .before .before .before .before .before .before .before .before .before .before .before .args .segment)) (c .before .before .before .before .before .before .before .before .before .before .fmt .ensures) (c .before .before .before .before .before .before .before .put-bytes .ensures) (c .before .before .put-shown .ensures)
+returns c =
+    let shown = c .before .before in
+    let front = shown .before .before .before .before .before in
+    let text = front .before .before .before in
+    line-typed (segment-length (text .before .before .before .before .args .segment)) (text .fmt .ensures) (front .put-bytes .ensures) (shown .put-shown .ensures)
 
 pub put-segment-spec : {M : Type 1} → statement M
 put-segment-spec =

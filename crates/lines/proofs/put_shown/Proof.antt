@@ -46,16 +46,20 @@ same-length c = search needs
 
 returns : tie.Need-returns
 returns c =
-    let t = c .before .before .before .before .before .before .before .before in
+    let text = c .before .before .before .before .before .before .before in
+    let t = text .before in
     let l = now (t .before .before .before .before .before .before .before .before .args .text) in
     let n = t .before .before .before .before .written .given in
-    front-typed l (n .0 .0) (t .before .before .least .result) (t .before .before .least .ensures) (n .1) (c .before .before .before .before .before .before .before .put-bytes .ensures) (c .before .before .put-bytes2 .ensures)
+    front-typed l (n .0 .0) (t .before .before .least .result) (t .before .before .least .ensures) (n .1) (text .put-bytes .ensures) (c .before .before .put-bytes2 .ensures)
 
 same-length-2 : tie.Need-same-length-2
 same-length-2 c = search needs
 
 returns-2 : tie.Need-returns-2
-returns-2 c = none-typed (now (c .before .before .before .before .before .before .before .before .before .args .text)) (c .before .before .before .before .before .enum-told .given .0 .0) (c .before .before .before .before .before .enum-told .given .1) (c .before .before .put-bytes3 .ensures)
+returns-2 c =
+    let told = c .before .before .before .before .before in
+    let n = told .enum-told .given in
+    none-typed (now (told .before .before .before .before .args .text)) (n .0 .0) (n .1) (c .before .before .put-bytes3 .ensures)
 
 pub put-shown-spec : {M : Type 1} → statement M
 put-shown-spec =

@@ -13,7 +13,8 @@ use Rattle.wire.proofs.put_digits.Statement.{statement}
 use Rattle.wire.proofs.put_digits.Tie as tie
 
 abbrev Inv-loop : tie.InvT-loop
-Inv-loop room₀ at x base power count next₀ weight₀ left₀ room next weight left = (1 < base) × (base ≤ 16) × (weight ≡ base ^ left / base) × (length room ≡ length room₀) × (typedAll (page room next) (digitsOf base left x) ≡ typedAll (page room₀ at) (digitsOf base count x))
+Inv-loop room₀ at x base power count next₀ weight₀ left₀ room next weight left =
+    (1 < base) × (base ≤ 16) × (weight ≡ base ^ left / base) × (length room ≡ length room₀) × (typedAll (page room next) (digitsOf base left x) ≡ typedAll (page room₀ at) (digitsOf base count x))
 
 abbrev μ-loop : tie.MeasureT-loop
 μ-loop room₀ at x base power count next₀ weight₀ left₀ room next weight left = left

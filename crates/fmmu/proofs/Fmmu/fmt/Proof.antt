@@ -22,7 +22,7 @@ put-physical-requires : tie.Need-put-physical-requires
 put-physical-requires c κs = search needs
 
 -- what stands in the array
-held : (c : tie.After-put-physical) → Holds (c .put-physical .last .0) (c .put-physical .result) (fmmuText (c .before .before .before .before .before .before .args .self))
+held : (c : tie.After-put-physical) → Holds (c .put-physical .last .1 .0) (c .put-physical .result) (fmmuText (c .before .before .before .before .before .before .args .self))
 unfolding fmmuText
 held c =
     let logical = c .before .before .before in

@@ -56,7 +56,10 @@ bit-of-requires-3 : tie.Need-bit-of-requires-3
 bit-of-requires-3 c κs = search needs
 
 -- the write flag's bit stands above the read flag's
-access : (c : tie.After-bit-of2) → bitOr (c .before .bit-of .result) ((c .bit-of2 .result * 2) % 256) ≡ bit (c .before .before .before .before .before .before .before .before .args .self .«read_enable») + 2 * bit (c .before .before .before .before .before .before .before .before .args .self .«write_enable»)
+access :
+    (c : tie.After-bit-of2) → bitOr (c .before .bit-of .result) ((c .bit-of2 .result * 2) % 256)
+    ≡ bit (c .before .before .before .before .before .before .before .before .args .self .«read_enable»)
+    + 2 * bit (c .before .before .before .before .before .before .before .before .args .self .«write_enable»)
 access c =
     let write = c .bit-of2 in
     above 8 1 1 (write .result) (c .before .bit-of .ensures .0) (omega arith) (write .ensures .1) (omega arith) ∙ omega (arith, write .ensures .0)

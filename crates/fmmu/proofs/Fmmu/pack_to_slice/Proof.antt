@@ -6,9 +6,14 @@ use Prim.Native.Nat.{ℕ}
 use denote.Ref.{now}
 use Rattle.wire.specs.Room.{over}
 use borrow.Author.Tests.{eq-eqb, ne-eqb}
+use Rattle.fmmu.specs.Image.{InRange}
 use borrow.Author.Needs.{needs}
 use Rattle.fmmu.proofs.Fmmu.pack_to_slice.Statement.{statement}
 use Rattle.fmmu.proofs.Fmmu.pack_to_slice.Tie as tie
+
+-- at every call the numbers are in the range of their types
+pub in-range : (c : tie.Start) → InRange (c .args .self)
+in-range c = record { start = search needs; size = search needs; physical = search needs }
 
 returns : tie.Need-returns
 returns c = simp (ne-eqb _ _ (c .if1 .taken)) (record { says = refl; holds = refl })
@@ -34,9 +39,14 @@ same-length c = search needs
 
 returns-3 : tie.Need-returns-3
 returns-3 c =
-    let a = c .before .before .before .before .before .before .before .before .before .before .args in
-    let copied = c .before .before .copy .ensures ∙ ap (λ (l : List ℕ). over l (now (a .buf))) (c .before .before .before .before .before .pack .ensures) in
-    simp (eq-eqb _ _ (c .before .before .before .before .before .before .before .before .if1 .left), sym (c .before .before .before .before .before .before .before .too-wide .ensures) ∙ c .before .before .before .before .before .before .if2 .left) (record { says = refl; holds = copied })
+    let copied = c .before .before in
+    let packed = copied .before .before .before in
+    let narrow = packed .before in
+    let tested = narrow .before in
+    let sixteen = tested .before in
+    let room = now (sixteen .before .before .args .buf) in
+    let holds = copied .copy .ensures ∙ ap (λ (l : List ℕ). over l room) (packed .pack .ensures) in
+    simp (eq-eqb _ _ (sixteen .if1 .left), sym (tested .too-wide .ensures) ∙ narrow .if2 .left) (record { says = refl; holds = holds })
 
 pub pack-to-slice-spec : {M : Type 1} → statement M
 pack-to-slice-spec =

@@ -15,18 +15,18 @@ slice-aggregate-put-area c = search needs
 put-area-requires : tie.Need-put-area-requires
 put-area-requires c κs = search needs
 
-slice-aggregate-put-state : tie.Need-slice-aggregate-put-state
-slice-aggregate-put-state c = search needs
+slice-aggregate-put-settings : tie.Need-slice-aggregate-put-settings
+slice-aggregate-put-settings c = search needs
 
-put-state-requires : tie.Need-put-state-requires
-put-state-requires c κs = search needs
+put-settings-requires : tie.Need-put-settings-requires
+put-settings-requires c κs = search needs
 
 -- what stands in the array
-held : (c : tie.After-put-state) → Holds (c .put-state .last .1 .0) (c .put-state .result) (channelText (c .before .before .before .before .before .before .args .self))
+held : (c : tie.After-put-settings) → Holds (c .put-settings .last .1 .0) (c .put-settings .result) (channelText (c .before .before .before .before .before .before .args .self))
 unfolding channelText
 held c =
     let start = c .before .before .before in
-    holds (channel-length (start .before .before .before .args .self)) (then (start .put-area .ensures) (c .put-state .ensures))
+    holds (channel-length (start .before .before .before .args .self)) (then (start .put-area .ensures) (c .put-settings .ensures))
 
 array-share-prefix-text : tie.Need-array-share-prefix-text
 array-share-prefix-text c = held (c .before) .fits
@@ -49,8 +49,8 @@ fmt-spec =
     (tie.spec
     slice-aggregate-put-area
     put-area-requires
-    slice-aggregate-put-state
-    put-state-requires
+    slice-aggregate-put-settings
+    put-settings-requires
     array-share-prefix-text
     slice-aggregate-write-text
     write-text-requires

@@ -6,11 +6,16 @@ use Prim.Native.Nat.{ℕ}
 use denote.Ref.{now}
 use borrow.Author.Tests.{eq-eqb, ne-eqb}
 use Rattle.wire.specs.Room.{over}
+use Rattle.sync_manager_channel.specs.Image.{Fits}
 use borrow.Author.Needs.{needs}
 use Rattle.sync_manager_channel.proofs.SyncManagerChannel.pack_to_slice.Statement.{
   statement,
 }
 use Rattle.sync_manager_channel.proofs.SyncManagerChannel.pack_to_slice.Tie as tie
+
+-- at every call the numbers are in the range of their types
+pub in-range : (c : tie.Start) → Fits (c .args .self)
+in-range c = record { start = search needs; length = search needs }
 
 returns : tie.Need-returns
 returns c = rw (ne-eqb _ _ (c .if1 .taken)) (record { says = refl; holds = refl })

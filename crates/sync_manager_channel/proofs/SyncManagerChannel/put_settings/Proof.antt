@@ -1,10 +1,10 @@
--- `SyncManagerChannel::put_state`: each part is typed after the one before it.
+-- `SyncManagerChannel::put_settings`: each part is typed after the one before it.
 -- Assumes nothing.
 use Rattle.wire.proofs.Typing.{then}
-use Rattle.sync_manager_channel.specs.Text.{stateText}
+use Rattle.sync_manager_channel.specs.Text.{settingsText}
 use borrow.Author.Needs.{needs}
-use Rattle.sync_manager_channel.proofs.SyncManagerChannel.put_state.Statement.{statement}
-use Rattle.sync_manager_channel.proofs.SyncManagerChannel.put_state.Tie as tie
+use Rattle.sync_manager_channel.proofs.SyncManagerChannel.put_settings.Statement.{statement}
+use Rattle.sync_manager_channel.proofs.SyncManagerChannel.put_settings.Tie as tie
 
 put-direction-requires : tie.Need-put-direction-requires
 put-direction-requires c κs = search needs
@@ -31,7 +31,7 @@ same-length : tie.Need-same-length
 same-length c = search needs
 
 returns : tie.Need-returns
-unfolding stateText
+unfolding settingsText
 returns c =
     let enabled = c .before .before in
     let comma = enabled .before .before .before .before .before .before in
@@ -39,8 +39,8 @@ returns c =
     let direction = mode .before .before .before .before in
     then (then (then (direction .put-direction .ensures) (mode .put-mode .ensures)) (comma .put-bytes .ensures)) (enabled .put-either .ensures)
 
-pub put-state-spec : {M : Type 1} → statement M
-put-state-spec =
+pub put-settings-spec : {M : Type 1} → statement M
+put-settings-spec =
     tie.close
     (tie.spec
     put-direction-requires

@@ -1,10 +1,10 @@
--- `fmmu_text::put_logical`: each part is typed after the one before it.
+-- `fmmu::Fmmu::put_logical`: each part is typed after the one before it.
 -- Assumes nothing.
 use Rattle.wire.proofs.Typing.{then}
-use Rattle.fmmu_text.specs.Text.{logicalText}
+use Rattle.fmmu.specs.Text.{logicalText}
 use borrow.Author.Needs.{needs}
-use Rattle.fmmu_text.proofs.put_logical.Statement.{statement}
-use Rattle.fmmu_text.proofs.put_logical.Tie as tie
+use Rattle.fmmu.proofs.Fmmu.put_logical.Statement.{statement}
+use Rattle.fmmu.proofs.Fmmu.put_logical.Tie as tie
 
 slice-aggregate-put-hex8 : tie.Need-slice-aggregate-put-hex8
 slice-aggregate-put-hex8 c = search needs
@@ -14,6 +14,9 @@ put-hex8-requires c κs = search needs
 
 slice-aggregate-put-decimal : tie.Need-slice-aggregate-put-decimal
 slice-aggregate-put-decimal c = search needs
+
+cast-put-decimal : tie.Need-cast-put-decimal
+cast-put-decimal c = search needs
 
 put-decimal-requires : tie.Need-put-decimal-requires
 put-decimal-requires c κs = search needs
@@ -26,6 +29,9 @@ put-decimal-requires-2 c κs = search needs
 
 slice-aggregate-put-decimal-3 : tie.Need-slice-aggregate-put-decimal-3
 slice-aggregate-put-decimal-3 c = search needs
+
+cast-put-decimal-2 : tie.Need-cast-put-decimal-2
+cast-put-decimal-2 c = search needs
 
 put-decimal-requires-3 : tie.Need-put-decimal-requires-3
 put-decimal-requires-3 c κs = search needs
@@ -49,10 +55,12 @@ put-logical-spec =
     slice-aggregate-put-hex8
     put-hex8-requires
     slice-aggregate-put-decimal
+    cast-put-decimal
     put-decimal-requires
     slice-aggregate-put-decimal-2
     put-decimal-requires-2
     slice-aggregate-put-decimal-3
+    cast-put-decimal-2
     put-decimal-requires-3
     same-length
     returns)

@@ -1,10 +1,10 @@
--- `fmmu_text::put_state`: each part is typed after the one before it.
+-- `fmmu::Fmmu::put_access`: each part is typed after the one before it.
 -- Assumes nothing.
 use Rattle.wire.proofs.Typing.{then}
-use Rattle.fmmu_text.specs.Text.{stateText}
+use Rattle.fmmu.specs.Text.{accessText}
 use borrow.Author.Needs.{needs}
-use Rattle.fmmu_text.proofs.put_state.Statement.{statement}
-use Rattle.fmmu_text.proofs.put_state.Tie as tie
+use Rattle.fmmu.proofs.Fmmu.put_access.Statement.{statement}
+use Rattle.fmmu.proofs.Fmmu.put_access.Tie as tie
 
 slice-aggregate-put-either : tie.Need-slice-aggregate-put-either
 slice-aggregate-put-either c = search needs
@@ -37,15 +37,15 @@ same-length : tie.Need-same-length
 same-length c = search needs
 
 returns : tie.Need-returns
-unfolding stateText
+unfolding accessText
 returns c =
     let enabled = c .before .before in
     let write = enabled .before .before .before .before .before .before in
     let read = write .before .before .before .before .before .before in
     then (then (read .put-either .ensures) (write .put-either2 .ensures)) (enabled .put-either3 .ensures)
 
-pub put-state-spec : {M : Type 1} → statement M
-put-state-spec =
+pub put-access-spec : {M : Type 1} → statement M
+put-access-spec =
     tie.close
     (tie.spec
     slice-aggregate-put-either

@@ -1,2 +1,0 @@
--- The text of an FMMU entry, over plain numbers and flags.
-pub mod Text
