@@ -1,6 +1,9 @@
 // src/subdevice: types.rs (mailboxes) and configuration.rs (the mailbox pass).
 ghost use mathlib.Core.Path.{_≡_};
-ghost use Rattle.mailboxes.specs.Mailbox.{ConfiguresMailboxes};
+ghost use Rattle.grammar.specs.Grammar.{managerPlace};
+ghost use Rattle.sheet.specs.Sheet.{managerAt, sheetData};
+ghost use Rattle.channels.specs.Channels.{written, channelsAfter, channelArea};
+ghost use Rattle.mailboxes.specs.Mailbox.{sizeFor, mailboxSize, laterOf, recordedOf, slotOf, recordOf, ConfiguresMailboxes};
 use pdi::ByteLen;
 use sheet::Answer;
 
@@ -31,8 +34,26 @@ pub enum MailboxRead {
     Refused(u8),
 }
 
-// The mailbox of the sync manager with a number.
-fn mailbox_at(sheet: &[u8], k: u8, size: ByteLen) -> Slot {
+// Writes a mailbox's sync manager: usage 1 with the receive size, usage 2 with the send size.
+fn write_mailbox(channels: &mut [u8], sheet: &[u8], k: u8, receive: ByteLen, send: ByteLen)
+    ensures { λ r. ⌜ now (channels .exit) ≡ channelArea (written k (managerAt (now (sheet .entry)) (managerPlace k)) (sizeFor (receive .0) (send .0) (managerAt (now (sheet .entry)) (managerPlace k)))) (now (channels .entry)) ⌝ }
+{
+    let usage = sheet::usage_of(sheet, k);
+    if usage == 1 {
+        return channels::write_channel(channels, sheet, k, receive);
+    }
+    if usage == 2 {
+        channels::write_channel(channels, sheet, k, send);
+    }
+}
+
+// What is recorded after one more sync manager: itself if it has the usage, else what was recorded so far.
+fn later(before: Slot, sheet: &[u8], k: u8, usage: u8, size: ByteLen) -> Slot
+    ensures { λ r. ⌜ slotOf r ≡ laterOf usage (size .0) (slotOf before) k (managerAt (now (sheet .entry)) (managerPlace k)) ⌝ }
+{
+    if sheet::usage_of(sheet, k) != usage {
+        return before;
+    }
     Slot::At(Mailbox {
         address: sheet::start_of(sheet, k),
         len: size,
@@ -40,8 +61,10 @@ fn mailbox_at(sheet: &[u8], k: u8, size: ByteLen) -> Slot {
     })
 }
 
-// The mailboxes of a sound sheet: recorded, and their sync managers written.
-fn mailboxes_of(sheet: &[u8], channels: &mut [u8]) -> MailboxConfig {
+// The mailboxes of a sheet: recorded, and their sync managers written.
+fn mailboxes_of(sheet: &[u8], channels: &mut [u8]) -> MailboxConfig
+    ensures { λ r. ⌜ (recordOf r ≡ recordedOf (sheetData (now (sheet .entry)))) × (now (channels .exit) ≡ channelArea (channelsAfter (mailboxSize (sheetData (now (sheet .entry)))) 0 (sheetData (now (sheet .entry)) .managers)) (now (channels .entry))) ⌝ }
+{
     let receive = sheet::receive_size(sheet);
     let send = sheet::send_size(sheet);
     let n = grammar::manager_count(sheet);
@@ -49,15 +72,9 @@ fn mailboxes_of(sheet: &[u8], channels: &mut [u8]) -> MailboxConfig {
     let mut write = Slot::None;
     let mut k = 0;
     while k < n {
-        let usage = sheet::usage_of(sheet, k);
-        if usage == 1 {
-            channels::write_channel(channels, sheet, k, receive);
-            write = mailbox_at(sheet, k, receive);
-        }
-        if usage == 2 {
-            channels::write_channel(channels, sheet, k, send);
-            read = mailbox_at(sheet, k, send);
-        }
+        write_mailbox(channels, sheet, k, receive, send);
+        write = later(write, sheet, k, 1, receive);
+        read = later(read, sheet, k, 2, send);
         k += 1;
     }
     MailboxConfig {
