@@ -1,6 +1,8 @@
 -- Laws that belong to no one function, each said once.
 pub mod Lengths
+pub mod Uses
+pub mod Entry
 pub mod Laying
+pub mod Turn
 pub mod Decided
-pub mod Kept
 pub mod Unique

@@ -1,2 +1,2 @@
--- What a pass leaves in the FMMU entries.
-pub mod Entries
+-- What the private parts of writing the entries promise; what a pass leaves stands in `passes`.
+pub mod Lay

@@ -1,9 +1,13 @@
 // The FMMU entries of a pass: `write_fmmu_config` of configuration.rs, over a whole area.
 ghost use mathlib.Core.Path.{_≡_};
+ghost use lib.ListN.{length};
+ghost use Rattle.fmmu.specs.Image.{fieldsOf};
 ghost use Rattle.pdo.specs.Direction.{isRead};
-ghost use Rattle.sheet.specs.Sheet.{managersIn};
+ghost use Rattle.sheet.specs.Sheet.{managersIn, answerOf};
 ghost use Rattle.passes.specs.Handed.{usesBy};
-ghost use Rattle.passes.specs.Entries.{WritesEntries};
+ghost use Rattle.passes.specs.Entries as Entries;
+ghost use Rattle.passes.specs.Entries.{configuredOf, WritesEntries};
+ghost use Rattle.entries.specs.Lay.{becameOf, grows, becomes, takesEntry, entryBy, useAt, laidOne, Short, laidAll, laidOf, segmentTo};
 use fmmu::Fmmu;
 use passes::Configured;
 use passes::Place;
@@ -26,24 +30,29 @@ fn reads(direction: PdoDirection) -> bool
 }
 
 // An entry with a size laid on it, or 8 where it would grow past 65,535 bytes.
-enum Grown {
+enum Became {
     To(Fmmu),
     Refused(u8),
 }
 
 // An enabled entry only has the size added.
-fn grown(before: Fmmu, size: ByteLen) -> Grown {
+fn grown(before: Fmmu, size: ByteLen) -> Became
+    ensures { λ r. ⌜ becameOf r ≡ grows before (size .0) ⌝ }
+{
     let length = (before.length_bytes.0 as u32) + (size.0 as u32);
     if 65535 < length {
-        return Grown::Refused(8);
+        return Became::Refused(8);
     }
+    let sum = ByteLen(length as u16);
     let mut after = before;
-    after.length_bytes = ByteLen(length as u16);
-    Grown::To(after)
+    after.length_bytes = sum;
+    Became::To(after)
 }
 
 // A disabled entry is made new.
-fn mapped(start: u32, size: ByteLen, at: u16, direction: PdoDirection) -> Fmmu {
+fn mapped(start: u32, size: ByteLen, at: u16, direction: PdoDirection) -> Fmmu
+    ensures { λ r. ⌜ r ≡ Entries.mapped direction start (size .0) at ⌝ }
+{
     let read = reads(direction);
     Fmmu {
         logical_start_address: start,
@@ -64,16 +73,20 @@ fn laid_entry(
     size: ByteLen,
     at: u16,
     direction: PdoDirection,
-) -> Grown {
+) -> Became
+    ensures { λ r. ⌜ becameOf r ≡ becomes direction start (size .0) at (fieldsOf image) ⌝ }
+{
     let before = Fmmu::unpack(image);
     if before.enable {
         return grown(before, size);
     }
-    Grown::To(mapped(start, size, at, direction))
+    Became::To(mapped(start, size, at, direction))
 }
 
 // Whether a sync manager of this size uses an entry: by EEPROM even at 0 bits, on the CoE path only with bits.
-fn takes(route: Route, size: ByteLen) -> bool {
+fn takes(route: Route, size: ByteLen) -> bool
+    ensures { λ r. ⌜ r ≡ takesEntry route (size .0) ⌝ }
+{
     if !route.coe {
         return true;
     }
@@ -81,7 +94,9 @@ fn takes(route: Route, size: ByteLen) -> bool {
 }
 
 // Which entry the sync manager with a number uses.
-fn entry_of(route: Route, number: u8) -> usize {
+fn entry_of(route: Route, number: u8) -> usize
+    ensures { λ r. ⌜ r ≡ entryBy route number ⌝ }
+{
     if route.coe {
         return wire::wide(route.entry);
     }
@@ -102,17 +117,20 @@ fn lay_one(
     size: ByteLen,
     at: u16,
     direction: PdoDirection,
-) -> Answer {
+) -> Answer
+    requires { ⌜ length (now entries) ≡ 16 ⌝ }
+    ensures { λ r. ⌜ answerOf r (now (entries .exit)) ≡ laidOne direction start (useAt e (size .0) at) (now (entries .entry)) ⌝ }
+{
     if 15 < e {
         return Answer::Accepted;
     }
     let image = entries[e];
     match laid_entry(image, start, size, at, direction) {
-        Grown::To(entry) => {
+        Became::To(entry) => {
             entries[e] = entry.pack();
             Answer::Accepted
         }
-        Grown::Refused(number) => Answer::Refused(number),
+        Became::Refused(number) => Answer::Refused(number),
     }
 }
 
@@ -124,7 +142,10 @@ fn lay(
     route: Route,
     offset: PdiOffset,
     direction: PdoDirection,
-) -> Laid {
+) -> Laid
+    requires { ⌜ Short (now entries) ⌝ }
+    ensures { λ r. ⌜ laidOf r (now (entries .exit)) ≡ laidAll direction (offset .«start_address») (usesBy route sizes direction (managersIn (now (sheet .entry)))) (now (entries .entry)) ⌝ }
+{
     let usage = direction.filter_terms().usage;
     let n = grammar::manager_count(sheet);
     let mut end = offset.start_address as u64;
@@ -155,7 +176,9 @@ fn lay(
 }
 
 // Where a pass ends, counted from the group start: 9, then 10.
-fn segment_to(end: u64, place: Place) -> Configured {
+fn segment_to(end: u64, place: Place) -> Configured
+    ensures { λ r. ⌜ configuredOf r ≡ segmentTo (place .offset .«start_address») (place .group) end ⌝ }
+{
     let offset = place.offset;
     match PdiOffset::at(end) {
         Moved::To(next) => match offset.up_to(next).less(place.group) {

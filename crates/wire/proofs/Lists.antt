@@ -41,6 +41,12 @@ pub some-miss : (f : ℕ → Bool) (k : ℕ) → someBelow f k ≡ false → f k
 unfolding someBelow
 some-miss f k a b = rw (add-one, a, b)
 
+-- it holds of none
+pub some-none : (f : ℕ → Bool) (n : ℕ) → ((k : ℕ) → k < n → f k ≡ false) → someBelow f n ≡ false
+unfolding someBelow
+some-none f zero h = refl
+some-none f (suc n) h = λ i. some-none f n (λ k s. h k (omega arith)) i || h n (omega arith) i
+
 pub some-same : (f g : ℕ → Bool) (n : ℕ) → ((k : ℕ) → k < n → f k ≡ g k) → someBelow f n ≡ someBelow g n
 unfolding someBelow
 some-same f g zero h = refl

@@ -6,6 +6,7 @@ use Prim.Native.Nat.{ℕ, zero, suc, _+_, _*_, _/_, _%_, _^_, _<_}
 use native.Mathlib.Nat.{add-zero, zero-add, pow-suc}
 use native.Mathlib.Numerals.{add-one}
 use native.Mathlib.Omega.{arith}
+use lib.Arith.{mod-mul}
 use lib.ListN.{length, getD, drop}
 use lib.Seq.{drop-cons, drop-length}
 use Rattle.wire.specs.Number.{littleAt, littleOf}
@@ -64,3 +65,15 @@ little-back {l} (suc n) at h =
     let v = littleAt l (at + 1) n in
     let e : (getD l at 0 + 256 * v) / 256 ≡ v = omega arith in
     ap₂ (λ (x : ℕ) (t : List ℕ). x ∷ t) (omega arith) (ap (littleOf n) e ∙ little-back n (at + 1) h)
+
+-- the n bytes of a number take no notice of what is above them
+pub little-wraps : (n x : ℕ) → littleOf n (x % 256 ^ n) ≡ littleOf n x
+little-wraps zero x = refl
+little-wraps (suc n) x =
+    let y = x / 256 % 256 ^ n in
+    let m : x % 256 ^ suc n ≡ y * 256 + x % 256 = ap (λ (k : ℕ). x % k) (pow-suc 256 n) ∙ mod-mul x (pow-pos n) (omega arith) in
+    ap₂ (λ (a : ℕ) (l : List ℕ). a ∷ l) (ap (λ (k : ℕ). k % 256) m ∙ omega arith) (ap (λ (k : ℕ). littleOf n (k / 256)) m ∙ ap (littleOf n) (omega arith) ∙ little-wraps n (x / 256))
+  where
+    pow-pos : (n : ℕ) → 0 < 256 ^ n
+    pow-pos zero = omega arith
+    pow-pos (suc n) = let p = pow-suc 256 n in let q = pow-pos n in omega arith

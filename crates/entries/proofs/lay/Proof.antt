@@ -1,77 +1,156 @@
--- `entries::lay`: each turn lays one use and moves the offset on.
+-- `entries::lay`: each turn lays the next use of the direction, or finds 8, or passes one sync manager over.
 -- Assumes nothing.
-use mathlib.Core.Path.{_≡_, refl}
-use Prim.Native.Nat.{_-_, _≤_}
+use mathlib.Core.Path.{_≡_, refl, sym, _∙_, ap}
+use mathlib.Core.Logic.{⊎-elim}
+use mathlib.Core.List.{List}
+use Prim.Native.Nat.{ℕ, _+_, _*_, _-_, _≤_}
 use native.Mathlib.Omega.{arith}
 use denote.Ref.{now}
-use lib.ListN.{length, drop}
-use Rattle.area.specs.Area.{entriesOf}
-use Rattle.area.proofs.Flat.{length-chunks}
-use Rattle.passes.specs.Use.{mappedUses}
-use Rattle.uses.proofs.Held.{uses-next, uses-end}
-use Rattle.entries.proofs.Laying.{Laying, laying-starts, laying-fits, laying-reaches, laying-turns, laying-ends}
+use lib.ListN.{getD}
+use borrow.Author.Tests.{ltb-true, ltb-false}
+use Rattle.pdi.specs.declared.ByteLen.{ByteLen}
+use Rattle.grammar.specs.Grammar.{managerCount}
+use Rattle.pdo.specs.declared.Terms.{Terms}
+use Rattle.pdo.specs.Direction.{usageOf}
+use Rattle.channels.specs.Channels.{sizeAt}
+use Rattle.entries.proofs.Laying.{laying-starts, laying-at}
+use Rattle.entries.proofs.Turn.{At, turn-end, turn-other, turn-skip, turn-stops, turn-laid}
+use borrow.Author.Needs.{needs}
 use Rattle.entries.proofs.lay.Statement.{statement}
 use Rattle.entries.proofs.lay.Tie as tie
 
 abbrev Inv-loop : tie.InvT-loop
-Inv-loop area₀ direction mappings next₀ j₀ area next j =
-    (j ≤ mappings .count)
-    × (length area ≡ 256)
-    × Laying (mappedUses mappings) direction next₀ (entriesOf 16 area₀) (drop j (mappedUses mappings)) next (entriesOf 16 area)
+Inv-loop entries₀ sheet route direction sizes usage n end₀ k₀ entries end k =
+    (k ≤ 16) × (end ≤ 4294967295 + 65535 * k) × (n ≡ managerCount sheet) × (usage ≡ usageOf direction) × At sheet route sizes direction end₀ entries₀ k end entries
 
 abbrev μ-loop : tie.MeasureT-loop
-μ-loop area₀ direction mappings next₀ j₀ area next j = mappings .count - j
+μ-loop entries₀ sheet route direction sizes usage n end₀ k₀ entries end k = n - k
+
+filter-terms-requires : tie.Need-filter-terms-requires Inv-loop μ-loop
+filter-terms-requires c κs = tt
+
+manager-count-requires : tie.Need-manager-count-requires Inv-loop μ-loop
+manager-count-requires c κs = tt
+
+cast-end : tie.Need-cast-end Inv-loop μ-loop
+cast-end c = omega arith
 
 loop-holds : tie.Need-loop-holds Inv-loop μ-loop
 loop-holds c =
-    let s = c .before in
-    let a = s .args in
-    (omega arith, s .pre .2, laying-starts (mappedUses (a .t2)) (a .direction) (a .offset .«start_address») (entriesOf 16 (now (a .area))) (s .pre .3))
+    let s = c .before .before .before .before in
+    (omega arith, omega arith, c .before .manager-count .ensures, ap (λ (t : Terms). t .usage) (c .before .before .filter-terms .ensures), laying-starts _ _ _ _ (s .pre))
 
-mul-m : tie.Need-mul-m Inv-loop μ-loop
-mul-m c = omega arith
+usage-of-requires : tie.Need-usage-of-requires Inv-loop μ-loop
+usage-of-requires c κs = tt
 
-element-copy-out-m : tie.Need-element-copy-out-m Inv-loop μ-loop
-element-copy-out-m c = omega arith
+wide-requires : tie.Need-wide-requires Inv-loop μ-loop
+wide-requires c κs = tt
 
-lay-one-requires : tie.Need-lay-one-requires Inv-loop μ-loop
-lay-one-requires c κs =
-    let l = c .before .before .before .loop in
-    let s = c .before .before .before .before .before in
-    (l .inv .1, λ h. laying-fits (l .inv .2) (uses-next (s .args .t2) (l .j) (s .pre .1) (omega arith)) h)
+mul-size : tie.Need-mul-size Inv-loop μ-loop
+mul-size c = omega arith
 
-cast-next : tie.Need-cast-next Inv-loop μ-loop
-cast-next c = omega arith
-
-add-next : tie.Need-add-next Inv-loop μ-loop
-add-next c =
-    let l = c .before .before .before .before .before .before .before .loop in
-    let s = c .before .before .before .before .before .before .before .before .before in
-    let h = laying-reaches (l .inv .2) (uses-next (s .args .t2) (l .j) (s .pre .1) (omega arith)) (s .pre .4) in
+array-copy-out-size : tie.Need-array-copy-out-size Inv-loop μ-loop
+array-copy-out-size c =
+    let t = c .before .before .before in
+    let h = ltb-true (t .before .before .loop .k) 16 (t .if1 .taken) in
+    let w = c .wide .ensures in
     omega arith
 
-add-j : tie.Need-add-j Inv-loop μ-loop
-add-j c = omega arith
+takes-requires : tie.Need-takes-requires Inv-loop μ-loop
+takes-requires c κs = tt
+
+cast-start : tie.Need-cast-start Inv-loop μ-loop
+cast-start c = omega arith
+
+entry-of-requires : tie.Need-entry-of-requires Inv-loop μ-loop
+entry-of-requires c κs = tt
+
+start-of-requires : tie.Need-start-of-requires Inv-loop μ-loop
+start-of-requires c κs = tt
+
+lay-one-requires : tie.Need-lay-one-requires Inv-loop μ-loop
+lay-one-requires c κs = let l = c .before .before .before .before .before .before .before .before .before .before .before .loop in l .inv .4 .short .many
+
+enum-known-number : tie.Need-enum-known-number Inv-loop μ-loop
+enum-known-number c = search needs
+
+returns : tie.Need-returns Inv-loop μ-loop
+returns c =
+    let n = c .before .number .given in
+    let y = c .before .before .before in
+    let t = y .before .before .before .before .before in
+    let w = t .before .before in
+    let u = w .before .before in
+    let l = u .before .before .before .loop in
+    let a = u .before .before .before .before .before .before .before .before .args in
+    turn-stops (now (a .sheet)) (a .route) (a .t3) (a .direction) (a .offset .«start_address») (now (a .entries)) (l .inv .4) (omega arith)
+    (ltb-true (l .k) 16 (u .before .if1 .taken)) (sym (u .usage-of .ensures) ∙ w .before .if2 .taken ∙ l .inv .3) (ap (sizeAt (a .t3)) (w .wide .ensures .0))
+    (sym (t .takes .ensures) ∙ y .before .before .before .before .if3 .taken) (y .before .before .before .entry-of .ensures) (y .before .start-of .ensures) _ _ _ (n .0 .0)
+    (y .lay-one .ensures) (n .1)
+
+enum-told : tie.Need-enum-told Inv-loop μ-loop
+enum-told c = search needs
+
+cast-end-2 : tie.Need-cast-end-2 Inv-loop μ-loop
+cast-end-2 c = omega arith
+
+add-end : tie.Need-add-end Inv-loop μ-loop
+add-end c = omega arith
+
+add-k : tie.Need-add-k Inv-loop μ-loop
+add-k c = omega arith
 
 loop-less : tie.Need-loop-less Inv-loop μ-loop
 loop-less c = omega arith
 
 loop-again : tie.Need-loop-again Inv-loop μ-loop
 loop-again c =
-    let l = c .before .before .before .before .before .before .before .loop in
-    let s = c .before .before .before .before .before .before .before .before .before in
-    let one = c .before .before .before .lay-one .ensures in
-    let many = length-chunks 16 16 (l .area) in
-    (omega arith, one .0, laying-turns (l .inv .2) (uses-next (s .args .t2) (l .j) (s .pre .1) (omega arith)) many (one .1) refl)
+    let u = c .before in
+    let l = u .before .before .before .loop in
+    let a = u .before .before .before .before .before .before .before .before .args in
+    let i = l .inv in
+    let h = ltb-true (l .k) 16 (u .before .if1 .taken) in
+    let is = sym (u .usage-of .ensures) in
+    ⊎-elim
+    (λ w. (
+      omega arith,
+      (let e = w .13 in let f = w .11 .given in omega arith),
+      i .2,
+      i .3,
+      laying-at
+          (turn-laid (now (a .sheet)) (a .route) (a .t3) (a .direction) (a .offset .«start_address») (now (a .entries)) (i .4) (omega arith) h (is ∙ w .0 .taken ∙ i .3)
+          (ap (sizeAt (a .t3)) (w .1 .ensures .0)) (sym (w .3 .ensures) ∙ w .4 .taken) (w .5 .ensures) (w .7 .ensures) _ _ (w .8 .ensures) (w .10 .given .1)) refl (w .13) (w .12),
+    ))
+    (⊎-elim
+    (λ w. (
+      omega arith,
+      (let e = w .6 in omega arith),
+      i .2,
+      i .3,
+      laying-at
+          (turn-skip (now (a .sheet)) (a .route) (a .t3) (a .direction) (a .offset .«start_address») (now (a .entries)) (i .4) (omega arith) h (is ∙ w .0 .taken ∙ i .3)
+          (ap (sizeAt (a .t3)) (w .1 .ensures .0)) (sym (w .3 .ensures) ∙ w .4 .left)) refl (w .6) (w .5),
+    ))
+    (λ w. (
+      omega arith,
+      (let e = w .2 in omega arith),
+      i .2,
+      i .3,
+      laying-at (turn-other (now (a .sheet)) (a .route) (a .t3) (a .direction) (a .offset .«start_address») (now (a .entries)) (i .4) (omega arith) h (λ q. w .0 .left (sym is ∙ q ∙ sym (i .3)))) refl (w .2) (w .1),
+    ))) (c .if2 .came)
 
-same-length : tie.Need-same-length Inv-loop μ-loop
-same-length c = omega arith
+returns-2 : tie.Need-returns-2 Inv-loop μ-loop
+returns-2 c =
+    let l = c .before .before .loop in
+    let h = ltb-false (l .k) 16 (c .if1 .left) in
+    let a = c .before .before .before .before .before .before .before .args in
+    turn-end (now (a .sheet)) (a .route) (a .t3) (a .direction) (a .offset .«start_address») (now (a .entries)) (l .inv .4) (omega arith)
 
-returns : tie.Need-returns Inv-loop μ-loop
-returns c =
+returns-3 : tie.Need-returns-3 Inv-loop μ-loop
+returns-3 c =
     let l = c .before .loop in
-    let s = c .before .before .before in
-    (l .inv .1, laying-ends (l .inv .2) (uses-end (s .args .t2) (l .j) (s .pre .1) (omega arith)))
+    let s = c .before .before .before .before .before .before in
+    turn-end (now (s .args .sheet)) (s .args .route) (s .args .t3) (s .args .direction) (s .args .offset .«start_address») (now (s .args .entries)) (l .inv .4) (omega arith)
 
 pub lay-spec : {M : Type 1} → statement M
 lay-spec =
@@ -79,14 +158,26 @@ lay-spec =
     (tie.spec
     Inv-loop
     μ-loop
+    filter-terms-requires
+    manager-count-requires
+    cast-end
     loop-holds
-    mul-m
-    element-copy-out-m
+    usage-of-requires
+    wide-requires
+    mul-size
+    array-copy-out-size
+    takes-requires
+    cast-start
+    entry-of-requires
+    start-of-requires
     lay-one-requires
-    cast-next
-    add-next
-    add-j
+    enum-known-number
+    returns
+    enum-told
+    cast-end-2
+    add-end
+    add-k
     loop-less
     loop-again
-    same-length
-    returns)
+    returns-2
+    returns-3)

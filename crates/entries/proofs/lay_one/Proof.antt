@@ -1,76 +1,68 @@
--- `entries::lay_one`: the entry that is read, laid and stored again; past the last entry nothing.
+-- `entries::lay_one`: past the last entry nothing; else what the entry becomes stands in its place, or 8.
 -- Assumes nothing.
-use mathlib.Core.Path.{_∙_, ap}
-use Prim.Native.Nat.{_*_}
+use mathlib.Core.Path.{sym, _∙_, ap}
 use native.Mathlib.Omega.{arith}
 use denote.Ref.{now}
-use Rattle.fmmu.specs.declared.Fmmu.{Fmmu}
-use Rattle.fmmu.specs.Image.{fieldsOf, imageOf}
-use Rattle.passes.specs.Use.{useFrom}
-use Rattle.passes.specs.Entries.{lengthOf}
-use Rattle.passes.specs.Entries.{laid}
-use Rattle.passes.proofs.Kept.{entry-read, use-stored, use-nowhere}
 use borrow.Author.Needs.{needs}
+use Rattle.entries.specs.Lay.{becameOf, useAt}
+use Rattle.entries.proofs.Entry.{laid-nowhere, laid-written, laid-refused}
 use Rattle.entries.proofs.lay_one.Statement.{statement}
 use Rattle.entries.proofs.lay_one.Tie as tie
 
-fmmu-at-requires : tie.Need-fmmu-at-requires
-fmmu-at-requires c κs = search needs
+returns : tie.Need-returns
+returns c = let a = c .before .args in laid-nowhere (a .direction) (a .start) (useAt (a .e) (a .size .0) (a .at)) (now (a .entries)) (c .before .pre) (c .if1 .taken)
 
-unpack-requires : tie.Need-unpack-requires
-unpack-requires c κs = search needs
+mul-image : tie.Need-mul-image
+mul-image c = search needs
+
+element-copy-out-image : tie.Need-element-copy-out-image
+element-copy-out-image c = search needs
 
 laid-entry-requires : tie.Need-laid-entry-requires
-laid-entry-requires c κs =
-    let s = c .before .before .before .before .before in
-    let h = c .before .before .before .if1 .taken in
-    let e = ap lengthOf (c .unpack .ensures ∙ ap fieldsOf (entry-read (now (s .args .area)) (s .pre .0) _ _ h (c .before .fmmu-at .ensures))) in
-    let room = s .pre .1 h in
-    omega arith
+laid-entry-requires c κs = search needs
+
+enum-known-entry : tie.Need-enum-known-entry
+enum-known-entry c = search needs
 
 pack-requires : tie.Need-pack-requires
 pack-requires c κs = search needs
 
-slice-aggregate-store : tie.Need-slice-aggregate-store
-slice-aggregate-store c = search needs
+mul-t18 : tie.Need-mul-t18
+mul-t18 c = search needs
 
-mul-store : tie.Need-mul-store
-mul-store c = search needs
+element-set-from-entries : tie.Need-element-set-from-entries
+element-set-from-entries c = search needs
 
-store-requires : tie.Need-store-requires
-store-requires c κs = search needs
-
-same-length : tie.Need-same-length
-same-length c = search needs
-
-returns : tie.Need-returns
-returns c =
-    let u = c .before .before .before .before .before .before .before in
-    let s = u .before .before .before .before .before in
-    let a = s .args in
-    let h = u .before .before .before .if1 .taken in
-    let f = u .unpack .ensures ∙ ap fieldsOf (entry-read (now (a .area)) (s .pre .0) _ _ h (u .before .fmmu-at .ensures)) in
-    let l = c .before .before .before .before .before in
-    let is = l .pack .ensures ∙ ap imageOf (l .before .laid-entry .ensures) ∙ ap (λ (x : Fmmu). imageOf (laid (a .direction) (a .offset .«start_address») (useFrom (a .mapping)) x)) f in
-    use-stored (now (a .area)) (s .pre .0) (a .direction) (a .offset .«start_address») (useFrom (a .mapping)) (16 * a .mapping .entry) _ _ h (omega arith) is (c .before .before .store .ensures)
+enum-known-number : tie.Need-enum-known-number
+enum-known-number c = search needs
 
 returns-2 : tie.Need-returns-2
 returns-2 c =
-    let s = c .before .before in
-    let a = s .args in
-    use-nowhere (now (a .area)) (s .pre .0) (a .direction) (a .offset .«start_address») (useFrom (a .mapping)) (omega arith)
+    let n = c .before .before in
+    let l = n .before .before in
+    let a = l .before .before .before .args in
+    let q = sym (ap becameOf (n .entry .given .1)) ∙ l .laid-entry .ensures in
+    laid-written (a .direction) (a .start) (a .e) (a .size .0) (a .at) (now (a .entries)) (omega arith) _ _ q (c .pack .ensures)
+
+returns-3 : tie.Need-returns-3
+returns-3 c =
+    let n = c .before .number .given in
+    let l = c .before .before .before in
+    let a = l .before .before .before .args in
+    laid-refused (a .direction) (a .start) (a .e) (a .size .0) (a .at) (now (a .entries)) (omega arith) (n .0 .0) (sym (ap becameOf (n .1)) ∙ l .laid-entry .ensures)
 
 pub lay-one-spec : {M : Type 1} → statement M
 lay-one-spec =
     tie.close
     (tie.spec
-    fmmu-at-requires
-    unpack-requires
-    laid-entry-requires
-    pack-requires
-    slice-aggregate-store
-    mul-store
-    store-requires
-    same-length
     returns
-    returns-2)
+    mul-image
+    element-copy-out-image
+    laid-entry-requires
+    enum-known-entry
+    pack-requires
+    mul-t18
+    element-set-from-entries
+    enum-known-number
+    returns-2
+    returns-3)

@@ -1,0 +1,88 @@
+-- The uses of the sync managers from a number on: a turn of the loop that lays them.
+-- Assumes nothing.
+use mathlib.Core.Path.{_≡_, refl, sym, _∙_, ap}
+use mathlib.Core.Bool.{Bool, true, false, cond}
+use mathlib.Core.List.{List, [], _∷_}
+use Prim.Native.Nat.{ℕ, suc, _+_, _*_}
+use native.Mathlib.Numerals.{add-one}
+use native.Mathlib.Omega.{arith}
+use lib.ListN.{drop}
+use lib.Dec.{eqb, ltb}
+use borrow.Author.Tests.{ltb-true, ltb-false, lt-ltb, le-ltb, eq-eqb, ne-eqb}
+use Rattle.pdi.specs.Unit.{bytesOf}
+use Rattle.pdi.specs.declared.ByteLen.{ByteLen}
+use Rattle.sheet.specs.declared.SyncManager.{SyncManager}
+use Rattle.pdo.specs.Bits.{Piece, piecesFrom}
+use Rattle.channels.specs.Channels.{sizeAt}
+use Rattle.passes.specs.declared.Route.{Route}
+use Rattle.passes.specs.Use.{Use, own, given}
+use Rattle.passes.specs.Handed.{byRoute}
+use Rattle.entries.specs.Lay.{takesEntry, entryBy, useAt}
+
+-- eight bits for each byte are as many bytes
+eight-bits : (size : ℕ) → bytesOf (8 * size) ≡ size
+eight-bits size = omega arith
+
+some-bits : (size : ℕ) → ltb 0 (8 * size) ≡ ltb 0 size
+some-bits size = go (ltb 0 size) refl
+  where
+    go : (b : Bool) → ltb 0 size ≡ b → ltb 0 (8 * size) ≡ b
+    go true e = let h = ltb-true 0 size e in lt-ltb 0 (8 * size) (omega arith)
+    go false e = let h = ltb-false 0 size e in le-ltb 0 (8 * size) (omega arith)
+
+-- what one piece adds to the uses
+one-use :
+    (path : Bool) (entry k size at : ℕ) (ps : List Piece) (t : Bool) → takesEntry (record { «coe» = path; entry = entry }) size ≡ t
+    → byRoute (record { «coe» = path; entry = entry }) (record { number = k; bits = 8 * size; address = at } ∷ ps)
+    ≡ cond t (useAt (cond path entry k) size at ∷ byRoute (record { «coe» = path; entry = entry }) ps) (byRoute (record { «coe» = path; entry = entry }) ps)
+unfolding given own
+one-use false entry k size at ps t e =
+    ap (λ (n : ℕ). useAt k n at ∷ own ps) (eight-bits size) ∙ ap (λ (b : Bool). cond b (useAt k size at ∷ own ps) (own ps)) e
+one-use true entry k size at ps t e =
+    let rest = given (λ number. entry) ps in
+    (λ i. cond (some-bits size i) (useAt entry (eight-bits size i) at ∷ rest) rest) ∙ ap (λ (b : Bool). cond b (useAt entry size at ∷ rest) rest) e
+
+module _ (route : Route) (sizes : List ByteLen) (usage : ℕ) (ms : List SyncManager) where
+  abbrev pieces : ℕ → List Piece
+  pieces k = piecesFrom usage (λ j. 8 * sizeAt sizes j) k (drop k ms)
+
+  -- from the number k on
+  abbrev pub usesAt : ℕ → List Use
+  usesAt k = byRoute route (pieces k)
+
+  pub uses-end : (k : ℕ) → drop k ms ≡ [] → usesAt k ≡ []
+  unfolding piecesFrom given own
+  uses-end k e = ap (λ (l : List SyncManager). byRoute route (piecesFrom usage (λ j. 8 * sizeAt sizes j) k l)) e ∙ none (route .coe)
+    where
+      none : (b : Bool) → cond b (given (λ number. route .entry) []) (own []) ≡ []
+      none true = refl
+      none false = refl
+
+  module _ (k : ℕ) (m : SyncManager) (next : drop k ms ≡ m ∷ drop (k + 1) ms) where
+    piece : Piece
+    piece = record { number = k; bits = 8 * sizeAt sizes k; address = m .«start_addr» }
+
+    pieces-next : (b : Bool) → eqb (m .«usage_type») usage ≡ b → pieces k ≡ cond b (piece ∷ pieces (k + 1)) (pieces (k + 1))
+    unfolding piecesFrom piece
+    pieces-next b e =
+        ap (piecesFrom usage (λ j. 8 * sizeAt sizes j) k) next
+        ∙ ap (λ (n : ℕ). cond (eqb (m .«usage_type») usage) (piece ∷ piecesFrom usage (λ j. 8 * sizeAt sizes j) n (drop (k + 1) ms)) (piecesFrom usage (λ j. 8 * sizeAt sizes j) n (drop (k + 1) ms))) (sym (add-one k))
+        ∙ ap (λ (t : Bool). cond t (piece ∷ pieces (k + 1)) (pieces (k + 1))) e
+
+    -- of another usage
+    pub uses-other : (m .«usage_type» ≡ usage → ⊥) → usesAt k ≡ usesAt (k + 1)
+    uses-other h = ap (byRoute route) (pieces-next false (ne-eqb (m .«usage_type») usage h))
+
+    module _ (is : m .«usage_type» ≡ usage) where
+      uses-by : (t : Bool) → takesEntry route (sizeAt sizes k) ≡ t → usesAt k ≡ cond t (useAt (entryBy route k) (sizeAt sizes k) (m .«start_addr») ∷ usesAt (k + 1)) (usesAt (k + 1))
+      unfolding piece
+      uses-by t e =
+          ap (byRoute route) (pieces-next true (eq-eqb (m .«usage_type») usage is))
+          ∙ one-use (route .coe) (route .entry) k (sizeAt sizes k) (m .«start_addr») (pieces (k + 1)) t e
+
+      -- it takes no entry, or the next one
+      pub uses-skip : takesEntry route (sizeAt sizes k) ≡ false → usesAt k ≡ usesAt (k + 1)
+      uses-skip e = uses-by false e
+
+      pub uses-next : takesEntry route (sizeAt sizes k) ≡ true → usesAt k ≡ useAt (entryBy route k) (sizeAt sizes k) (m .«start_addr») ∷ usesAt (k + 1)
+      uses-next e = uses-by true e

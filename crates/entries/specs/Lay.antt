@@ -1,0 +1,75 @@
+-- What the parts of writing the entries promise one another: an entry, a use, all uses, the segment.
+-- Assumes nothing.
+use mathlib.Core.Path.{_≡_}
+use mathlib.Core.Bool.{Bool, true, cond, _&&_}
+use mathlib.Core.List.{List, [], _∷_}
+use Prim.Native.Nat.{ℕ, _+_, _-_, _<_, _≤_}
+use lib.ListN.{length, getD}
+use lib.Dec.{ltb}
+use Rattle.wire.specs.Outcome.{Outcome, refused, accepted, when, decide}
+use Rattle.pdi.specs.Offset.{pastEnd}
+use Rattle.pdi.specs.Segment.{segment, belowGroup}
+use Rattle.fmmu.specs.declared.Fmmu.{Fmmu}
+use Rattle.pdo.specs.declared.PdoDirection.{PdoDirection}
+use Rattle.passes.specs.declared.Route.{Route}
+use Rattle.passes.specs.Use.{Use, total}
+use Rattle.passes.specs.Entries.{mapped, grown, withUse, plan, lengthOf, lengthNow, tooLong, Planned}
+use Rattle.entries.specs.declared.Became.{Became}
+use Rattle.entries.specs.declared.Became.the-variants as entry
+use Rattle.entries.specs.declared.Laid.{Laid}
+use Rattle.entries.specs.declared.Laid.the-variants as laid
+
+-- what the cases of `Became` say
+abbrev pub becameOf : Became → Outcome Fmmu
+becameOf (entry.To f) = accepted f
+becameOf (entry.Refused n) = refused n
+
+-- a size added to an entry, or 8
+abbrev pub grows : Fmmu → ℕ → Outcome Fmmu
+grows f size = decide (when 8 (ltb 65535 (f .«length_bytes» .0 + size)) ∷ []) (grown f size)
+
+-- what an entry becomes, or 8
+abbrev pub becomes : PdoDirection → ℕ → ℕ → ℕ → Fmmu → Outcome Fmmu
+becomes r start size at f = decide (when 8 (ltb 65535 (lengthOf f + size)) ∷ []) (cond (f .enable) (grown f size) (mapped r start size at))
+
+-- whether a sync manager of a size uses an entry by a route, and which one
+abbrev pub takesEntry : Route → ℕ → Bool
+takesEntry route size = cond (route .coe) (ltb 0 size) true
+
+abbrev pub entryBy : Route → ℕ → ℕ
+entryBy route number = cond (route .coe) (route .entry) number
+
+abbrev pub useAt : ℕ → ℕ → ℕ → Use
+useAt e size at = record { entry = e; size = size; at = at }
+
+-- the use's own entry has no room for it; a number past the last one is no entry
+abbrev pub noRoom : Use → List (List ℕ) → Bool
+noRoom u entries = ltb (u .entry) 16 && ltb 65535 (lengthNow (getD entries (u .entry) []) + u .size)
+
+-- one use laid, or 8
+abbrev pub laidOne : PdoDirection → ℕ → Use → List (List ℕ) → Outcome (List (List ℕ))
+laidOne r start u entries = decide (when 8 (noRoom u entries) ∷ []) (withUse r start u entries)
+
+-- sixteen entries, none longer than its two bytes say
+pub record Short (entries : List (List ℕ)) : Type 0 where
+  pub many : length entries ≡ 16
+  pub short : (k : ℕ) → k < 16 → lengthNow (getD entries k []) ≤ 65535
+
+-- where uses end that are laid one after another, and the entries then
+pub record Run : Type 0 where
+  pub end : ℕ
+  pub entries : List (List ℕ)
+
+-- all laid, or 8
+abbrev pub laidAll : PdoDirection → ℕ → List Use → List (List ℕ) → Outcome Run
+laidAll r offset us entries = decide (when 8 (tooLong us entries) ∷ []) (record { end = offset + total us; entries = plan r offset us entries })
+
+-- what the cases of `Laid` say, beside the entries
+abbrev pub laidOf : Laid → List (List ℕ) → Outcome Run
+laidOf (laid.End end) entries = accepted (record { end = end; entries = entries })
+laidOf (laid.Refused n) entries = refused n
+
+-- a pass that ends there: 9, then 10, or the segment counted from the group start
+abbrev pub segmentTo : ℕ → ℕ → ℕ → Outcome Planned
+segmentTo offset group end =
+    decide (when 9 (pastEnd end) ∷ when 10 (belowGroup (segment offset end) group) ∷ []) (record { segment = segment (offset - group) (end - group); next = end })
