@@ -1,7 +1,6 @@
 -- Laws that belong to no one function.
-pub mod Places
-pub mod Records
 pub mod Search
+pub mod Filled
 pub mod Local
 pub mod Made
 pub mod Unique

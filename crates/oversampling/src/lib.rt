@@ -1,9 +1,11 @@
 // The oversampling table, a lent list of records: its first match, and one multiplier for each PDO of a sheet.
 ghost use mathlib.Core.Path.{_≡_};
+ghost use Prim.Native.Nat.{_+_, _≤_, _<_, _^_};
 ghost use Rattle.wire.specs.Room.{over};
+ghost use Rattle.sheet.specs.Device.{pdoAt, nextPdo};
 ghost use Rattle.sheet.specs.Sheet.{sheetData};
 ghost use Rattle.pdo.specs.Bits.{multiplierOf};
-ghost use Rattle.oversampling.specs.Multipliers.{lookedUp};
+ghost use Rattle.oversampling.specs.Multipliers.{lookedUp, asked};
 use pdo::Oversampling;
 
 // The multiplier of the first record with the index, 1 where there is none.
@@ -21,7 +23,9 @@ pub fn multiplier_of(table: &[Oversampling], index: u16) -> u8
 }
 
 // How many PDOs are looked up: those of the sheet, none where the table has no record.
-fn looked_up(sheet: &[u8], records: usize) -> usize {
+fn looked_up(sheet: &[u8], records: usize) -> usize
+    ensures { λ r. ⌜ (r ≡ asked records (now (sheet .entry))) × (r ≤ 255) ⌝ }
+{
     if records == 0 {
         return 0;
     }
@@ -29,12 +33,18 @@ fn looked_up(sheet: &[u8], records: usize) -> usize {
 }
 
 // The index of the PDO at a place.
-fn index_at(sheet: &[u8], at: usize) -> u16 {
+fn index_at(sheet: &[u8], at: usize) -> u16
+    requires { ⌜ at < 2 ^ 32 ⌝ }
+    ensures { λ r. ⌜ r ≡ pdoAt (now (sheet .entry)) at .index ⌝ }
+{
     wire::be16(wire::byte_at(sheet, at + 2), wire::byte_at(sheet, at + 3))
 }
 
 // Where the next one stands.
-fn next_pdo(sheet: &[u8], at: usize) -> usize {
+fn next_pdo(sheet: &[u8], at: usize) -> usize
+    requires { ⌜ at < 2 ^ 32 ⌝ }
+    ensures { λ r. ⌜ (r ≡ nextPdo (now (sheet .entry)) at) × (r ≤ at + 260) ⌝ }
+{
     at + 5 + wire::wide(wire::byte_at(sheet, at + 4))
 }
 
