@@ -75,7 +75,9 @@ module _ {r : PdoDirection} {offset : ℕ} {us : List Use} {before : List (List 
           short = subst (λ (x : List (List ℕ)). Short x) (sym is) (short-after u now r o many (k .0) (l .short));
           same =
               (λ i. laidAll r (n i) rest (is i))
-              ∙ (λ i. cond (sym (too-long-rest u now r o many (k .0) rest) i) (refused 8) (accepted (record { end = add-assoc o (u .size) (total rest) i; entries = plan r (o + u .size) rest (withUse r o u now) })))
+              ∙ (λ i.
+              cond (sym (too-long-rest u now r o many (k .0) rest) i) (refused 8)
+              (accepted (record { end = add-assoc o (u .size) (total rest) i; entries = plan r (o + u .size) rest (withUse r o u now) })))
               ∙ ap (λ (x : List Use). laidAll r o x now) (sym e)
               ∙ l .same;
         }

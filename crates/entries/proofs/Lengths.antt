@@ -13,7 +13,8 @@ use lib.Dec.{ltb}
 use borrow.Author.Tests.{ltb-true, ltb-false, lt-ltb, le-ltb, eq-eqb, ne-eqb}
 use Rattle.wire.specs.Field.{flagAt, bit}
 use Rattle.wire.specs.Number.{littleAt}
-use Rattle.wire.proofs.Bytes.{Bytes}
+use Rattle.wire.specs.Image.{Bytes}
+use Rattle.wire.proofs.Bytes.{little-fits}
 use Rattle.wire.proofs.Numbers.{joined-is}
 use Rattle.wire.proofs.Lists.{some-hit, some-none, some-same}
 use Rattle.fmmu.specs.declared.Fmmu.{Fmmu}
@@ -29,7 +30,7 @@ unfolding fieldsOf
 short-bytes entries many bytes = record { many = many; short = λ k h. go k (flagAt (getD (getD entries k []) 12 0) 0) }
   where
     go : (k : ℕ) (b : Bool) → cond b (littleAt (getD entries k []) 4 2) 0 ≤ 65535
-    go k true = let low = bytes k .below 4 in let high = bytes k .below 5 in omega arith
+    go k true = let h = little-fits 2 4 (bytes k) in omega arith
     go k false = omega arith
 
 flag-back : (x : Bool) → flagAt (bit x) 0 ≡ x

@@ -43,8 +43,11 @@ one-use true entry k size at ps t e =
     (λ i. cond (some-bits size i) (useAt entry (eight-bits size i) at ∷ rest) rest) ∙ ap (λ (b : Bool). cond b (useAt entry size at ∷ rest) rest) e
 
 module _ (route : Route) (sizes : List ByteLen) (usage : ℕ) (ms : List SyncManager) where
+  abbrev piecesOn : ℕ → List SyncManager → List Piece
+  piecesOn k rest = piecesFrom usage (λ j. 8 * sizeAt sizes j) k rest
+
   abbrev pieces : ℕ → List Piece
-  pieces k = piecesFrom usage (λ j. 8 * sizeAt sizes j) k (drop k ms)
+  pieces k = piecesOn k (drop k ms)
 
   -- from the number k on
   abbrev pub usesAt : ℕ → List Use
@@ -52,7 +55,7 @@ module _ (route : Route) (sizes : List ByteLen) (usage : ℕ) (ms : List SyncMan
 
   pub uses-end : (k : ℕ) → drop k ms ≡ [] → usesAt k ≡ []
   unfolding piecesFrom given own
-  uses-end k e = ap (λ (l : List SyncManager). byRoute route (piecesFrom usage (λ j. 8 * sizeAt sizes j) k l)) e ∙ none (route .coe)
+  uses-end k e = ap (λ (l : List SyncManager). byRoute route (piecesOn k l)) e ∙ none (route .coe)
     where
       none : (b : Bool) → cond b (given (λ number. route .entry) []) (own []) ≡ []
       none true = refl
@@ -65,8 +68,8 @@ module _ (route : Route) (sizes : List ByteLen) (usage : ℕ) (ms : List SyncMan
     pieces-next : (b : Bool) → eqb (m .«usage_type») usage ≡ b → pieces k ≡ cond b (piece ∷ pieces (k + 1)) (pieces (k + 1))
     unfolding piecesFrom piece
     pieces-next b e =
-        ap (piecesFrom usage (λ j. 8 * sizeAt sizes j) k) next
-        ∙ ap (λ (n : ℕ). cond (eqb (m .«usage_type») usage) (piece ∷ piecesFrom usage (λ j. 8 * sizeAt sizes j) n (drop (k + 1) ms)) (piecesFrom usage (λ j. 8 * sizeAt sizes j) n (drop (k + 1) ms))) (sym (add-one k))
+        ap (piecesOn k) next
+        ∙ ap (λ (n : ℕ). cond (eqb (m .«usage_type») usage) (piece ∷ piecesOn n (drop (k + 1) ms)) (piecesOn n (drop (k + 1) ms))) (sym (add-one k))
         ∙ ap (λ (t : Bool). cond t (piece ∷ pieces (k + 1)) (pieces (k + 1))) e
 
     -- of another usage

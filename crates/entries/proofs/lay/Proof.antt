@@ -1,27 +1,22 @@
 -- `entries::lay`: each turn lays the next use of the direction, or finds 8, or passes one sync manager over.
 -- Assumes nothing.
-use mathlib.Core.Path.{_≡_, refl, sym, _∙_, ap}
+use mathlib.Core.Path.{_≡_, sym, _∙_, ap}
 use mathlib.Core.Logic.{⊎-elim}
-use mathlib.Core.List.{List}
-use Prim.Native.Nat.{ℕ, _+_, _*_, _-_, _≤_}
+use Prim.Native.Nat.{_-_, _≤_}
 use native.Mathlib.Omega.{arith}
-use denote.Ref.{now}
-use lib.ListN.{getD}
 use borrow.Author.Tests.{ltb-true, ltb-false}
-use Rattle.pdi.specs.declared.ByteLen.{ByteLen}
+use borrow.Author.Needs.{needs}
 use Rattle.grammar.specs.Grammar.{managerCount}
 use Rattle.pdo.specs.declared.Terms.{Terms}
 use Rattle.pdo.specs.Direction.{usageOf}
 use Rattle.channels.specs.Channels.{sizeAt}
-use Rattle.entries.proofs.Laying.{laying-starts, laying-at}
-use Rattle.entries.proofs.Turn.{At, turn-end, turn-other, turn-skip, turn-stops, turn-laid}
-use borrow.Author.Needs.{needs}
+use Rattle.entries.proofs.Turn.{At, turn-starts, turn-at, turn-end, turn-other, turn-skip, turn-stops, turn-laid}
 use Rattle.entries.proofs.lay.Statement.{statement}
 use Rattle.entries.proofs.lay.Tie as tie
 
 abbrev Inv-loop : tie.InvT-loop
 Inv-loop entries₀ sheet route direction sizes usage n end₀ k₀ entries end k =
-    (k ≤ 16) × (end ≤ 4294967295 + 65535 * k) × (n ≡ managerCount sheet) × (usage ≡ usageOf direction) × At sheet route sizes direction end₀ entries₀ k end entries
+    (k ≤ 16) × (n ≡ managerCount sheet) × (usage ≡ usageOf direction) × At sheet route sizes direction end₀ entries₀ k end entries
 
 abbrev μ-loop : tie.MeasureT-loop
 μ-loop entries₀ sheet route direction sizes usage n end₀ k₀ entries end k = n - k
@@ -38,7 +33,8 @@ cast-end c = omega arith
 loop-holds : tie.Need-loop-holds Inv-loop μ-loop
 loop-holds c =
     let s = c .before .before .before .before in
-    (omega arith, omega arith, c .before .manager-count .ensures, ap (λ (t : Terms). t .usage) (c .before .before .filter-terms .ensures), laying-starts _ _ _ _ (s .pre))
+    let u = ap (λ (t : Terms). t .usage) (c .before .before .filter-terms .ensures) in
+    (omega arith, c .before .manager-count .ensures, u, turn-starts _ _ _ _ _ _ (omega arith) (s .pre))
 
 usage-of-requires : tie.Need-usage-of-requires Inv-loop μ-loop
 usage-of-requires c κs = tt
@@ -69,7 +65,7 @@ start-of-requires : tie.Need-start-of-requires Inv-loop μ-loop
 start-of-requires c κs = tt
 
 lay-one-requires : tie.Need-lay-one-requires Inv-loop μ-loop
-lay-one-requires c κs = let l = c .before .before .before .before .before .before .before .before .before .before .before .loop in l .inv .4 .short .many
+lay-one-requires c κs = let l = c .before .before .before .before .before .before .before .before .before .before .before .loop in l .inv .3 .laying .short .many
 
 enum-known-number : tie.Need-enum-known-number Inv-loop μ-loop
 enum-known-number c = search needs
@@ -82,11 +78,9 @@ returns c =
     let w = t .before .before in
     let u = w .before .before in
     let l = u .before .before .before .loop in
-    let a = u .before .before .before .before .before .before .before .before .args in
-    turn-stops (now (a .sheet)) (a .route) (a .t3) (a .direction) (a .offset .«start_address») (now (a .entries)) (l .inv .4) (omega arith)
-    (ltb-true (l .k) 16 (u .before .if1 .taken)) (sym (u .usage-of .ensures) ∙ w .before .if2 .taken ∙ l .inv .3) (ap (sizeAt (a .t3)) (w .wide .ensures .0))
-    (sym (t .takes .ensures) ∙ y .before .before .before .before .if3 .taken) (y .before .before .before .entry-of .ensures) (y .before .start-of .ensures) _ _ _ (n .0 .0)
-    (y .lay-one .ensures) (n .1)
+    let sizes = u .before .before .before .before .before .before .before .before .args .t3 in
+    turn-stops (l .inv .3) (omega arith) (ltb-true (l .k) 16 (u .before .if1 .taken)) (sym (u .usage-of .ensures) ∙ w .before .if2 .taken ∙ l .inv .2) (ap (sizeAt sizes) (w .wide .ensures .0))
+    (sym (t .takes .ensures) ∙ y .before .before .before .before .if3 .taken) (y .before .before .before .entry-of .ensures) (y .before .start-of .ensures) _ _ _ (n .0 .0) (y .lay-one .ensures) (n .1)
 
 enum-told : tie.Need-enum-told Inv-loop μ-loop
 enum-told c = search needs
@@ -95,7 +89,7 @@ cast-end-2 : tie.Need-cast-end-2 Inv-loop μ-loop
 cast-end-2 c = omega arith
 
 add-end : tie.Need-add-end Inv-loop μ-loop
-add-end c = omega arith
+add-end c = let o = c .before .before .before .before .before .before .before .before .before .before .before .before .before .before .before .loop .inv .3 .low in omega arith
 
 add-k : tie.Need-add-k Inv-loop μ-loop
 add-k c = omega arith
@@ -106,51 +100,24 @@ loop-less c = omega arith
 loop-again : tie.Need-loop-again Inv-loop μ-loop
 loop-again c =
     let u = c .before in
-    let l = u .before .before .before .loop in
-    let a = u .before .before .before .before .before .before .before .before .args in
-    let i = l .inv in
-    let h = ltb-true (l .k) 16 (u .before .if1 .taken) in
+    let i = u .before .before .before .loop .inv in
+    let h = ltb-true (u .before .before .before .loop .k) 16 (u .before .if1 .taken) in
     let is = sym (u .usage-of .ensures) in
-    ⊎-elim
-    (λ w. (
-      omega arith,
-      (let e = w .13 in let f = w .11 .given in omega arith),
-      i .2,
-      i .3,
-      laying-at
-          (turn-laid (now (a .sheet)) (a .route) (a .t3) (a .direction) (a .offset .«start_address») (now (a .entries)) (i .4) (omega arith) h (is ∙ w .0 .taken ∙ i .3)
-          (ap (sizeAt (a .t3)) (w .1 .ensures .0)) (sym (w .3 .ensures) ∙ w .4 .taken) (w .5 .ensures) (w .7 .ensures) _ _ (w .8 .ensures) (w .10 .given .1)) refl (w .13) (w .12),
-    ))
+    let sizes = u .before .before .before .before .before .before .before .before .args .t3 in
+    let turned = ⊎-elim
+    (λ w. turn-at
+    (turn-laid (i .3) (omega arith) h (is ∙ w .0 .taken ∙ i .2) (ap (sizeAt sizes) (w .1 .ensures .0)) (sym (w .3 .ensures) ∙ w .4 .taken) (w .5 .ensures) (w .7 .ensures) _ _ (w .8 .ensures) (w .10 .given .1)
+    (let f = w .11 .given in omega arith)) (w .13) (w .12))
     (⊎-elim
-    (λ w. (
-      omega arith,
-      (let e = w .6 in omega arith),
-      i .2,
-      i .3,
-      laying-at
-          (turn-skip (now (a .sheet)) (a .route) (a .t3) (a .direction) (a .offset .«start_address») (now (a .entries)) (i .4) (omega arith) h (is ∙ w .0 .taken ∙ i .3)
-          (ap (sizeAt (a .t3)) (w .1 .ensures .0)) (sym (w .3 .ensures) ∙ w .4 .left)) refl (w .6) (w .5),
-    ))
-    (λ w. (
-      omega arith,
-      (let e = w .2 in omega arith),
-      i .2,
-      i .3,
-      laying-at (turn-other (now (a .sheet)) (a .route) (a .t3) (a .direction) (a .offset .«start_address») (now (a .entries)) (i .4) (omega arith) h (λ q. w .0 .left (sym is ∙ q ∙ sym (i .3)))) refl (w .2) (w .1),
-    ))) (c .if2 .came)
+    (λ w. turn-at (turn-skip (i .3) (omega arith) h (is ∙ w .0 .taken ∙ i .2) (ap (sizeAt sizes) (w .1 .ensures .0)) (sym (w .3 .ensures) ∙ w .4 .left)) (w .6) (w .5))
+    (λ w. turn-at (turn-other (i .3) (omega arith) h (λ q. w .0 .left (sym is ∙ q ∙ sym (i .2)))) (w .2) (w .1))) (c .if2 .came) in
+    (omega arith, i .1, i .2, turned)
 
 returns-2 : tie.Need-returns-2 Inv-loop μ-loop
-returns-2 c =
-    let l = c .before .before .loop in
-    let h = ltb-false (l .k) 16 (c .if1 .left) in
-    let a = c .before .before .before .before .before .before .before .args in
-    turn-end (now (a .sheet)) (a .route) (a .t3) (a .direction) (a .offset .«start_address») (now (a .entries)) (l .inv .4) (omega arith)
+returns-2 c = let l = c .before .before .loop in let h = ltb-false (l .k) 16 (c .if1 .left) in turn-end (l .inv .3) (omega arith)
 
 returns-3 : tie.Need-returns-3 Inv-loop μ-loop
-returns-3 c =
-    let l = c .before .loop in
-    let s = c .before .before .before .before .before .before in
-    turn-end (now (s .args .sheet)) (s .args .route) (s .args .t3) (s .args .direction) (s .args .offset .«start_address») (now (s .args .entries)) (l .inv .4) (omega arith)
+returns-3 c = turn-end (c .before .loop .inv .3) (omega arith)
 
 pub lay-spec : {M : Type 1} → statement M
 lay-spec =

@@ -46,7 +46,8 @@ returns-2 c =
     let n = g .before .before in
     let t = n .before .before in
     let d = t .before .before in
-    entries-written _ _ _ _ _ (omega arith) (d .load .result) (d .load .ensures) _ _ (n .end .given .0 .0) (t .lay .ensures) (n .end .given .1) _ _ _ _ (g .segment-to .ensures) (e .enum-told .given .1) (y .store-all .ensures)
+    entries-written _ _ _ _ _ (omega arith) (d .load .result) (d .load .ensures) _ _ (n .end .given .0 .0) (t .lay .ensures) (n .end .given .1)
+    _ _ _ _ (g .segment-to .ensures) (e .enum-told .given .1) (y .store-all .ensures)
 
 same-length-2 : tie.Need-same-length-2
 same-length-2 c = search needs
