@@ -89,7 +89,7 @@ module _ (t : List Oversampling) (s : List ℕ) (n at : ℕ) where
     pub filled-next : (k place i y : ℕ) → Filling k place → k < n → i ≡ pdoAt s place .index → y ≡ multiplierOf t i → set (filled room k) k y ≡ filled room (k + 1)
     filled-next k place i y f h ei ey =
         let l = length-those t s n at in
-        ap (set (filled room k) k) (ey ∙ ap (multiplierOf t) ei ∙ sym (here k place f h)) ∙ copied (those t s n at) room (filled room k) k (omega arith) (omega arith) refl
+        ap (set (filled room k) k) (ey ∙ ap (multiplierOf t) ei ∙ sym (here k place f h)) ∙ copied 0 (those t s n at) room (filled room k) k (omega arith) (omega arith) refl
 
     pub filled-all : (k place : ℕ) → Filling k place → n ≤ k → filled room k ≡ over (those t s n at) room
     filled-all k place f h =
