@@ -1,9 +1,11 @@
 // Counting through the sync managers: from a logical address to a sync manager's byte. Added by design; the crate has none.
 ghost use mathlib.Core.Path.{_≡_};
 ghost use lib.ListN.{take};
-ghost use Rattle.grammar.specs.Grammar.{pdoCount};
+ghost use Rattle.wire.specs.Outcome as Outcome;
+ghost use Rattle.grammar.specs.Grammar.{managerPlace, pdoCount};
+ghost use Rattle.sheet.specs.Sheet.{managerAt, managersIn};
 ghost use Rattle.counting.specs.Count as meaning;
-ghost use Rattle.counting.specs.Count.{countedOf};
+ghost use Rattle.counting.specs.Count.{spotHere, countedOf, earlierOf, piecesBy, LaysOut};
 use pdi::ByteLen;
 use pdi::Moved;
 use pdi::PdiOffset;
@@ -32,7 +34,9 @@ struct Laid {
 }
 
 // Where an address lies in a sync manager of a size that starts at `start`, if it does.
-fn position_in(start: u64, size: ByteLen, sheet: &[u8], k: u8, address: u32) -> Counted {
+fn position_in(start: u64, size: ByteLen, sheet: &[u8], k: u8, address: u32) -> Counted
+    ensures { λ r. ⌜ countedOf r ≡ Outcome.accepted (spotHere start (size .0) k (managerAt (now (sheet .entry)) (managerPlace k) .«start_addr») address) ⌝ }
+{
     if !translation::within(start, size, address) {
         return Counted::Nowhere;
     }
@@ -46,7 +50,7 @@ fn position_in(start: u64, size: ByteLen, sheet: &[u8], k: u8, address: u32) -> 
 
 // The first of two positions.
 fn earlier(found: Counted, next: Counted) -> Counted
-    ensures { λ r. ⌜ r ≡ meaning.earlierOf found next ⌝ }
+    ensures { λ r. ⌜ r ≡ earlierOf found next ⌝ }
 {
     match found {
         Counted::Nowhere => next,
@@ -56,7 +60,9 @@ fn earlier(found: Counted, next: Counted) -> Counted
 }
 
 // Lays the sizes of a usage's sync managers one after another from the offset on.
-fn lay_out(sheet: &[u8], usage: u8, sizes: [ByteLen; 16], offset: PdiOffset, address: u32) -> Laid {
+fn lay_out(sheet: &[u8], usage: u8, sizes: [ByteLen; 16], offset: PdiOffset, address: u32) -> Laid
+    ensures { λ r. ⌜ LaysOut (piecesBy usage sizes (managersIn (now (sheet .entry)))) (offset .«start_address») address (r .end) (r .found) ⌝ }
+{
     let n = grammar::manager_count(sheet);
     let mut end = offset.start_address as u64;
     let mut found = Counted::Nowhere;

@@ -1,5 +1,5 @@
 -- Laws that the report's proofs share.
-pub mod Handed
+pub mod Once
 pub mod Passes
 pub mod Fits
 pub mod Printed

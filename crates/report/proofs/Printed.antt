@@ -76,7 +76,7 @@ zeros-right = record { entries = refl; images = record { long = refl; reads = ea
 images-after : (f : ℕ → SyncManager → Option ℕ) (ms : List SyncManager) (l : List ℕ) → Images l → Images (flat (channelsAfter f 0 ms (entriesOf 8 l)))
 images-after f ms l h =
     let es = channelsAfter f 0 ms (entriesOf 8 l) in
-    let kept = channels-kept f 0 ms 16 (entriesOf 8 l) (length-chunks 8 16 l, rows-chunks 8 16 l (h .long)) in
+    let kept = channels-kept f 0 ms .kept (entriesOf 8 l) (length-chunks 8 16 l, rows-chunks 8 16 l (h .long)) in
     let back : entriesOf 8 (flat es) ≡ es = ap (λ (m : ℕ). chunks 8 m (flat es)) (sym (kept .0)) ∙ chunks-flat 8 es (kept .1) in
     record { long = flat-bytes 8 16 es kept; reads = subst (Each Reads) (sym back) (after-reads f 0 ms (entriesOf 8 l) (h .reads)) }
 

@@ -4,10 +4,7 @@ use mathlib.Core.List.{List, [], _∷_, _++_}
 use Prim.Native.Nat.{ℕ}
 use lib.ListN.{take}
 use Rattle.wire.specs.Outcome.{Outcome, refused, accepted}
-use Rattle.pdi.specs.declared.PdiOffset.{PdiOffset}
 use Rattle.pdi.specs.declared.PdiSegment.{PdiSegment}
-use Rattle.pdi.specs.declared.Placed.{Placed}
-use Rattle.pdi.specs.declared.Placed.the-variants as placed
 use Rattle.pdi.specs.Segment.{segmentText}
 use Rattle.sync_manager_channel.specs.Image.{channelOf}
 use Rattle.sync_manager_channel.specs.Text.{channelText}
@@ -16,8 +13,6 @@ use Rattle.sheet.specs.Sheet.{sheetData, managerCount}
 use Rattle.pdo.specs.declared.PdoDirection.{PdoDirection}
 use Rattle.pdo.specs.declared.PdoDirection.the-variants.{MasterRead, MasterWrite}
 use Rattle.pdo.specs.Bits.{multipliersOf}
-use Rattle.passes.specs.declared.Configured.{Configured}
-use Rattle.passes.specs.declared.Configured.the-variants as configured
 use Rattle.passes.specs.Entries.{Planned}
 use Rattle.mailboxes.specs.declared.MailboxConfig.{MailboxConfig}
 use Rattle.mailboxes.specs.Mailbox.{mailboxPass, mailboxArea}
@@ -51,11 +46,6 @@ bay inputs outputs left = record { inputs = inputs; outputs = outputs; left = le
 -- no oversampling: the empty table
 abbrev pub once : List ℕ → List ℕ
 once sheet = multipliersOf [] (sheetData sheet .pdos)
-
--- a pass's answer with its offset beside it
-abbrev pub configuredWith : Placed → PdiOffset → Configured
-configuredWith (placed.Segment s) o = configured.Mapped s o
-configuredWith (placed.Refused n) o = configured.Refused n
 
 -- an accepted pass: its segment, and where the next one starts
 abbrev pub ended : PdiSegment → ℕ → Planned

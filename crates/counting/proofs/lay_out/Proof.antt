@@ -1,52 +1,57 @@
 -- `counting::lay_out`: what is found and where the rest ends are what all find and where all end.
 -- Assumes nothing.
 use mathlib.Core.Path.{_≡_, refl, sym, _∙_, ap}
-use Prim.Native.Nat.{_+_, _-_, _*_, _≤_, _<_, min}
-use native.Mathlib.Nat.{min-le-right}
+use mathlib.Core.Logic.{⊎-elim}
+use Prim.Native.Nat.{ℕ, _+_, _-_, _*_, _≤_, _<_}
+use native.Mathlib.Nat.{min-le-left, min-le-right}
 use native.Mathlib.Omega.{arith}
-use lib.ListN.{length, getD, take, drop}
-use Rattle.pdo.proofs.Turns.{blank, turn, over}
-use Rattle.counting.specs.Count.{endFrom, foundFrom}
-use Rattle.counting.proofs.Counting.{Kept, nothing-yet, kept-turn, kept-end, end-turn, end-end}
+use denote.Ref.{now}
+use lib.ListN.{length, getD, drop}
+use borrow.Author.Needs.{needs}
+use borrow.Author.Tests.{ltb-true, ltb-false}
+use Rattle.grammar.specs.Grammar.{managerCount}
+use Rattle.sheet.specs.Sheet.{managersIn}
+use Rattle.sheet.proofs.Managers.{front-manager, front-over}
+use Rattle.channels.specs.Channels.{sizeAt}
+use Rattle.pdo.specs.Bits.{piecesFrom}
+use Rattle.passes.proofs.Pieces.{bytes-back}
+use Rattle.counting.specs.Count.{piecesBy}
+use Rattle.counting.proofs.Counting.{Laying, laying-starts, laying-takes, laying-skips, laying-ends}
 use Rattle.counting.proofs.lay_out.Statement.{statement}
 use Rattle.counting.proofs.lay_out.Tie as tie
 
 abbrev Inv-loop : tie.InvT-loop
-Inv-loop n address managers wishes end₀ found₀ count k₀ end found k =
-    (k ≤ count) × (count ≡ min n 16) × (length managers ≡ 16) × (end ≤ 4294967295 + k * 65535)
-    × (endFrom end wishes k (drop k (take n managers)) ≡ endFrom end₀ wishes 0 (take n managers))
-    × Kept found (foundFrom end wishes k (drop k (take n managers)) address) (foundFrom end₀ wishes 0 (take n managers) address)
+Inv-loop sheet usage address sizes n end₀ found₀ k₀ end found k =
+    (k ≤ n) × (k ≤ 16) × (end ≤ 4294967295 + k * 65535)
+    × Laying (piecesBy usage sizes (managersIn sheet)) end₀ address (piecesFrom usage (λ j. 8 * sizeAt sizes j) k (drop k (managersIn sheet))) end found
 
 abbrev μ-loop : tie.MeasureT-loop
-μ-loop n address managers wishes end₀ found₀ count k₀ end found k = count - k
+μ-loop sheet usage address sizes n end₀ found₀ k₀ end found k = n - k
+
+manager-count-requires : tie.Need-manager-count-requires Inv-loop μ-loop
+manager-count-requires c κs = tt
 
 cast-end : tie.Need-cast-end Inv-loop μ-loop
 cast-end c = omega arith
 
-least-requires : tie.Need-least-requires Inv-loop μ-loop
-least-requires c κs = tt
-
 loop-holds : tie.Need-loop-holds Inv-loop μ-loop
-loop-holds c = (omega arith, c .least .ensures, c .before .before .good .0 .1 .0 .1, omega arith, refl, nothing-yet _)
+loop-holds c = (omega arith, omega arith, omega arith, laying-starts _ _ _)
+
+usage-of-requires : tie.Need-usage-of-requires Inv-loop μ-loop
+usage-of-requires c κs = tt
+
+wide-requires : tie.Need-wide-requires Inv-loop μ-loop
+wide-requires c κs = tt
 
 -- the loop stays below sixteen
-below : (c : tie.In-loop Inv-loop μ-loop) → c .before .loop .k < 16
-below c = let m = min-le-right (c .before .before .before .before .args .n) 16 in omega arith
+below : (c : tie.Then1 Inv-loop μ-loop) → c .before .before .loop .k < 16
+below c = ltb-true (c .before .before .loop .k) 16 (c .if1 .taken)
 
-mul-wish : tie.Need-mul-wish Inv-loop μ-loop
-mul-wish c = omega (arith, below c)
+mul-size : tie.Need-mul-size Inv-loop μ-loop
+mul-size c = omega (arith, below (c .before .before .before))
 
-array-copy-out-wish : tie.Need-array-copy-out-wish Inv-loop μ-loop
-array-copy-out-wish c = below c
-
-mul-position-in : tie.Need-mul-position-in Inv-loop μ-loop
-mul-position-in c = omega (arith, below (c .before))
-
-array-copy-out-position-in : tie.Need-array-copy-out-position-in Inv-loop μ-loop
-array-copy-out-position-in c = below (c .before)
-
-cast-position-in : tie.Need-cast-position-in Inv-loop μ-loop
-cast-position-in c = omega (arith, below (c .before .before))
+array-copy-out-size : tie.Need-array-copy-out-size Inv-loop μ-loop
+array-copy-out-size c = omega (arith, below (c .before .before .before))
 
 position-in-requires : tie.Need-position-in-requires Inv-loop μ-loop
 position-in-requires c κs = tt
@@ -54,8 +59,11 @@ position-in-requires c κs = tt
 earlier-requires : tie.Need-earlier-requires Inv-loop μ-loop
 earlier-requires c κs = tt
 
-next-start-requires : tie.Need-next-start-requires Inv-loop μ-loop
-next-start-requires c κs = omega (arith, below (c .before .before .before .before))
+cast-end-2 : tie.Need-cast-end-2 Inv-loop μ-loop
+cast-end-2 c = omega arith
+
+add-end : tie.Need-add-end Inv-loop μ-loop
+add-end c = omega arith
 
 add-k : tie.Need-add-k Inv-loop μ-loop
 add-k c = omega arith
@@ -65,29 +73,42 @@ loop-less c = omega arith
 
 loop-again : tie.Need-loop-again Inv-loop μ-loop
 loop-again c =
-    let i = c .before .before .before .before .before in
+    let t = c .before .before in
+    let i = t .before in
     let l = i .before .loop in
-    let a = i .before .before .before .before .args in
-    let rest = turn (a .t1) (a .n) 16 (l .inv .2) (l .k) blank (omega arith) in
-    let start = c .next-start .ensures .0 in (
+    let m = i .before .before .before in
+    let a = m .before .before .args in
+    let s = now (a .sheet) in
+    let e = front-manager s (l .k) (let n = m .manager-count .ensures in omega arith) (below t) in
+    let small = below t in
+    ⊎-elim
+    (λ w. (
       omega arith,
-      l .inv .1,
-      l .inv .2,
       omega arith,
-      ap (λ e. endFrom e (a .t3) (l .k + 1) (drop (l .k + 1) (take (a .n) (a .t1)))) start
-          ∙ end-turn (a .t3) (l .k) (getD (a .t1) (l .k) blank) (drop (l .k + 1) (take (a .n) (a .t1))) (drop (l .k) (take (a .n) (a .t1))) rest (l .end) ∙ l .inv .4,
-      kept-turn (a .t3) (l .k) (getD (a .t1) (l .k) blank) (drop (l .k + 1) (take (a .n) (a .t1))) (drop (l .k) (take (a .n) (a .t1))) rest (l .end) (a .address)
-          (l .found) (c .before .before .position-in .result) (c .before .earlier .result) (c .next-start .result) _ start (c .before .before .position-in .ensures) (c .before .earlier .ensures) (l .inv .5),
-    )
+      omega arith,
+      laying-takes (a .usage) (λ j. 8 * sizeAt (a .t3) j) (l .k) e (l .inv .3) (w .3 .result) (sym (c .before .usage-of .ensures) ∙ w .0 .taken)
+          (ap (sizeAt (a .t3)) (w .1 .ensures .0) ∙ sym (bytes-back (sizeAt (a .t3) (l .k)))) (w .6) (w .3 .ensures) (w .7 ∙ w .4 .ensures),
+    ))
+    (λ w. (omega arith, omega arith, omega arith, laying-skips (a .usage) (λ j. 8 * sizeAt (a .t3) j) (l .k) e (l .inv .3) (λ q. w .0 .left (c .before .usage-of .ensures ∙ q)) (w .1) (w .2)))
+    (c .if2 .came)
 
 returns : tie.Need-returns Inv-loop μ-loop
 returns c =
+    let l = c .before .before .loop in
+    let m = c .before .before .before .before in
+    let a = m .before .before .args in
+    let low = min-le-right (managerCount (now (a .sheet))) 16 in
+    let high = ltb-false (l .k) 16 (c .if1 .left) in
+    laying-ends (a .usage) (λ j. 8 * sizeAt (a .t3) j) (l .k) (front-over (now (a .sheet)) (l .k) (omega arith)) (l .inv .3)
+
+returns-2 : tie.Need-returns-2 Inv-loop μ-loop
+returns-2 c =
     let l = c .before .loop in
-    let a = c .before .before .before .before .args in
-    let gone = over (a .t1) (a .n) 16 (l .inv .2) (l .k) (omega arith) in (
-      sym (end-end (a .t3) (l .k) (drop (l .k) (take (a .n) (a .t1))) (l .end) gone) ∙ l .inv .4,
-      kept-end (a .t3) (l .k) (drop (l .k) (take (a .n) (a .t1))) (l .end) (a .address) (l .found) _ gone (l .inv .5),
-    )
+    let m = c .before .before .before in
+    let a = m .before .before .args in
+    let low = min-le-left (managerCount (now (a .sheet))) 16 in
+    let n = m .manager-count .ensures in
+    laying-ends (a .usage) (λ j. 8 * sizeAt (a .t3) j) (l .k) (front-over (now (a .sheet)) (l .k) (omega arith)) (l .inv .3)
 
 pub lay-out-spec : {M : Type 1} → statement M
 lay-out-spec =
@@ -95,18 +116,19 @@ lay-out-spec =
     (tie.spec
     Inv-loop
     μ-loop
+    manager-count-requires
     cast-end
-    least-requires
     loop-holds
-    mul-wish
-    array-copy-out-wish
-    mul-position-in
-    array-copy-out-position-in
-    cast-position-in
+    usage-of-requires
+    wide-requires
+    mul-size
+    array-copy-out-size
     position-in-requires
     earlier-requires
-    next-start-requires
+    cast-end-2
+    add-end
     add-k
     loop-less
     loop-again
-    returns)
+    returns
+    returns-2)

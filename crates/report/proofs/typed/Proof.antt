@@ -20,8 +20,8 @@ plan-bay-requires c κs = search needs
 enum-known-inputs : tie.Need-enum-known-inputs
 enum-known-inputs c = search needs
 
-byte-at-requires : tie.Need-byte-at-requires
-byte-at-requires c κs = search needs
+manager-count-requires : tie.Need-manager-count-requires
+manager-count-requires c κs = search needs
 
 slice-aggregate-put-bay : tie.Need-slice-aggregate-put-bay
 slice-aggregate-put-bay c = search needs
@@ -45,7 +45,7 @@ returns : tie.Need-returns
 returns c =
     let a = c .before .before .before .before .before .before .before .before .before .before .before .before .before .before .before .before .before .args in
     let p = c .before .before .before .before .before .before .before .before .before .before .before .before .plan-bay in
-    let n = c .before .before .before .before .before .before .byte-at in
+    let n = c .before .before .before .before .before .before .manager-count in
     let s = c .before .before .before .before .before .before .before .before .inputs .given in
     types (bay-text (now (a .sheet)) (areas (a .t2) (a .t3)) (p .result) (p .last .1 .0) (p .last .1 .1 .0) (p .ensures) (s .0 .0) (s .0 .1 .0) (n .result) (s .1) (n .ensures)) (c .before .before .put-bay .ensures)
 
@@ -67,7 +67,7 @@ typed-spec =
     slice-aggregate-plan-bay-2
     plan-bay-requires
     enum-known-inputs
-    byte-at-requires
+    manager-count-requires
     slice-aggregate-put-bay
     slice-aggregate-put-bay-2
     put-bay-requires

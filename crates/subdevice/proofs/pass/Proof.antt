@@ -1,30 +1,69 @@
--- `subdevice::pass`: as many multipliers count as byte 10 says; the answer and the offset are handed back.
+-- `subdevice::pass`: 1, then what the pass wants decides 2 to 7, then the entries decide; the images are written last.
 -- Assumes nothing.
-use mathlib.Core.Path.{sym}
+use mathlib.Core.Path.{ap}
+use mathlib.Core.List.{List}
+use Prim.Native.Nat.{ℕ}
 use denote.Ref.{now}
-use lib.Seq.{length-take-le}
-use Rattle.passes.proofs.Passing.{configures-passes}
+use lib.ListN.{take}
 use borrow.Author.Needs.{needs}
+use Rattle.grammar.specs.Grammar.{pdoCount}
+use Rattle.pdo.specs.declared.Terms.{Terms}
+use Rattle.subdevice.proofs.Passing.{entries-wrong, channels-wrong, one-configures, unwanted-configures, mapped-configures, refused-configures}
 use Rattle.subdevice.proofs.pass.Statement.{statement}
 use Rattle.subdevice.proofs.pass.Tie as tie
 
-byte-at-requires : tie.Need-byte-at-requires
-byte-at-requires c κs = search needs
+-- where the call began, and the multipliers that count
+abbrev start : tie.After-wanted-of → tie.Start
+start c = c .before .before .before .before .before .before
 
-cast-p : tie.Need-cast-p
-cast-p c = search needs
+abbrev times : tie.Start → List ℕ
+times c = take (pdoCount (now (c .args .sheet))) (now (c .args .multipliers))
 
-array-share-prefix-multipliers : tie.Need-array-share-prefix-multipliers
-array-share-prefix-multipliers c = search needs
+returns : tie.Need-returns
+returns c =
+    let s = c .before .before .before .before in
+    let a = s .args in
+    one-configures (now (a .sheet)) (times s) (a .direction) (a .place .offset .«start_address») (a .place .group) (now (a .fmmus)) (now (a .channels))
+    (entries-wrong (now (a .fmmus)) (now (a .channels)) (c .if1 .taken))
 
-slice-aggregate-plan-sheet : tie.Need-slice-aggregate-plan-sheet
-slice-aggregate-plan-sheet c = sym (length-take-le _ _ (array-share-prefix-multipliers (c .before)))
+returns-2 : tie.Need-returns-2
+returns-2 c =
+    let s = c .before .before .before .before .before in
+    let a = s .args in
+    one-configures (now (a .sheet)) (times s) (a .direction) (a .place .offset .«start_address») (a .place .group) (now (a .fmmus)) (now (a .channels))
+    (channels-wrong (now (a .fmmus)) (now (a .channels)) (c .before .if1 .left) (c .if2 .taken))
 
-plan-sheet-requires : tie.Need-plan-sheet-requires
-plan-sheet-requires c κs = search needs
+wanted-of-requires : tie.Need-wanted-of-requires
+wanted-of-requires c κs = search needs
 
-passed-with-requires : tie.Need-passed-with-requires
-passed-with-requires c κs = search needs
+enum-known-answer : tie.Need-enum-known-answer
+enum-known-answer c = search needs
+
+returns-3 : tie.Need-returns-3
+returns-3 c =
+    let v = c .before .before .before in
+    let a = start v .args in
+    let n = c .before .answer .given in
+    unwanted-configures (now (a .sheet)) (times (start v)) (a .direction) (a .place .offset .«start_address») (a .place .group) (now (a .fmmus)) (now (a .channels))
+    (v .before .before .if1 .left) (v .before .if2 .left) (v .wanted-of .result) (v .wanted-of .ensures) (n .0 .0) (n .1)
+
+enum-told : tie.Need-enum-told
+enum-told c = search needs
+
+write-entries-requires : tie.Need-write-entries-requires
+write-entries-requires c κs = search needs
+
+enum-known-segment : tie.Need-enum-known-segment
+enum-known-segment c = search needs
+
+filter-terms-requires : tie.Need-filter-terms-requires
+filter-terms-requires c κs = search needs
+
+write-channels-requires : tie.Need-write-channels-requires
+write-channels-requires c κs = search needs
+
+enum-known-number : tie.Need-enum-known-number
+enum-known-number c = search needs
 
 same-length : tie.Need-same-length
 same-length c = search needs
@@ -32,24 +71,51 @@ same-length c = search needs
 same-length-2 : tie.Need-same-length-2
 same-length-2 c = search needs
 
-returns : tie.Need-returns
-returns c =
-    let p = c .before .before .before .before .before in
-    let b = p .before .before .before .before in
-    let a = b .before .before .before .before .args in
-    configures-passes (now (a .sheet)) (a .t2) (b .byte-at .result) (a .direction) (a .place .offset) (a .place .group) (now (a .fmmus)) (now (a .channels))
-    (p .plan-sheet .result) (c .passed-with .result) (p .plan-sheet .last .1 .1 .0) (p .plan-sheet .last .1 .1 .1 .0) (b .byte-at .ensures) (p .plan-sheet .ensures) (c .passed-with .ensures)
+returns-4 : tie.Need-returns-4
+returns-4 c =
+    let i = c .before .before in
+    let g = i .before .before .before .before in
+    let w = g .before .before .before .before in
+    let e = w .before .before .before .before in
+    let v = e .before .before in
+    let a = start v .args in
+    let s = g .segment .given in
+    mapped-configures (now (a .sheet)) (times (start v)) (a .direction) (a .place .offset .«start_address») (a .place .group) (now (a .fmmus)) (now (a .channels))
+    (v .before .before .if1 .left) (v .before .if2 .left) (v .wanted-of .result) (v .wanted-of .ensures) (e .enum-told .given .1)
+    (w .write-entries .last .0) (w .write-entries .result) (w .write-entries .ensures)
+    (s .0 .0) (s .0 .1 .0) (i .write-channels .last .0) (s .1) (ap (λ (t : Terms). t .usage) (i .before .filter-terms .ensures)) (i .write-channels .ensures)
+
+same-length-3 : tie.Need-same-length-3
+same-length-3 c = search needs
+
+returns-5 : tie.Need-returns-5
+returns-5 c =
+    let w = c .before .before .before .before .before in
+    let e = w .before .before .before .before in
+    let v = e .before .before in
+    let a = start v .args in
+    let n = c .before .number .given in
+    refused-configures (now (a .sheet)) (times (start v)) (a .direction) (a .place .offset .«start_address») (a .place .group) (now (a .fmmus)) (now (a .channels))
+    (v .before .before .if1 .left) (v .before .if2 .left) (v .wanted-of .result) (v .wanted-of .ensures) (e .enum-told .given .1)
+    (w .write-entries .last .0) (w .write-entries .result) (w .write-entries .ensures) (n .0 .0) (n .1)
 
 pub pass-spec : {M : Type 1} → statement M
 pass-spec =
     tie.close
     (tie.spec
-    byte-at-requires
-    cast-p
-    array-share-prefix-multipliers
-    slice-aggregate-plan-sheet
-    plan-sheet-requires
-    passed-with-requires
+    returns
+    returns-2
+    wanted-of-requires
+    enum-known-answer
+    returns-3
+    enum-told
+    write-entries-requires
+    enum-known-segment
+    filter-terms-requires
+    write-channels-requires
+    enum-known-number
     same-length
     same-length-2
-    returns)
+    returns-4
+    same-length-3
+    returns-5)
