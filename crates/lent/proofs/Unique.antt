@@ -4,21 +4,19 @@ use mathlib.Core.Path.{refl, _≡_}
 use mathlib.Core.List.{List}
 use Prim.Native.Nat.{ℕ}
 use denote.Ref.{now}
-use Rattle.wire.proofs.Pins.{Pins, with-room}
+use Rattle.wire.proofs.Pins.{Pins}
+use Rattle.wire.proofs.Stated.{Saying, States}
 use Rattle.sheet.specs.Sheet.{sheetData}
 use Rattle.pdi.specs.declared.PdiOffset.{PdiOffset}
 use Rattle.pdi.specs.declared.Placed.{Placed}
 use Rattle.pdo.specs.Bits.{multipliersOf}
-use Rattle.wire.proofs.Stated.{Saying, States}
 use Rattle.passes.specs.Pass.{Passes}
 use Rattle.passes.proofs.Once.{passes-once}
-use Rattle.lent.proofs.data_pass.configure_fmmus as configure-fmmus
-use Rattle.lent.proofs.data_pass.plan.Reads as plan
 use Rattle.counting.specs.Count as meaning
 use Rattle.counting.specs.Count.{countedOf}
 use Rattle.counting.proofs.Unique.{counted-once}
+use Rattle.lent.proofs.data_pass.configure_fmmus as configure-fmmus
 use Rattle.lent.proofs.counted.count as count
-use Rattle.lent.proofs.counted.locate.Reads as locate
 
 -- what a pass that is lent its offset leaves: the answer, the offset, both areas
 abbrev leaves : Placed → PdiOffset → List ℕ → List ℕ → Placed × PdiOffset × List ℕ × List ℕ
@@ -35,11 +33,6 @@ configure-fmmus-states M 𝓤 H A mem run κs a r s g = refl
 pub configure-fmmus-pins : Pins PassesOn (λ κs r s. leaves r (now (s .1 .1 .1 .1 .0)) (now (s .1 .1 .0)) (now (s .1 .1 .1 .0)))
 configure-fmmus-pins κs a x y s t p q = passes-once _ _ _ _ _ _ _ x y _ _ _ _ _ _ p q
 
-pub plan-pins : Pins plan.Post (λ κs r s. with-room (with-room r (now (s .1 .1 .1 .0))) (now (s .1 .1 .1 .1 .0)))
-plan-pins κs a x y s t p q =
-    let e = passes-once _ _ _ _ _ _ _ (x .answer) (y .answer) (x .next) (y .next) _ _ _ _ p q in
-    λ i. ((record { answer = e i .0; next = e i .1 }, e i .2), e i .3)
-
 abbrev CountsBy : Saying count.ended
 CountsBy κs a r s = countedOf r ≡ meaning.count (a .1 .1 .1 .0) (a .1 .1 .1 .1 .0) (now (a .0)) (multipliersOf (now (a .1 .0)) (sheetData (now (a .0)) .pdos)) (a .1 .1 .0 .«start_address»)
 
@@ -48,6 +41,3 @@ count-states M 𝓤 H A mem run κs a r s g = refl
 
 pub count-pins : Pins CountsBy (λ κs r s. r)
 count-pins κs a x y s t p q = counted-once p q
-
-pub locate-pins : Pins locate.Post (λ κs r s. r)
-locate-pins κs a x y s t p q = counted-once p q

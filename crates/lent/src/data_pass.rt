@@ -12,11 +12,12 @@ use pdo::Oversampling;
 use pdo::PdoDirection;
 
 // What a pass hands back: its segment or a refusal, and the offset as it then is.
-struct Passed {
+struct Done {
     answer: Placed,
     next: PdiOffset,
 }
 
+// A pass by value, as the lent one answers it.
 fn passed(
     sheet: &[u8],
     multipliers: &[u8; 255],
@@ -24,17 +25,18 @@ fn passed(
     channels: &mut [u8],
     place: Place,
     direction: PdoDirection,
-) -> Passed
+) -> Done
     ensures { λ r. ⌜ Passes (now (sheet .entry)) (take (pdoCount (now (sheet .entry))) (now (multipliers .entry))) direction (place .offset) (place .group) (now (fmmus .entry)) (now (channels .entry)) (r .answer) (r .next) (now (fmmus .exit)) (now (channels .exit)) ⌝ }
 {
+    let start = place.offset;
     match subdevice::pass(sheet, multipliers, fmmus, channels, place, direction) {
-        Configured::Mapped(segment, next) => Passed {
+        Configured::Mapped(segment, next) => Done {
             answer: Placed::Segment(segment),
             next,
         },
-        Configured::Refused(number) => Passed {
+        Configured::Refused(number) => Done {
             answer: Placed::Refused(number),
-            next: place.offset,
+            next: start,
         },
     }
 }
