@@ -15,8 +15,7 @@ use Rattle.pdo.specs.Bits.{multiplierOf, byCoe, bitsOf, piecesFrom, piecesOf}
 use Rattle.passes.specs.Use.{own, given, firstWith, usesOf, total, totalOn, sizeOf}
 use Rattle.area.specs.Area.{chunks, flat}
 use Rattle.passes.specs.Entries.{plan, tooLong}
-use Rattle.wanted.specs.Wanted.{someTooMany, noEntry}
-use Rattle.passes.specs.Pass.{dataPass}
+use Rattle.passes.specs.Pass.{someTooMany, noEntry, dataPass}
 use Rattle.translation.specs.Translate.{carries, odd, says, firstSaid, translate}
 use Rattle.counting.specs.Count.{spotIn, count}
 use Rattle.agreement.specs.Bench.{Row, benchCases}

@@ -14,7 +14,8 @@ use Rattle.wire.specs.Outcome.{Outcome, refused, accepted}
 use Rattle.wire.proofs.Order.{never}
 use Rattle.pdi.specs.Offset.{pastEnd}
 use Rattle.fmmu.specs.Image.{fieldsOf}
-use Rattle.sheet.specs.Sheet.{wrongLength, wrongVersion, broken, someUnnamed, sheetData}
+use Rattle.sheet.specs.Sheet.{sheetData}
+use Rattle.sheet.proofs.Kept.{Accepts, accepts}
 use Rattle.pdo.specs.declared.PdoDirection.{PdoDirection}
 use Rattle.pdo.specs.declared.PdoDirection.the-variants.{MasterRead, MasterWrite}
 use Rattle.pdi.specs.declared.Placed.the-variants.{Segment}
@@ -26,8 +27,7 @@ use Rattle.pdo.specs.Bits.{piecesOf}
 use Rattle.passes.specs.Use.{Use, own, totalOn, sizeOf}
 use Rattle.area.specs.Area.{entriesOf, notEntries, notChannels}
 use Rattle.passes.specs.Entries.{plan, lengthNow, Planned, tooLong}
-use Rattle.wanted.specs.Wanted.{someTooMany, noEntry}
-use Rattle.passes.specs.Pass.{entriesAfter, segmentOf, Passes, passRefusals, plannedOf, dataPass}
+use Rattle.passes.specs.Pass.{someTooMany, noEntry, entriesAfter, segmentAlone, Passes, passRefusals, plannedOf, dataPass}
 use Rattle.translation.specs.Translate.{says, odd, firstSaid, orNone, translate}
 use Rattle.counting.specs.Count.{spotIn, deviceAlone, countRefusals, count}
 use Rattle.agreement.specs.Agreement.{AllBytes, EveryDisabled, Lent, weights, passOf, Accepted, TwoPasses, laidBy, counted, Demand3, Demand3InReach}
@@ -50,7 +50,7 @@ sizeBy sheet r l = sizeOf (sheetData sheet) (weights sheet l) r
 -- what an accepted pass of a sheet tells
 pub record Facts (sheet : List ℕ) (r : PdoDirection) (l : Lent) (area after : List ℕ) : Type 0 where
   pub long : length area ≡ 256
-  pub format : (wrongLength sheet ≡ false) × ((wrongVersion sheet ≡ false) × ((broken sheet ≡ false) × (someUnnamed sheet ≡ false)))
+  pub sheet-kept : Accepts sheet
   pub bits : someTooMany (sheetData sheet) (weights sheet l) r ≡ false
   pub entry : noEntry (sheetData sheet) (weights sheet l) r ≡ false
   pub room : tooLong (laidBy sheet r l) (entriesOf 16 area) ≡ false
@@ -71,7 +71,7 @@ facts sheet r l area after a =
     let left = a .leaves ∙ ap (λ (o : Outcome Planned). entriesAfter o (sheetData sheet) (weights sheet l) r (l .offset) area) (a .says) in
     record {
       long = long;
-      format = (c .1 .0, (c .1 .1 .0, (c .1 .1 .1 .0, c .1 .1 .1 .1 .0)));
+      sheet-kept = accepts sheet (c .1 .0) (c .1 .1 .0) (c .1 .1 .1 .0) (c .1 .1 .1 .1 .0);
       bits = s .0;
       entry = s .1 .0;
       room = s .1 .1 .0;
@@ -83,7 +83,7 @@ facts sheet r l area after a =
 -- and so what is needed to lay its sync managers, and what counting answers
 module _ (sheet : List ℕ) (bytes : AllBytes sheet) (r : PdoDirection) (l : Lent) (area after : List ℕ) (f : Facts sheet r l area after) where
   pub sane-uses : Sane (laidBy sheet r l)
-  sane-uses = sane (sheetData sheet) (bounded sheet bytes (f .format .1 .1 .0)) (weights sheet l) r (f .entry)
+  sane-uses = sane (sheetData sheet) (bounded sheet bytes (f .sheet-kept)) (weights sheet l) r (f .entry)
 
   room-on : (k : ℕ) → k < 16 → totalOn k (laidBy sheet r l) ≤ 65535
   unfolding tooLong
@@ -114,12 +114,12 @@ module _ (sheet : List ℕ) (bytes : AllBytes sheet) (r : PdoDirection) (l : Len
   unfolding count
   counted-own a =
       let ps = piecesOf (sheetData sheet) (weights sheet l) r in
-      let g = f .format in
+      let k = f .sheet-kept in
       ap deviceAlone
       (clear-accepted
       (countRefusals sheet (weights sheet l) r (l .offset))
       (spotIn (l .offset) ps a)
-      (g .0, (g .1 .0, (g .1 .1 .0, (g .1 .1 .1, (f .bits, (f .entry, (f .end, tt))))))))
+      (k .right, (k .version, (k .whole, (k .named, (f .bits, (f .entry, (f .end, tt))))))))
       ∙ ap (λ (x : Option ℕ). accepted x) (spot-lay (l .offset) a ps)
 
   pub counted-lay : (a : ℕ) → counted sheet r l a ≡ accepted (orNone (lay (l .offset) (laidBy sheet r l) a))
@@ -254,5 +254,5 @@ pub promised :
 promised sheet r l area after channelsAfter s o c = go (passOf sheet r l area) refl
   where
     go : (x : Outcome Planned) → passOf sheet r l area ≡ x → Accepted sheet r l area after
-    go (refused n) e = absurd (never (sym (c .says ∙ ap segmentOf e)))
+    go (refused n) e = absurd (never (sym (c .says ∙ ap segmentAlone e)))
     go (accepted p) e = record { planned = p; says = e; leaves = c .entries }

@@ -25,8 +25,7 @@ use Rattle.pdo.specs.Bits.{multiplierOf, byCoe, bitsOf, piecesFrom, piecesOf}
 use Rattle.passes.specs.Use.{own, given, firstWith, usesOf, total, totalOn, sizeOf}
 use Rattle.area.specs.Area.{chunks, entriesOf, flat}
 use Rattle.passes.specs.Entries.{mapped, plan, Planned, tooLong}
-use Rattle.wanted.specs.Wanted.{someTooMany, noEntry}
-use Rattle.passes.specs.Pass.{dataPass}
+use Rattle.passes.specs.Pass.{someTooMany, noEntry, dataPass}
 use Rattle.translation.specs.Translate.{carries, odd, says, firstSaid, translate}
 use Rattle.counting.specs.Count.{spotIn, count}
 use Rattle.agreement.specs.Agreement.{EveryDisabled, Lent, weights, Accepted, TwoPasses, sharing, EndToEnd, laidBy, counted, Agree}
