@@ -1,0 +1,2 @@
+-- `Functions` proves the statement; `Contracts` holds its promises to the functions' generated contracts.
+pub mod Functions
