@@ -15,8 +15,7 @@ use lib.Dec.{ltb}
 use borrow.Author.Tests.{ltb-true, ltb-false}
 use Rattle.wire.specs.Outcome.{refused, accepted, Refusal, decide}
 use Rattle.wire.proofs.Order.{never}
-use Rattle.wire.specs.Lists.{Each, someOf}
-use Rattle.wire.specs.Lists.{someBelow, someOf}
+use Rattle.wire.specs.Lists.{Each, someBelow, someOf}
 use Rattle.translation.specs.Translate.{firstSaid}
 
 pub either : (b : Bool) → (b ≡ true) ⊎ (b ≡ false)

@@ -1,9 +1,11 @@
--- What contradicts demand 3: a pass that writes nothing, one that pretends in the second direction, one that invents its sizes.
+-- Wrong planners on nonempty data: a pass that writes nothing, one that pretends in the second direction, one that invents its sizes. Over the bytes that each
+-- leaves, translating and counting disagree. Where the direction's sync managers lie end to end that contradicts demand 3 (`contradicts`); where they don't,
+-- demand 3 has the two disagree anyhow, and it is the pass's own promise that such a planner breaks.
 -- Assumes nothing.
 use mathlib.Core.Path.{_≡_, refl, sym, _∙_, ap, subst}
 use mathlib.Core.Bool.{true, false}
 use mathlib.Core.List.{List, [], _∷_}
-use mathlib.Core.Logic.{_⊎_, inl, inr}
+use mathlib.Core.Logic.{_⊎_, inl, inr, _↔_}
 use mathlib.Core.Option.{none, some}
 use Prim.Native.Nat.{ℕ, _+_, _-_, _^_, _≤_, _<_}
 use native.Mathlib.Omega.{arith}
@@ -19,7 +21,7 @@ use Rattle.passes.specs.Use.{Use, total, sizeOf}
 use Rattle.area.specs.Area.{entriesOf, flat}
 use Rattle.passes.specs.Entries.{plan}
 use Rattle.translation.specs.Translate.{says, odd, orNone, translate}
-use Rattle.agreement.specs.Agreement.{AllBytes, EveryDisabled, Lent, weights, Accepted, TwoPasses, laidBy, Agree, InReach}
+use Rattle.agreement.specs.Agreement.{AllBytes, EveryDisabled, Lent, weights, Accepted, TwoPasses, EndToEnd, laidBy, Agree, InReach}
 use Rattle.translation.proofs.Lies.{inside, behind}
 use Rattle.agreement.proofs.Basics.{either, first-none, none-at, never-none}
 use Rattle.agreement.proofs.Straight.{lay, Lays, goOn, goOn-total, lay-behind}
@@ -29,6 +31,11 @@ use Rattle.agreement.proofs.Uses.{uses-total}
 use Rattle.area.proofs.Flat.{length-chunks}
 use Rattle.agreement.proofs.Areas.{planned-long, planned-entries}
 use Rattle.agreement.proofs.Demand3.{one-of-two, two, ownBy, sizeBy, Facts, facts, sane-uses, lays, counted-own, counted-lay, disabled-off, disabled-start}
+
+-- end to end, bytes on which the two disagree are none of which demand 3 holds
+pub contradicts : (sheet : List ℕ) (r : PdoDirection) (l : Lent) (area : List ℕ) → EndToEnd (laidBy sheet r l)
+    → (Agree sheet r l area → ⊥) → (Agree sheet r l area ↔ EndToEnd (laidBy sheet r l)) → ⊥
+contradicts sheet r l area straight disagree demanded = disagree (demanded .1 straight)
 
 -- an address of the range at which laying names a device address
 record Found (q : ℕ) (us : List Use) : Type 0 where
@@ -101,14 +108,14 @@ module _ (sheet : List ℕ) (bytes : AllBytes sheet) (r : PdoDirection) (l : Len
       let n : orNone (lay (l .offset) (laidBy sheet r l) (s .at)) ≡ none = cc in
       never-none (sym (s .is) ∙ n)
 
--- a pass that is accepted and writes nothing
+-- a pass that is accepted and writes nothing: they disagree over the area as it was
 pub writes-nothing : (sheet : List ℕ) → AllBytes sheet → (r : PdoDirection) (l : Lent) (area after : List ℕ) → Accepted sheet r l area after
     → EveryDisabled area → 0 < sizeBy sheet r l → Agree sheet r l area → ⊥
 writes-nothing sheet bytes r l area after p d =
     let f = facts sheet r l area after p in
     silent-disagrees sheet bytes r l area after f area (f .long) (λ k. off-silent r _ (disabled-off area d k))
 
--- one that maps the first direction and pretends in the second
+-- one that maps the first direction and pretends in the second: over what the first left
 pretends-second : (sheet : List ℕ) → AllBytes sheet → (r : PdoDirection) (l m : Lent) (area between after : List ℕ) → EveryDisabled area
     → Facts sheet (other r) m area between → Facts sheet r l between after → 0 < sizeBy sheet r l → Agree sheet r l between → ⊥
 pretends-second sheet bytes r l m area between after d g f =

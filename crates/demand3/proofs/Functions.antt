@@ -1,14 +1,14 @@
 -- Demand 3 of the functions: their promises are the premises of demand 3 over definitions.
 -- Assumes nothing.
-use mathlib.Core.Path.{_≡_, sym, _∙_, ap, subst}
+use mathlib.Core.Path.{sym, _∙_, ap, subst}
 use mathlib.Core.List.{List}
-use Prim.Native.Nat.{ℕ, _^_, _<_}
+use Prim.Native.Nat.{ℕ}
 use Rattle.pdo.specs.declared.PdoDirection.{PdoDirection}
 use Rattle.pdo.specs.Direction.{other}
 use Rattle.counting.specs.Count.{deviceAlone}
 use Rattle.agreement.specs.Agreement.{Lent, Accepted, TwoPasses, Agree}
 use Rattle.agreement.proofs.Demand3.{promised, among, translated, demand-3}
-use Rattle.demand3.specs.Calls.{Pass, Calls, SameDevice, AgreeEverywhere, Demand3OfFunctions}
+use Rattle.demand3.specs.Calls.{Pass, Calls, AgreeEverywhere, Demand3OfFunctions}
 
 -- what a call was lent beside the sheet and the FMMU bytes
 abbrev lentTo : {sheet : List ℕ} {r : PdoDirection} → Pass sheet r → Lent
