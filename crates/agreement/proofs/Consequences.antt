@@ -10,6 +10,7 @@ use native.Mathlib.Omega.{arith}
 use lib.Dec.{ltb}
 use lib.ListN.{length, getD}
 use borrow.Author.Tests.{ltb-true, ltb-false, eq-eqb}
+use Rattle.wire.specs.Image.{AllBytes}
 use Rattle.wire.specs.Outcome.{refused, accepted}
 use Rattle.wire.proofs.Order.{never}
 use Rattle.wire.specs.Lists.{Each}
@@ -19,7 +20,7 @@ use Rattle.pdo.specs.Direction.{other}
 use Rattle.passes.specs.Use.{Use, total}
 use Rattle.area.specs.Area.{entriesOf}
 use Rattle.translation.specs.Translate.{named, says, firstSaid, orNone, translate}
-use Rattle.agreement.specs.Agreement.{AllBytes, EveryDisabled, Lent, weights, TwoPasses, EndToEnd, laidBy, counted}
+use Rattle.agreement.specs.Agreement.{EveryDisabled, Lent, weights, TwoPasses, EndToEnd, laidBy, counted}
 use Rattle.translation.proofs.Lies.{inside, before, behind}
 use Rattle.agreement.proofs.Basics.{either, each-map, said-by}
 use Rattle.agreement.proofs.Straight.{lay, Fresh, straight-same, straight-iff}

@@ -12,6 +12,7 @@ use native.Mathlib.Omega.{arith}
 use lib.Dec.{ltb}
 use lib.ListN.{length, getD}
 use borrow.Author.Tests.{ltb-true, ltb-false, le-leb, eq-eqb}
+use Rattle.wire.specs.Image.{AllBytes}
 use Rattle.wire.specs.Outcome.{accepted}
 use Rattle.wire.specs.Lists.{Each}
 use Rattle.sheet.specs.Sheet.{sheetData}
@@ -21,7 +22,7 @@ use Rattle.passes.specs.Use.{Use, total, sizeOf}
 use Rattle.area.specs.Area.{entriesOf, flat}
 use Rattle.passes.specs.Entries.{plan}
 use Rattle.translation.specs.Translate.{says, odd, orNone, translate}
-use Rattle.agreement.specs.Agreement.{AllBytes, EveryDisabled, Lent, weights, Accepted, TwoPasses, EndToEnd, laidBy, Agree, InReach}
+use Rattle.agreement.specs.Agreement.{EveryDisabled, Lent, weights, Accepted, TwoPasses, EndToEnd, laidBy, Agree, InReach}
 use Rattle.translation.proofs.Lies.{inside, behind}
 use Rattle.agreement.proofs.Basics.{either, first-none, none-at, never-none}
 use Rattle.agreement.proofs.Straight.{lay, Lays, goOn, goOn-total, lay-behind}

@@ -10,6 +10,7 @@ use native.Mathlib.Omega.{arith}
 use lib.Dec.{eqb, ltb}
 use lib.ListN.{length, getD, List·getD-eq-default}
 use borrow.Author.Tests.{ltb-true, ltb-false, eqb-true, eq-eqb, not-false}
+use Rattle.wire.specs.Image.{AllBytes}
 use Rattle.wire.specs.Outcome.{Outcome, refused, accepted}
 use Rattle.wire.proofs.Order.{never}
 use Rattle.pdi.specs.Offset.{pastEnd}
@@ -30,7 +31,7 @@ use Rattle.passes.specs.Entries.{plan, lengthNow, Planned, tooLong}
 use Rattle.passes.specs.Pass.{someTooMany, noEntry, entriesAfter, segmentAlone, Passes, passRefusals, plannedOf, dataPass}
 use Rattle.translation.specs.Translate.{says, odd, firstSaid, orNone, translate}
 use Rattle.counting.specs.Count.{spotIn, deviceAlone, countRefusals, count}
-use Rattle.agreement.specs.Agreement.{AllBytes, EveryDisabled, Lent, weights, passOf, Accepted, TwoPasses, laidBy, counted, Demand3, Demand3InReach}
+use Rattle.agreement.specs.Agreement.{EveryDisabled, Lent, weights, passOf, Accepted, TwoPasses, laidBy, counted, Demand3, Demand3InReach}
 use Rattle.agreement.proofs.Basics.{accepted-clear, clear-accepted, or-false, none-below, each-map, each-of, either}
 use Rattle.agreement.proofs.Straight.{lay, Lays, apart-flip}
 use Rattle.agreement.proofs.Step.{Off, off-silent}

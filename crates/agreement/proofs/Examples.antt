@@ -11,6 +11,7 @@ use native.Mathlib.Omega.{arith}
 use lib.ListN.{length, getD, set, replicate, List·getD-eq-default}
 use lib.Dec.{T, ltb, lit<}
 use borrow.Author.Tests.{ltb-true, ltb-false}
+use Rattle.wire.specs.Image.{AllBytes}
 use Rattle.wire.specs.Outcome.{Outcome, accepted}
 use Rattle.wire.proofs.Below.{all, below}
 use Rattle.pdi.specs.Segment.{segment}
@@ -39,7 +40,7 @@ is-true : (b : Bool) → T b → b ≡ true
 is-true true t = refl
 is-true false t = absurd t
 
-bytes-of : (l : List ℕ) → T (all (λ k. ltb (getD l k 0) 256) (length l)) → (k : ℕ) → getD l k 0 < 256
+pub bytes-of : (l : List ℕ) → T (all (λ k. ltb (getD l k 0) 256) (length l)) → AllBytes l
 bytes-of l t k = go (either (ltb k (length l)))
   where
     go : (ltb k (length l) ≡ true) ⊎ (ltb k (length l) ≡ false) → getD l k 0 < 256
@@ -50,12 +51,12 @@ is-false : (b : Bool) → T (not b) → b ≡ false
 is-false true t = absurd t
 is-false false t = refl
 
-all-disabled : EveryDisabled zeros
+pub all-disabled : EveryDisabled zeros
 unfolding fieldsOf chunks
 all-disabled k h = is-false _ (below (λ k. not (fieldsOf (getD (entriesOf 16 zeros) k []) .enable)) 16 tt k h)
 
 -- what each pass is lent: no table, group start 0; the inputs from 0, the outputs from 5
-abbrev lent : PdoDirection → Lent
+abbrev pub lent : PdoDirection → Lent
 lent MasterRead = record { table = []; offset = 0; group = 0; channels = replicate 128 0 }
 lent MasterWrite = record { table = []; offset = 5; group = 0; channels = replicate 128 0 }
 
@@ -73,7 +74,7 @@ outputEntry = 5 ∷ 0 ∷ 0 ∷ 0 ∷ 2 ∷ 0 ∷ 0 ∷ 7 ∷ 0x00 ∷ 0x11 ∷ 
 abbrev inputEntry : List ℕ
 inputEntry = 0 ∷ 0 ∷ 0 ∷ 0 ∷ 5 ∷ 0 ∷ 0 ∷ 7 ∷ 0x80 ∷ 0x11 ∷ 0 ∷ 1 ∷ 1 ∷ 0 ∷ 0 ∷ 0 ∷ []
 
-abbrev sampleArea : List ℕ
+abbrev pub sampleArea : List ℕ
 sampleArea = outputEntry ++ inputEntry ++ replicate 224 0
 
 -- FMMU0: logical start 5, size 2, physical start 0x1100, W; FMMU1: logical start 0, size 5, physical start 0x1180, RO

@@ -4,13 +4,13 @@ use mathlib.Core.Path.{sym, subst}
 use mathlib.Core.List.{List, [], _∷_, _++_}
 use Prim.Native.Nat.{ℕ, zero, suc, _+_, _≤_, _<_}
 use native.Mathlib.Omega.{arith}
+use Rattle.wire.specs.Image.{AllBytes}
 use Rattle.wire.specs.Number.{bigAt}
 use Rattle.wire.specs.Lists.{listOf, Each}
 use Rattle.sheet.specs.declared.SyncManager.{SyncManager}
 use Rattle.sheet.specs.Sheet.{managerCount, managerPlace, managerAt, sheetData}
 use Rattle.sheet.proofs.Managers.{manager-count, usage-count}
 use Rattle.sheet.proofs.Kept.{Accepts}
-use Rattle.agreement.specs.Agreement.{AllBytes}
 use Rattle.agreement.proofs.Uses.{Bounded}
 
 each-append : {A : Type 0} (P : A → Type 0) (l m : List A) → Each P l → Each P m → Each P (l ++ m)

@@ -9,6 +9,7 @@ use Prim.Native.Nat.{ℕ, _+_, _^_, _≤_, _<_}
 use lib.ListN.{getD}
 use lib.Dec.{eqb, ltb}
 use Rattle.wire.specs.Outcome.{Outcome, accepted}
+use Rattle.wire.specs.Image.{AllBytes}
 use Rattle.fmmu.specs.Image.{fieldsOf}
 use Rattle.wire.specs.Lists.{Each}
 use Rattle.sheet.specs.Sheet.{sheetData}
@@ -26,10 +27,6 @@ use Rattle.counting.specs.Count.{countedAddress}
 -- every FMMU entry disabled: all sixteen
 abbrev pub EveryDisabled : List ℕ → Type 0
 EveryDisabled area = (k : ℕ) → k < 16 → fieldsOf (getD (entriesOf 16 area) k []) .enable ≡ false
-
--- bytes, as every slice holds them
-abbrev pub AllBytes : List ℕ → Type 0
-AllBytes l = (k : ℕ) → getD l k 0 < 256
 
 -- what a pass is lent beside the sheet and the FMMU area
 pub record Lent : Type 0 where

@@ -7,6 +7,7 @@ use mathlib.Core.Logic.{_↔_}
 use mathlib.Core.Option.{Option}
 use Prim.Native.Nat.{ℕ, _^_, _<_}
 use Rattle.wire.specs.Outcome.{accepted}
+use Rattle.wire.specs.Image.{AllBytes}
 use Rattle.pdi.specs.declared.PdiOffset.{PdiOffset}
 use Rattle.pdi.specs.declared.PdiSegment.{PdiSegment}
 use Rattle.pdi.specs.declared.Placed.the-variants.{Segment}
@@ -21,7 +22,7 @@ use Rattle.translation.specs.declared.Translated.{Translated}
 use Rattle.translation.specs.Translate.{translate, translatedOf}
 use Rattle.counting.specs.declared.Counted.{Counted}
 use Rattle.counting.specs.Count.{count, countedOf, deviceAlone}
-use Rattle.agreement.specs.Agreement.{AllBytes, EveryDisabled, EndToEnd}
+use Rattle.agreement.specs.Agreement.{EveryDisabled, EndToEnd}
 
 -- a call of `lent::configure_fmmus` that answered a segment: what it was lent beside the sheet, its answer, and what it left
 pub record Pass (sheet : List ℕ) (r : PdoDirection) : Type 0 where

@@ -6,7 +6,7 @@ use native.Mathlib.Nat.{pow-suc}
 use native.Mathlib.Omega.{arith}
 use lib.ListN.{getD}
 use Rattle.wire.specs.Number.{littleAt, littleOf}
-use Rattle.wire.specs.Image.{Image}
+use Rattle.wire.specs.Image.{AllBytes, Image}
 
 -- n bytes of an image are a number below 256 ^ n
 pub little-fits : {m : ℕ} {l : List ℕ} (n at : ℕ) → Image m l → littleAt l at n < 256 ^ n
@@ -19,7 +19,7 @@ little-fits {m} {l} (suc n) at h =
 
 -- a list that holds nothing but bytes
 pub record Bytes (l : List ℕ) : Type 0 where
-  pub below : (k : ℕ) → getD l k 0 < 256
+  pub below : AllBytes l
 
 pub no-bytes : Bytes []
 no-bytes = record { below = λ k. omega arith }

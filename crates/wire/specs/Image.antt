@@ -12,10 +12,14 @@ use Rattle.wire.specs.Field.{bitsAt}
 abbrev pub notLong : ℕ → List ℕ → Bool
 notLong n l = not (eqb (length l) n)
 
+-- bytes, as every slice of them holds
+abbrev pub AllBytes : List ℕ → Type 0
+AllBytes l = (k : ℕ) → getD l k 0 < 256
+
 -- n bytes
 pub record Image (n : ℕ) (l : List ℕ) : Type 0 where
   pub long : length l ≡ n
-  pub bytes : (k : ℕ) → getD l k 0 < 256
+  pub bytes : AllBytes l
 
 -- a part of an image: its byte, its lowest bit there, and how many bits it has
 pub record Part : Type 0 where
