@@ -27,7 +27,7 @@ use Rattle.agreement.proofs.Straight.{lay, Fresh, straight-same, straig
 use Rattle.agreement.proofs.Run.{said, plan-leaves}
 use Rattle.agreement.proofs.Uses.{uses-total, apart}
 use Rattle.area.proofs.Flat.{length-chunks}
-use Rattle.agreement.proofs.Demand3.{one, two, sizeBy, Facts, lays, among, translated, other-unseen}
+use Rattle.agreement.proofs.Demand3.{one, two, rangeSize, Facts, lays, among, translated, other-unseen}
 
 -- after two such passes translation is never refused, neither with 11 nor with 1
 pub never-eleven : (sheet : List ℕ) (lent : PdoDirection → Lent) (first : PdoDirection) (area after : List ℕ) → AllBytes sheet
@@ -85,12 +85,12 @@ pub record NamedBy (sheet : List ℕ) (r : PdoDirection) (l : Lent) (area : List
 
 pub every-address-named : (sheet : List ℕ) (lent : PdoDirection → Lent) (first : PdoDirection) (area after : List ℕ) → AllBytes sheet
     → TwoPasses sheet lent first area after → (r : PdoDirection) → EndToEnd (laidBy sheet r (lent r))
-    → (a : ℕ) → lent r .offset ≤ a → a < lent r .offset + sizeBy sheet r (lent r) → NamedBy sheet r (lent r) after a
+    → (a : ℕ) → lent r .offset ≤ a → a < lent r .offset + rangeSize sheet r (lent r) → NamedBy sheet r (lent r) after a
 every-address-named sheet lent first area after bytes p r e a h g =
     let us = laidBy sheet r (lent r) in
     let q = lent r .offset in
     let t = among sheet bytes lent area after first p r in
-    let z : total us ≡ sizeBy sheet r (lent r) = uses-total (sheetData sheet) (weights sheet (lent r)) r in
+    let z : total us ≡ rangeSize sheet r (lent r) = uses-total (sheetData sheet) (weights sheet (lent r)) r in
     let l = laid-inside q a us h (omega arith) in
     let s = straight-same 16 0 q a us (straight-iff us (t .lays .places) (t .lays .grouped) .1 e) in
     let w = said-by (says r a) (entriesOf 16 after) [] (l .answer) (ap firstSaid (t .alike .says-same a) ∙ said r q us (t .before) (t .lays) (t .start) a ∙ sym s ∙ l .is) in

@@ -31,7 +31,7 @@ use Rattle.agreement.proofs.Run.{said, none-odd, other-silents}
 use Rattle.agreement.proofs.Uses.{uses-total}
 use Rattle.area.proofs.Flat.{length-chunks}
 use Rattle.agreement.proofs.Areas.{planned-long, planned-entries}
-use Rattle.agreement.proofs.Demand3.{one-of-two, two, ownBy, sizeBy, Facts, facts, sane-uses, lays, counted-own, counted-lay, disabled-off, disabled-start}
+use Rattle.agreement.proofs.Demand3.{one-of-two, two, ownBy, rangeSize, Facts, facts, sane-uses, lays, counted-own, counted-lay, disabled-off, disabled-start}
 
 -- end to end, bytes on which the two disagree are none of which demand 3 holds
 pub contradicts : (sheet : List ℕ) (r : PdoDirection) (l : Lent) (area : List ℕ) → EndToEnd (laidBy sheet r l)
@@ -90,10 +90,10 @@ found-last q (u ∷ us) b h = go (either (ltb 0 (total us))) (found-last (q + u 
 
 -- entries of no weight for a direction name nothing: on nonempty data that isn't what counting names
 module _ (sheet : List ℕ) (bytes : AllBytes sheet) (r : PdoDirection) (l : Lent) (area after : List ℕ) (f : Facts sheet r l area after) where
-  silent-disagrees : (final : List ℕ) → length final ≡ 256 → ((k : ℕ) → Silent r (getD (entriesOf 16 final) k [])) → 0 < sizeBy sheet r l → Agree sheet r l final → ⊥
+  silent-disagrees : (final : List ℕ) → length final ≡ 256 → ((k : ℕ) → Silent r (getD (entriesOf 16 final) k [])) → 0 < rangeSize sheet r l → Agree sheet r l final → ⊥
   unfolding translate
   silent-disagrees final long silents h agree =
-      let z : total (laidBy sheet r l) ≡ sizeBy sheet r l = uses-total (sheetData sheet) (weights sheet l) r in
+      let z : total (laidBy sheet r l) ≡ rangeSize sheet r l = uses-total (sheetData sheet) (weights sheet l) r in
       let y = lays sheet bytes r l area after f in
       let s = found-first (l .offset) (laidBy sheet r l) (y .addresses) (omega arith) in
       let ends = y .ends in
@@ -111,14 +111,14 @@ module _ (sheet : List ℕ) (bytes : AllBytes sheet) (r : PdoDirection) (l : Len
 
 -- a pass that is accepted and writes nothing: they disagree over the area as it was
 pub writes-nothing : (sheet : List ℕ) → AllBytes sheet → (r : PdoDirection) (l : Lent) (area after : List ℕ) → Accepted sheet r l area after
-    → EveryDisabled area → 0 < sizeBy sheet r l → Agree sheet r l area → ⊥
+    → EveryDisabled area → 0 < rangeSize sheet r l → Agree sheet r l area → ⊥
 writes-nothing sheet bytes r l area after p d =
     let f = facts sheet r l area after p in
     silent-disagrees sheet bytes r l area after f area (f .long) (λ k. off-silent r _ (disabled-off area d k))
 
 -- one that maps the first direction and pretends in the second: over what the first left
 pretends-second : (sheet : List ℕ) → AllBytes sheet → (r : PdoDirection) (l m : Lent) (area between after : List ℕ) → EveryDisabled area
-    → Facts sheet (other r) m area between → Facts sheet r l between after → 0 < sizeBy sheet r l → Agree sheet r l between → ⊥
+    → Facts sheet (other r) m area between → Facts sheet r l between after → 0 < rangeSize sheet r l → Agree sheet r l between → ⊥
 pretends-second sheet bytes r l m area between after d g f =
     silent-disagrees sheet bytes r l between after f between (f .long)
     (subst (λ (es : List (List ℕ)). (k : ℕ) → Silent r (getD es k [])) (sym (g .leaves))
@@ -127,7 +127,7 @@ pretends-second sheet bytes r l m area between after d g f =
     (sane-uses sheet bytes (other r) m area between g .places)))
 
 pub pretends : (sheet : List ℕ) (lent : PdoDirection → Lent) (first : PdoDirection) (area after : List ℕ) → AllBytes sheet
-    → (p : TwoPasses sheet lent first area after) → 0 < sizeBy sheet (other first) (lent (other first))
+    → (p : TwoPasses sheet lent first area after) → 0 < rangeSize sheet (other first) (lent (other first))
     → Agree sheet (other first) (lent (other first)) (p .between) → ⊥
 pretends sheet lent first area after bytes p =
     pretends-second sheet bytes (other first) (lent (other first)) (lent first) area (p .between) after (p .disabled)
@@ -167,14 +167,14 @@ module _ (sheet : List ℕ) (bytes : AllBytes sheet) (r : PdoDirection) (l : Len
       let g = agree a h in
       cc
 
-  pub invented-too-small : InReach sheet r l → total vs < sizeBy sheet r l → Agree sheet r l (flat (plan r (l .offset) vs (entriesOf 16 area))) → ⊥
+  pub invented-too-small : InReach sheet r l → total vs < rangeSize sheet r l → Agree sheet r l (flat (plan r (l .offset) vs (entriesOf 16 area))) → ⊥
   unfolding sizeOf
   invented-too-small b h agree =
       let z = goOn-total 16 0 vs in
-      let e = ltb-false 4294967295 (l .offset + sizeBy sheet r l) (facts sheet r l area after p .end) in
+      let e = ltb-false 4294967295 (l .offset + rangeSize sheet r l) (facts sheet r l area after p .end) in
       last-byte-differs (l .offset) (ownBy sheet r l) (goOn 16 0 vs) b (omega arith) (omega arith) (invented agree)
 
-  pub invented-too-large : InReachOf (goOn 16 0 vs) → sizeBy sheet r l < total vs → Agree sheet r l (flat (plan r (l .offset) vs (entriesOf 16 area))) → ⊥
+  pub invented-too-large : InReachOf (goOn 16 0 vs) → rangeSize sheet r l < total vs → Agree sheet r l (flat (plan r (l .offset) vs (entriesOf 16 area))) → ⊥
   unfolding sizeOf
   invented-too-large b h agree =
       let z = goOn-total 16 0 vs in

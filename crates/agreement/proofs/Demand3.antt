@@ -27,12 +27,13 @@ use Rattle.wire.specs.Lists.{someOf}
 use Rattle.pdo.specs.Bits.{piecesOf}
 use Rattle.passes.specs.Use.{Use, own, totalOn, sizeOf}
 use Rattle.area.specs.Area.{entriesOf, notEntries, notChannels}
-use Rattle.passes.specs.Entries.{plan, lengthNow, Planned, tooLong}
+use Rattle.passes.specs.Entries.{plan, Planned, tooLong}
+use Rattle.passes.proofs.Room.{not-too-long}
 use Rattle.passes.specs.Pass.{someTooMany, noEntry, entriesAfter, segmentAlone, Passes, passRefusals, plannedOf, dataPass}
 use Rattle.translation.specs.Translate.{says, odd, firstSaid, orNone, translate}
 use Rattle.counting.specs.Count.{spotIn, deviceAlone, countRefusals, count}
 use Rattle.agreement.specs.Agreement.{EveryDisabled, Lent, weights, passOf, Accepted, TwoPasses, laidBy, counted, Demand3, Demand3InReach}
-use Rattle.agreement.proofs.Basics.{accepted-clear, clear-accepted, or-false, none-below, each-map, each-of, either}
+use Rattle.agreement.proofs.Basics.{accepted-clear, clear-accepted, or-false, each-map, each-of, either}
 use Rattle.agreement.proofs.Straight.{lay, Lays, apart-flip}
 use Rattle.agreement.proofs.Step.{Off, off-silent}
 use Rattle.agreement.proofs.Run.{Start, Alike, agree-iff, none-odd, other-after, other-before}
@@ -45,8 +46,8 @@ use Rattle.agreement.proofs.Sheets.{bounded}
 abbrev pub ownBy : List ℕ → PdoDirection → Lent → List Use
 ownBy sheet r l = own (piecesOf (sheetData sheet) (weights sheet l) r)
 
-abbrev pub sizeBy : List ℕ → PdoDirection → Lent → ℕ
-sizeBy sheet r l = sizeOf (sheetData sheet) (weights sheet l) r
+abbrev pub rangeSize : List ℕ → PdoDirection → Lent → ℕ
+rangeSize sheet r l = sizeOf (sheetData sheet) (weights sheet l) r
 
 -- what an accepted pass of a sheet tells
 pub record Facts (sheet : List ℕ) (r : PdoDirection) (l : Lent) (area after : List ℕ) : Type 0 where
@@ -55,7 +56,7 @@ pub record Facts (sheet : List ℕ) (r : PdoDirection) (l : Lent) (area after : 
   pub bits : someTooMany (sheetData sheet) (weights sheet l) r ≡ false
   pub entry : noEntry (sheetData sheet) (weights sheet l) r ≡ false
   pub room : tooLong (laidBy sheet r l) (entriesOf 16 area) ≡ false
-  pub end : pastEnd (l .offset + sizeBy sheet r l) ≡ false
+  pub end : pastEnd (l .offset + rangeSize sheet r l) ≡ false
   pub after-long : length after ≡ 256
   pub leaves : entriesOf 16 after ≡ plan r (l .offset) (laidBy sheet r l) (entriesOf 16 area)
 
@@ -87,11 +88,7 @@ module _ (sheet : List ℕ) (bytes : AllBytes sheet) (r : PdoDirection) (l : Len
   sane-uses = sane (sheetData sheet) (bounded sheet bytes (f .sheet-kept)) (weights sheet l) r (f .entry)
 
   room-on : (k : ℕ) → k < 16 → totalOn k (laidBy sheet r l) ≤ 65535
-  unfolding tooLong
-  room-on k h =
-      let m : lengthNow (getD (entriesOf 16 area) k []) + totalOn k (laidBy sheet r l) ≤ 65535 =
-      ltb-false 65535 _ (none-below (λ k. ltb 65535 (lengthNow (getD (entriesOf 16 area) k []) + totalOn k (laidBy sheet r l))) 16 (f .room) k h) in
-      omega arith
+  room-on k h = let m = not-too-long (laidBy sheet r l) (entriesOf 16 area) (f .room) .fits k h in omega arith
 
   pub lays : Lays (l .offset) (laidBy sheet r l)
   lays =
@@ -106,7 +103,7 @@ module _ (sheet : List ℕ) (bytes : AllBytes sheet) (r : PdoDirection) (l : Len
             (λ v h. room-on (v .entry) h)
             (laidBy sheet r l) (sane-uses .places);
         ends =
-            let h = ltb-false 4294967295 (l .offset + sizeBy sheet r l) (f .end) in
+            let h = ltb-false 4294967295 (l .offset + rangeSize sheet r l) (f .end) in
             let z = uses-total (sheetData sheet) (weights sheet l) r in
             omega arith;
       }

@@ -68,17 +68,17 @@ inputs = record { segment = segment 0 5; next = 5 }
 
 -- document 01's sheet: the entries that its program prints, as bytes
 
-abbrev outputEntry : List ℕ
-outputEntry = 5 ∷ 0 ∷ 0 ∷ 0 ∷ 2 ∷ 0 ∷ 0 ∷ 7 ∷ 0x00 ∷ 0x11 ∷ 0 ∷ 2 ∷ 1 ∷ 0 ∷ 0 ∷ 0 ∷ []
+abbrev outputBytes : List ℕ
+outputBytes = 5 ∷ 0 ∷ 0 ∷ 0 ∷ 2 ∷ 0 ∷ 0 ∷ 7 ∷ 0x00 ∷ 0x11 ∷ 0 ∷ 2 ∷ 1 ∷ 0 ∷ 0 ∷ 0 ∷ []
 
-abbrev inputEntry : List ℕ
-inputEntry = 0 ∷ 0 ∷ 0 ∷ 0 ∷ 5 ∷ 0 ∷ 0 ∷ 7 ∷ 0x80 ∷ 0x11 ∷ 0 ∷ 1 ∷ 1 ∷ 0 ∷ 0 ∷ 0 ∷ []
+abbrev inputBytes : List ℕ
+inputBytes = 0 ∷ 0 ∷ 0 ∷ 0 ∷ 5 ∷ 0 ∷ 0 ∷ 7 ∷ 0x80 ∷ 0x11 ∷ 0 ∷ 1 ∷ 1 ∷ 0 ∷ 0 ∷ 0 ∷ []
 
 abbrev pub sampleArea : List ℕ
-sampleArea = outputEntry ++ inputEntry ++ replicate 224 0
+sampleArea = outputBytes ++ inputBytes ++ replicate 224 0
 
 -- FMMU0: logical start 5, size 2, physical start 0x1100, W; FMMU1: logical start 0, size 5, physical start 0x1180, RO
-pub as-printed : (fieldsOf outputEntry ≡ mapped MasterWrite 5 2 0x1100) × (fieldsOf inputEntry ≡ mapped MasterRead 0 5 0x1180)
+pub as-printed : (fieldsOf outputBytes ≡ mapped MasterWrite 5 2 0x1100) × (fieldsOf inputBytes ≡ mapped MasterRead 0 5 0x1180)
 unfolding fieldsOf
 as-printed = (refl, refl)
 
@@ -88,7 +88,7 @@ unfolding fieldsOf imageOf controlAt unnamed listOf someBelow pdosFrom wrongLeng
 sample-passes =
     record {
       disabled = all-disabled;
-      between = replicate 16 0 ++ inputEntry ++ replicate 224 0;
+      between = replicate 16 0 ++ inputBytes ++ replicate 224 0;
       one = record { planned = inputs; says = refl; leaves = refl };
       two = record { planned = outputs; says = refl; leaves = refl };
     }
@@ -118,7 +118,7 @@ unfolding fieldsOf imageOf controlAt unnamed listOf someBelow pdosFrom wrongLeng
 moved-passes =
     record {
       disabled = all-disabled;
-      between = replicate 16 0 ++ inputEntry ++ replicate 224 0;
+      between = replicate 16 0 ++ inputBytes ++ replicate 224 0;
       one = record { planned = inputs; says = refl; leaves = refl };
       two = record { planned = outputs; says = refl; leaves = refl };
     }
@@ -149,7 +149,7 @@ ownSheet =
     ++ (0x02 ∷ 0x02 ∷ 0x16 ∷ 0x00 ∷ 0x02 ∷ 0x00 ∷ 0x10 ∷ [])
 
 abbrev ownOutput : List ℕ
-ownOutput = replicate 32 0 ++ outputEntry
+ownOutput = replicate 32 0 ++ outputBytes
 
 abbrev ownArea : List ℕ
 ownArea =
