@@ -9,14 +9,12 @@ use Prim.Native.Nat.{ℕ, zero, suc, _+_, _≤_, _<_}
 use native.Mathlib.Nat.{not-suc-le-zero, le-of-suc-le-suc}
 use native.Mathlib.Decide.{ℕ-discrete}
 use native.Mathlib.Omega.{arith}
-use lib.Arith.{lt-of-le-ne}
 use lib.ListN.{length, getD, set}
 use lib.Dec.{ltb}
 use borrow.Author.Tests.{ltb-true, ltb-false}
 use Rattle.wire.specs.Outcome.{refused, accepted, Refusal, decide}
 use Rattle.wire.proofs.Order.{never}
 use Rattle.wire.specs.Lists.{Each, someOf}
-use Rattle.wire.specs.Lists.{someBelow, someOf}
 use Rattle.translation.specs.Translate.{firstSaid}
 
 pub either : (b : Bool) → (b ≡ true) ⊎ (b ≡ false)
@@ -50,15 +48,6 @@ clear-accepted (r ∷ rs) x c = rw (c .0) (clear-accepted rs x (c .1))
 pub or-false : (a b : Bool) → (a || b) ≡ false → (a ≡ false) × (b ≡ false)
 or-false true b e = absurd (true≢false e)
 or-false false b e = (refl, e)
-
-pub none-below : (f : ℕ → Bool) (n : ℕ) → someBelow f n ≡ false → (k : ℕ) → k < n → f k ≡ false
-unfolding someBelow
-none-below f zero e k h = absurd (not-suc-le-zero h)
-none-below f (suc n) e k h = go (ℕ-discrete k n) (none-below f n (or-false (someBelow f n) (f n) e .0) k)
-  where
-    go : Dec (k ≡ n) → (k < n → f k ≡ false) → f k ≡ false
-    go (yes q) i = ap f q ∙ or-false (someBelow f n) (f n) e .1
-    go (no q) i = i (lt-of-le-ne (le-of-suc-le-suc h) q)
 
 pub none-of : {A : Type 0} (f : A → Bool) (l : List A) → someOf f l ≡ false → Each (λ (x : A). f x ≡ false) l
 none-of f [] e = tt

@@ -6,7 +6,9 @@ use mathlib.Core.List.{List, [], _∷_}
 use Prim.Native.Nat.{ℕ}
 use lib.Dec.{T, eqb, eqb→eq}
 use Rattle.wire.specs.Outcome.{Outcome, refused, accepted}
-use Rattle.channel_bytes.specs.Bytes.{controlAt, unnamed, controlByte}
+use Rattle.channel_bytes.specs.Bytes.{controlAt, unnamed, controlByte, statusAt, statusByte, enableAt, enableLow, enableHigh}
+use Rattle.sync_manager_channel.specs.Image as channel
+use Rattle.channels.specs.Channels.{channelsAfter}
 use Rattle.fmmu.specs.Image.{fieldsOf, imageOf}
 use Rattle.wire.specs.Lists.{listOf, someBelow, Each}
 use Rattle.sheet.specs.Device.{pdosFrom}
@@ -15,8 +17,7 @@ use Rattle.pdo.specs.Bits.{multiplierOf, byCoe, bitsOf, piecesFrom, piecesOf}
 use Rattle.passes.specs.Use.{own, given, firstWith, usesOf, total, totalOn, sizeOf}
 use Rattle.area.specs.Area.{chunks, flat}
 use Rattle.passes.specs.Entries.{plan, tooLong}
-use Rattle.wanted.specs.Wanted.{someTooMany, noEntry}
-use Rattle.passes.specs.Pass.{dataPass}
+use Rattle.passes.specs.Pass.{someTooMany, noEntry, dataPass}
 use Rattle.translation.specs.Translate.{carries, odd, says, firstSaid, translate}
 use Rattle.counting.specs.Count.{spotIn, count}
 use Rattle.agreement.specs.Bench.{Row, benchCases}
@@ -64,7 +65,7 @@ each-row (r ∷ rs) t = let s = both-of (sameAnswer (r .computed) (r .expected))
 pub bench-cases : Each (λ (r : Row). r .computed ≡ r .expected) benchCases
 unfolding controlAt unnamed controlByte fieldsOf imageOf listOf someBelow pdosFrom wrongLength kindFits pdosFit someManagerWrong someUsageWrong broken someUnnamed sheetData
     multiplierOf byCoe bitsOf piecesFrom piecesOf own given firstWith usesOf total totalOn sizeOf chunks flat plan someTooMany noEntry
-    tooLong dataPass
+    tooLong dataPass statusAt statusByte enableAt enableLow enableHigh channel.channelOf channel.imageOf channelsAfter
 bench-cases = each-row benchCases tt
 
 pub translation-cases : Each (λ (r : Row). r .computed ≡ r .expected) translationCases

@@ -10,6 +10,7 @@ use native.Mathlib.Omega.{arith}
 use lib.Dec.{ltb}
 use lib.ListN.{length, getD}
 use borrow.Author.Tests.{ltb-true, ltb-false, eq-eqb}
+use Rattle.wire.specs.Image.{Bytes}
 use Rattle.wire.specs.Outcome.{refused, accepted}
 use Rattle.wire.proofs.Order.{never}
 use Rattle.wire.specs.Lists.{Each}
@@ -19,17 +20,17 @@ use Rattle.pdo.specs.Direction.{other}
 use Rattle.passes.specs.Use.{Use, total}
 use Rattle.area.specs.Area.{entriesOf}
 use Rattle.translation.specs.Translate.{named, says, firstSaid, orNone, translate}
-use Rattle.agreement.specs.Agreement.{AllBytes, EveryDisabled, Lent, weights, TwoPasses, EndToEnd, laidBy, counted}
+use Rattle.agreement.specs.Agreement.{EveryDisabled, Lent, weights, TwoPasses, EndToEnd, laidBy, counted}
 use Rattle.translation.proofs.Lies.{inside, before, behind}
 use Rattle.agreement.proofs.Basics.{either, each-map, said-by}
 use Rattle.agreement.proofs.Straight.{lay, Fresh, straight-same, straight-iff}
 use Rattle.agreement.proofs.Run.{said, plan-leaves}
 use Rattle.agreement.proofs.Uses.{uses-total, apart}
 use Rattle.area.proofs.Flat.{length-chunks}
-use Rattle.agreement.proofs.Demand3.{one, two, sizeBy, Facts, lays, among, translated, other-unseen}
+use Rattle.agreement.proofs.Demand3.{one, two, rangeSize, Facts, lays, among, translated, other-unseen}
 
 -- after two such passes translation is never refused, neither with 11 nor with 1
-pub never-eleven : (sheet : List ℕ) (lent : PdoDirection → Lent) (first : PdoDirection) (area after : List ℕ) → AllBytes sheet
+pub never-eleven : (sheet : List ℕ) (lent : PdoDirection → Lent) (first : PdoDirection) (area after : List ℕ) → Bytes sheet
     → TwoPasses sheet lent first area after → (r : PdoDirection) (a n : ℕ) → translate r after a ≡ refused n → ⊥
 never-eleven sheet lent first area after bytes p r a n e = never (sym e ∙ translated sheet r (lent r) after (among sheet bytes lent area after first p r) a)
 
@@ -38,7 +39,7 @@ pub record LeftAlone (sheet : List ℕ) (r : PdoDirection) (l : Lent) (between a
   pub entries : Each (λ (u : Use). getD (entriesOf 16 after) (u .entry) [] ≡ getD (entriesOf 16 between) (u .entry) []) (laidBy sheet r l)
   pub answers : (a : ℕ) → translate r after a ≡ translate r between a
 
-left-alone : (sheet : List ℕ) → AllBytes sheet → (r : PdoDirection) (l m : Lent) (area between after : List ℕ) → EveryDisabled area
+left-alone : (sheet : List ℕ) → Bytes sheet → (r : PdoDirection) (l m : Lent) (area between after : List ℕ) → EveryDisabled area
     → Facts sheet r l area between → Facts sheet (other r) m between after → LeftAlone sheet r l between after
 unfolding translate
 left-alone sheet bytes r l m area between after disabled f g =
@@ -53,7 +54,7 @@ left-alone sheet bytes r l m area between after disabled f g =
       answers = λ a. rw (eq-eqb (length after) 256 (g .after-long), eq-eqb (length between) 256 (f .after-long), s .odd-same, s .says-same a, f .leaves) refl;
     }
 
-pub other-left-alone : (sheet : List ℕ) (lent : PdoDirection → Lent) (first : PdoDirection) (area after : List ℕ) → AllBytes sheet
+pub other-left-alone : (sheet : List ℕ) (lent : PdoDirection → Lent) (first : PdoDirection) (area after : List ℕ) → Bytes sheet
     → (p : TwoPasses sheet lent first area after) → LeftAlone sheet first (lent first) (p .between) after
 other-left-alone sheet lent first area after bytes p =
     left-alone sheet bytes first (lent first) (lent (other first)) area (p .between) after (p .disabled)
@@ -82,14 +83,14 @@ pub record NamedBy (sheet : List ℕ) (r : PdoDirection) (l : Lent) (area : List
   pub says-it : says r a (getD (entriesOf 16 area) entry []) ≡ some answer
   pub counts-it : counted sheet r l a ≡ accepted answer
 
-pub every-address-named : (sheet : List ℕ) (lent : PdoDirection → Lent) (first : PdoDirection) (area after : List ℕ) → AllBytes sheet
+pub every-address-named : (sheet : List ℕ) (lent : PdoDirection → Lent) (first : PdoDirection) (area after : List ℕ) → Bytes sheet
     → TwoPasses sheet lent first area after → (r : PdoDirection) → EndToEnd (laidBy sheet r (lent r))
-    → (a : ℕ) → lent r .offset ≤ a → a < lent r .offset + sizeBy sheet r (lent r) → NamedBy sheet r (lent r) after a
+    → (a : ℕ) → lent r .offset ≤ a → a < lent r .offset + rangeSize sheet r (lent r) → NamedBy sheet r (lent r) after a
 every-address-named sheet lent first area after bytes p r e a h g =
     let us = laidBy sheet r (lent r) in
     let q = lent r .offset in
     let t = among sheet bytes lent area after first p r in
-    let z : total us ≡ sizeBy sheet r (lent r) = uses-total (sheetData sheet) (weights sheet (lent r)) r in
+    let z : total us ≡ rangeSize sheet r (lent r) = uses-total (sheetData sheet) (weights sheet (lent r)) r in
     let l = laid-inside q a us h (omega arith) in
     let s = straight-same 16 0 q a us (straight-iff us (t .lays .places) (t .lays .grouped) .1 e) in
     let w = said-by (says r a) (entriesOf 16 after) [] (l .answer) (ap firstSaid (t .alike .says-same a) ∙ said r q us (t .before) (t .lays) (t .start) a ∙ sym s ∙ l .is) in

@@ -1,15 +1,18 @@
--- What contradicts demand 3: a pass that writes nothing, one that pretends in the second direction, one that invents its sizes.
+-- Wrong planners on nonempty data: a pass that writes nothing, one that pretends in the second direction, one that invents its sizes. Over the bytes that each
+-- leaves, translating and counting disagree. Where the direction's sync managers lie end to end that contradicts demand 3 (`contradicts`); where they don't,
+-- demand 3 has the two disagree anyhow, and it is the pass's own promise that such a planner breaks.
 -- Assumes nothing.
 use mathlib.Core.Path.{_≡_, refl, sym, _∙_, ap, subst}
 use mathlib.Core.Bool.{true, false}
 use mathlib.Core.List.{List, [], _∷_}
-use mathlib.Core.Logic.{_⊎_, inl, inr}
+use mathlib.Core.Logic.{_⊎_, inl, inr, _↔_}
 use mathlib.Core.Option.{none, some}
 use Prim.Native.Nat.{ℕ, _+_, _-_, _^_, _≤_, _<_}
 use native.Mathlib.Omega.{arith}
 use lib.Dec.{ltb}
 use lib.ListN.{length, getD}
 use borrow.Author.Tests.{ltb-true, ltb-false, le-leb, eq-eqb}
+use Rattle.wire.specs.Image.{Bytes}
 use Rattle.wire.specs.Outcome.{accepted}
 use Rattle.wire.specs.Lists.{Each}
 use Rattle.sheet.specs.Sheet.{sheetData}
@@ -19,7 +22,7 @@ use Rattle.passes.specs.Use.{Use, total, sizeOf}
 use Rattle.area.specs.Area.{entriesOf, flat}
 use Rattle.passes.specs.Entries.{plan}
 use Rattle.translation.specs.Translate.{says, odd, orNone, translate}
-use Rattle.agreement.specs.Agreement.{AllBytes, EveryDisabled, Lent, weights, Accepted, TwoPasses, laidBy, Agree, InReach}
+use Rattle.agreement.specs.Agreement.{EveryDisabled, Lent, weights, Accepted, TwoPasses, EndToEnd, laidBy, Agree, InReach}
 use Rattle.translation.proofs.Lies.{inside, behind}
 use Rattle.agreement.proofs.Basics.{either, first-none, none-at, never-none}
 use Rattle.agreement.proofs.Straight.{lay, Lays, goOn, goOn-total, lay-behind}
@@ -28,7 +31,12 @@ use Rattle.agreement.proofs.Run.{said, none-odd, other-silents}
 use Rattle.agreement.proofs.Uses.{uses-total}
 use Rattle.area.proofs.Flat.{length-chunks}
 use Rattle.agreement.proofs.Areas.{planned-long, planned-entries}
-use Rattle.agreement.proofs.Demand3.{one-of-two, two, ownBy, sizeBy, Facts, facts, sane-uses, lays, counted-own, counted-lay, disabled-off, disabled-start}
+use Rattle.agreement.proofs.Demand3.{one-of-two, two, ownBy, rangeSize, Facts, facts, sane-uses, lays, counted-own, counted-lay, disabled-off, disabled-start}
+
+-- end to end, bytes on which the two disagree are none of which demand 3 holds
+pub contradicts : (sheet : List ℕ) (r : PdoDirection) (l : Lent) (area : List ℕ) → EndToEnd (laidBy sheet r l)
+    → (Agree sheet r l area → ⊥) → (Agree sheet r l area ↔ EndToEnd (laidBy sheet r l)) → ⊥
+contradicts sheet r l area straight disagree demanded = disagree (demanded .1 straight)
 
 -- an address of the range at which laying names a device address
 record Found (q : ℕ) (us : List Use) : Type 0 where
@@ -81,11 +89,11 @@ found-last q (u ∷ us) b h = go (either (ltb 0 (total us))) (found-last (q + u 
         (found-here q u us (u .size - 1) (omega arith) (omega arith), omega arith)
 
 -- entries of no weight for a direction name nothing: on nonempty data that isn't what counting names
-module _ (sheet : List ℕ) (bytes : AllBytes sheet) (r : PdoDirection) (l : Lent) (area after : List ℕ) (f : Facts sheet r l area after) where
-  silent-disagrees : (final : List ℕ) → length final ≡ 256 → ((k : ℕ) → Silent r (getD (entriesOf 16 final) k [])) → 0 < sizeBy sheet r l → Agree sheet r l final → ⊥
+module _ (sheet : List ℕ) (bytes : Bytes sheet) (r : PdoDirection) (l : Lent) (area after : List ℕ) (f : Facts sheet r l area after) where
+  silent-disagrees : (final : List ℕ) → length final ≡ 256 → ((k : ℕ) → Silent r (getD (entriesOf 16 final) k [])) → 0 < rangeSize sheet r l → Agree sheet r l final → ⊥
   unfolding translate
   silent-disagrees final long silents h agree =
-      let z : total (laidBy sheet r l) ≡ sizeBy sheet r l = uses-total (sheetData sheet) (weights sheet l) r in
+      let z : total (laidBy sheet r l) ≡ rangeSize sheet r l = uses-total (sheetData sheet) (weights sheet l) r in
       let y = lays sheet bytes r l area after f in
       let s = found-first (l .offset) (laidBy sheet r l) (y .addresses) (omega arith) in
       let ends = y .ends in
@@ -101,16 +109,16 @@ module _ (sheet : List ℕ) (bytes : AllBytes sheet) (r : PdoDirection) (l : Len
       let n : orNone (lay (l .offset) (laidBy sheet r l) (s .at)) ≡ none = cc in
       never-none (sym (s .is) ∙ n)
 
--- a pass that is accepted and writes nothing
-pub writes-nothing : (sheet : List ℕ) → AllBytes sheet → (r : PdoDirection) (l : Lent) (area after : List ℕ) → Accepted sheet r l area after
-    → EveryDisabled area → 0 < sizeBy sheet r l → Agree sheet r l area → ⊥
+-- a pass that is accepted and writes nothing: they disagree over the area as it was
+pub writes-nothing : (sheet : List ℕ) → Bytes sheet → (r : PdoDirection) (l : Lent) (area after : List ℕ) → Accepted sheet r l area after
+    → EveryDisabled area → 0 < rangeSize sheet r l → Agree sheet r l area → ⊥
 writes-nothing sheet bytes r l area after p d =
     let f = facts sheet r l area after p in
     silent-disagrees sheet bytes r l area after f area (f .long) (λ k. off-silent r _ (disabled-off area d k))
 
--- one that maps the first direction and pretends in the second
-pretends-second : (sheet : List ℕ) → AllBytes sheet → (r : PdoDirection) (l m : Lent) (area between after : List ℕ) → EveryDisabled area
-    → Facts sheet (other r) m area between → Facts sheet r l between after → 0 < sizeBy sheet r l → Agree sheet r l between → ⊥
+-- one that maps the first direction and pretends in the second: over what the first left
+pretends-second : (sheet : List ℕ) → Bytes sheet → (r : PdoDirection) (l m : Lent) (area between after : List ℕ) → EveryDisabled area
+    → Facts sheet (other r) m area between → Facts sheet r l between after → 0 < rangeSize sheet r l → Agree sheet r l between → ⊥
 pretends-second sheet bytes r l m area between after d g f =
     silent-disagrees sheet bytes r l between after f between (f .long)
     (subst (λ (es : List (List ℕ)). (k : ℕ) → Silent r (getD es k [])) (sym (g .leaves))
@@ -118,8 +126,8 @@ pretends-second sheet bytes r l m area between after d g f =
     (λ k. off-silent r _ (disabled-off area d k))
     (sane-uses sheet bytes (other r) m area between g .places)))
 
-pub pretends : (sheet : List ℕ) (lent : PdoDirection → Lent) (first : PdoDirection) (area after : List ℕ) → AllBytes sheet
-    → (p : TwoPasses sheet lent first area after) → 0 < sizeBy sheet (other first) (lent (other first))
+pub pretends : (sheet : List ℕ) (lent : PdoDirection → Lent) (first : PdoDirection) (area after : List ℕ) → Bytes sheet
+    → (p : TwoPasses sheet lent first area after) → 0 < rangeSize sheet (other first) (lent (other first))
     → Agree sheet (other first) (lent (other first)) (p .between) → ⊥
 pretends sheet lent first area after bytes p =
     pretends-second sheet bytes (other first) (lent (other first)) (lent first) area (p .between) after (p .disabled)
@@ -136,7 +144,7 @@ last-byte-differs q us vs b h e same =
     never-none (sym (f .0 .is) ∙ y ∙ ap orNone z)
 
 -- one that lays invented sizes: any uses that could be laid there, but of another total
-module _ (sheet : List ℕ) (bytes : AllBytes sheet) (r : PdoDirection) (l : Lent) (area after : List ℕ)
+module _ (sheet : List ℕ) (bytes : Bytes sheet) (r : PdoDirection) (l : Lent) (area after : List ℕ)
     (p : Accepted sheet r l area after) (d : EveryDisabled area) (vs : List Use) (y : Lays (l .offset) vs) where
   long : length area ≡ 256
   long = facts sheet r l area after p .long
@@ -159,14 +167,14 @@ module _ (sheet : List ℕ) (bytes : AllBytes sheet) (r : PdoDirection) (l : Len
       let g = agree a h in
       cc
 
-  pub invented-too-small : InReach sheet r l → total vs < sizeBy sheet r l → Agree sheet r l (flat (plan r (l .offset) vs (entriesOf 16 area))) → ⊥
+  pub invented-too-small : InReach sheet r l → total vs < rangeSize sheet r l → Agree sheet r l (flat (plan r (l .offset) vs (entriesOf 16 area))) → ⊥
   unfolding sizeOf
   invented-too-small b h agree =
       let z = goOn-total 16 0 vs in
-      let e = ltb-false 4294967295 (l .offset + sizeBy sheet r l) (facts sheet r l area after p .end) in
+      let e = ltb-false 4294967295 (l .offset + rangeSize sheet r l) (facts sheet r l area after p .end) in
       last-byte-differs (l .offset) (ownBy sheet r l) (goOn 16 0 vs) b (omega arith) (omega arith) (invented agree)
 
-  pub invented-too-large : InReachOf (goOn 16 0 vs) → sizeBy sheet r l < total vs → Agree sheet r l (flat (plan r (l .offset) vs (entriesOf 16 area))) → ⊥
+  pub invented-too-large : InReachOf (goOn 16 0 vs) → rangeSize sheet r l < total vs → Agree sheet r l (flat (plan r (l .offset) vs (entriesOf 16 area))) → ⊥
   unfolding sizeOf
   invented-too-large b h agree =
       let z = goOn-total 16 0 vs in

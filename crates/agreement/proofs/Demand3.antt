@@ -10,11 +10,13 @@ use native.Mathlib.Omega.{arith}
 use lib.Dec.{eqb, ltb}
 use lib.ListN.{length, getD, List·getD-eq-default}
 use borrow.Author.Tests.{ltb-true, ltb-false, eqb-true, eq-eqb, not-false}
+use Rattle.wire.specs.Image.{Bytes}
 use Rattle.wire.specs.Outcome.{Outcome, refused, accepted}
 use Rattle.wire.proofs.Order.{never}
 use Rattle.pdi.specs.Offset.{pastEnd}
 use Rattle.fmmu.specs.Image.{fieldsOf}
-use Rattle.sheet.specs.Sheet.{wrongLength, wrongVersion, broken, someUnnamed, sheetData}
+use Rattle.sheet.specs.Sheet.{sheetData}
+use Rattle.sheet.proofs.Kept.{Accepts, accepts}
 use Rattle.pdo.specs.declared.PdoDirection.{PdoDirection}
 use Rattle.pdo.specs.declared.PdoDirection.the-variants.{MasterRead, MasterWrite}
 use Rattle.pdi.specs.declared.Placed.the-variants.{Segment}
@@ -25,13 +27,13 @@ use Rattle.wire.specs.Lists.{someOf}
 use Rattle.pdo.specs.Bits.{piecesOf}
 use Rattle.passes.specs.Use.{Use, own, totalOn, sizeOf}
 use Rattle.area.specs.Area.{entriesOf, notEntries, notChannels}
-use Rattle.passes.specs.Entries.{plan, lengthNow, Planned, tooLong}
-use Rattle.wanted.specs.Wanted.{someTooMany, noEntry}
-use Rattle.passes.specs.Pass.{entriesAfter, segmentOf, Passes, passRefusals, plannedOf, dataPass}
+use Rattle.passes.specs.Entries.{plan, Planned, tooLong}
+use Rattle.passes.proofs.Room.{not-too-long}
+use Rattle.passes.specs.Pass.{someTooMany, noEntry, entriesAfter, segmentAlone, Passes, passRefusals, plannedOf, dataPass}
 use Rattle.translation.specs.Translate.{says, odd, firstSaid, orNone, translate}
 use Rattle.counting.specs.Count.{spotIn, deviceAlone, countRefusals, count}
-use Rattle.agreement.specs.Agreement.{AllBytes, EveryDisabled, Lent, weights, passOf, Accepted, TwoPasses, laidBy, counted, Demand3, Demand3InReach}
-use Rattle.agreement.proofs.Basics.{accepted-clear, clear-accepted, or-false, none-below, each-map, each-of, either}
+use Rattle.agreement.specs.Agreement.{EveryDisabled, Lent, weights, passOf, Accepted, TwoPasses, laidBy, counted, Demand3, Demand3InReach}
+use Rattle.agreement.proofs.Basics.{accepted-clear, clear-accepted, or-false, each-map, each-of, either}
 use Rattle.agreement.proofs.Straight.{lay, Lays, apart-flip}
 use Rattle.agreement.proofs.Step.{Off, off-silent}
 use Rattle.agreement.proofs.Run.{Start, Alike, agree-iff, none-odd, other-after, other-before}
@@ -44,17 +46,17 @@ use Rattle.agreement.proofs.Sheets.{bounded}
 abbrev pub ownBy : List ℕ → PdoDirection → Lent → List Use
 ownBy sheet r l = own (piecesOf (sheetData sheet) (weights sheet l) r)
 
-abbrev pub sizeBy : List ℕ → PdoDirection → Lent → ℕ
-sizeBy sheet r l = sizeOf (sheetData sheet) (weights sheet l) r
+abbrev pub rangeSize : List ℕ → PdoDirection → Lent → ℕ
+rangeSize sheet r l = sizeOf (sheetData sheet) (weights sheet l) r
 
 -- what an accepted pass of a sheet tells
 pub record Facts (sheet : List ℕ) (r : PdoDirection) (l : Lent) (area after : List ℕ) : Type 0 where
   pub long : length area ≡ 256
-  pub format : (wrongLength sheet ≡ false) × ((wrongVersion sheet ≡ false) × ((broken sheet ≡ false) × (someUnnamed sheet ≡ false)))
+  pub sheet-kept : Accepts sheet
   pub bits : someTooMany (sheetData sheet) (weights sheet l) r ≡ false
   pub entry : noEntry (sheetData sheet) (weights sheet l) r ≡ false
   pub room : tooLong (laidBy sheet r l) (entriesOf 16 area) ≡ false
-  pub end : pastEnd (l .offset + sizeBy sheet r l) ≡ false
+  pub end : pastEnd (l .offset + rangeSize sheet r l) ≡ false
   pub after-long : length after ≡ 256
   pub leaves : entriesOf 16 after ≡ plan r (l .offset) (laidBy sheet r l) (entriesOf 16 area)
 
@@ -71,7 +73,7 @@ facts sheet r l area after a =
     let left = a .leaves ∙ ap (λ (o : Outcome Planned). entriesAfter o (sheetData sheet) (weights sheet l) r (l .offset) area) (a .says) in
     record {
       long = long;
-      format = (c .1 .0, (c .1 .1 .0, (c .1 .1 .1 .0, c .1 .1 .1 .1 .0)));
+      sheet-kept = accepts sheet (c .1 .0) (c .1 .1 .0) (c .1 .1 .1 .0) (c .1 .1 .1 .1 .0);
       bits = s .0;
       entry = s .1 .0;
       room = s .1 .1 .0;
@@ -81,16 +83,12 @@ facts sheet r l area after a =
     }
 
 -- and so what is needed to lay its sync managers, and what counting answers
-module _ (sheet : List ℕ) (bytes : AllBytes sheet) (r : PdoDirection) (l : Lent) (area after : List ℕ) (f : Facts sheet r l area after) where
+module _ (sheet : List ℕ) (bytes : Bytes sheet) (r : PdoDirection) (l : Lent) (area after : List ℕ) (f : Facts sheet r l area after) where
   pub sane-uses : Sane (laidBy sheet r l)
-  sane-uses = sane (sheetData sheet) (bounded sheet bytes (f .format .1 .1 .0)) (weights sheet l) r (f .entry)
+  sane-uses = sane (sheetData sheet) (bounded sheet bytes (f .sheet-kept)) (weights sheet l) r (f .entry)
 
   room-on : (k : ℕ) → k < 16 → totalOn k (laidBy sheet r l) ≤ 65535
-  unfolding tooLong
-  room-on k h =
-      let m : lengthNow (getD (entriesOf 16 area) k []) + totalOn k (laidBy sheet r l) ≤ 65535 =
-      ltb-false 65535 _ (none-below (λ k. ltb 65535 (lengthNow (getD (entriesOf 16 area) k []) + totalOn k (laidBy sheet r l))) 16 (f .room) k h) in
-      omega arith
+  room-on k h = let m = not-too-long (laidBy sheet r l) (entriesOf 16 area) (f .room) .fits k h in omega arith
 
   pub lays : Lays (l .offset) (laidBy sheet r l)
   lays =
@@ -105,7 +103,7 @@ module _ (sheet : List ℕ) (bytes : AllBytes sheet) (r : PdoDirection) (l : Len
             (λ v h. room-on (v .entry) h)
             (laidBy sheet r l) (sane-uses .places);
         ends =
-            let h = ltb-false 4294967295 (l .offset + sizeBy sheet r l) (f .end) in
+            let h = ltb-false 4294967295 (l .offset + rangeSize sheet r l) (f .end) in
             let z = uses-total (sheetData sheet) (weights sheet l) r in
             omega arith;
       }
@@ -114,12 +112,12 @@ module _ (sheet : List ℕ) (bytes : AllBytes sheet) (r : PdoDirection) (l : Len
   unfolding count
   counted-own a =
       let ps = piecesOf (sheetData sheet) (weights sheet l) r in
-      let g = f .format in
+      let k = f .sheet-kept in
       ap deviceAlone
       (clear-accepted
       (countRefusals sheet (weights sheet l) r (l .offset))
       (spotIn (l .offset) ps a)
-      (g .0, (g .1 .0, (g .1 .1 .0, (g .1 .1 .1, (f .bits, (f .entry, (f .end, tt))))))))
+      (k .right, (k .version, (k .whole, (k .named, (f .bits, (f .entry, (f .end, tt))))))))
       ∙ ap (λ (x : Option ℕ). accepted x) (spot-lay (l .offset) a ps)
 
   pub counted-lay : (a : ℕ) → counted sheet r l a ≡ accepted (orNone (lay (l .offset) (laidBy sheet r l) a))
@@ -151,7 +149,7 @@ disabled-start r us area d =
       off = each-of (λ (v : Use). Off (getD (entriesOf 16 area) (v .entry) [])) (λ v. disabled-off area d (v .entry)) us;
     }
 
-module _ (sheet : List ℕ) (bytes : AllBytes sheet) (r : PdoDirection) (l m : Lent) (area between final : List ℕ) (disabled : EveryDisabled area) where
+module _ (sheet : List ℕ) (bytes : Bytes sheet) (r : PdoDirection) (l m : Lent) (area between final : List ℕ) (disabled : EveryDisabled area) where
   us : List Use
   us = laidBy sheet r l
 
@@ -205,7 +203,7 @@ which MasterWrite MasterRead = inr refl
 which MasterWrite MasterWrite = inl refl
 
 -- the two passes
-module _ (sheet : List ℕ) (bytes : AllBytes sheet) (lent : PdoDirection → Lent) (area after : List ℕ) (first : PdoDirection)
+module _ (sheet : List ℕ) (bytes : Bytes sheet) (lent : PdoDirection → Lent) (area after : List ℕ) (first : PdoDirection)
     (p : TwoPasses sheet lent first area after) where
   pub one : Facts sheet first (lent first) area (p .between)
   one = facts sheet first (lent first) area (p .between) (p .one)
@@ -254,5 +252,5 @@ pub promised :
 promised sheet r l area after channelsAfter s o c = go (passOf sheet r l area) refl
   where
     go : (x : Outcome Planned) → passOf sheet r l area ≡ x → Accepted sheet r l area after
-    go (refused n) e = absurd (never (sym (c .says ∙ ap segmentOf e)))
+    go (refused n) e = absurd (never (sym (c .says ∙ ap segmentAlone e)))
     go (accepted p) e = record { planned = p; says = e; leaves = c .entries }

@@ -11,6 +11,7 @@ use native.Mathlib.Omega.{arith}
 use lib.ListN.{length, getD, set, replicate, List·getD-eq-default}
 use lib.Dec.{T, ltb, lit<}
 use borrow.Author.Tests.{ltb-true, ltb-false}
+use Rattle.wire.specs.Image.{Bytes}
 use Rattle.wire.specs.Outcome.{Outcome, accepted}
 use Rattle.wire.proofs.Below.{all, below}
 use Rattle.pdi.specs.Segment.{segment}
@@ -25,8 +26,7 @@ use Rattle.pdo.specs.Bits.{multiplierOf, byCoe, bitsOf, piecesFrom, piecesOf}
 use Rattle.passes.specs.Use.{own, given, firstWith, usesOf, total, totalOn, sizeOf}
 use Rattle.area.specs.Area.{chunks, entriesOf, flat}
 use Rattle.passes.specs.Entries.{mapped, plan, Planned, tooLong}
-use Rattle.wanted.specs.Wanted.{someTooMany, noEntry}
-use Rattle.passes.specs.Pass.{dataPass}
+use Rattle.passes.specs.Pass.{someTooMany, noEntry, dataPass}
 use Rattle.translation.specs.Translate.{carries, odd, says, firstSaid, translate}
 use Rattle.counting.specs.Count.{spotIn, count}
 use Rattle.agreement.specs.Agreement.{EveryDisabled, Lent, weights, Accepted, TwoPasses, sharing, EndToEnd, laidBy, counted, Agree}
@@ -40,7 +40,7 @@ is-true : (b : Bool) → T b → b ≡ true
 is-true true t = refl
 is-true false t = absurd t
 
-bytes-of : (l : List ℕ) → T (all (λ k. ltb (getD l k 0) 256) (length l)) → (k : ℕ) → getD l k 0 < 256
+pub bytes-of : (l : List ℕ) → T (all (λ k. ltb (getD l k 0) 256) (length l)) → Bytes l
 bytes-of l t k = go (either (ltb k (length l)))
   where
     go : (ltb k (length l) ≡ true) ⊎ (ltb k (length l) ≡ false) → getD l k 0 < 256
@@ -51,12 +51,12 @@ is-false : (b : Bool) → T (not b) → b ≡ false
 is-false true t = absurd t
 is-false false t = refl
 
-all-disabled : EveryDisabled zeros
+pub all-disabled : EveryDisabled zeros
 unfolding fieldsOf chunks
 all-disabled k h = is-false _ (below (λ k. not (fieldsOf (getD (entriesOf 16 zeros) k []) .enable)) 16 tt k h)
 
 -- what each pass is lent: no table, group start 0; the inputs from 0, the outputs from 5
-abbrev lent : PdoDirection → Lent
+abbrev pub lent : PdoDirection → Lent
 lent MasterRead = record { table = []; offset = 0; group = 0; channels = replicate 128 0 }
 lent MasterWrite = record { table = []; offset = 5; group = 0; channels = replicate 128 0 }
 
@@ -68,17 +68,17 @@ inputs = record { segment = segment 0 5; next = 5 }
 
 -- document 01's sheet: the entries that its program prints, as bytes
 
-abbrev outputEntry : List ℕ
-outputEntry = 5 ∷ 0 ∷ 0 ∷ 0 ∷ 2 ∷ 0 ∷ 0 ∷ 7 ∷ 0x00 ∷ 0x11 ∷ 0 ∷ 2 ∷ 1 ∷ 0 ∷ 0 ∷ 0 ∷ []
+abbrev outputBytes : List ℕ
+outputBytes = 5 ∷ 0 ∷ 0 ∷ 0 ∷ 2 ∷ 0 ∷ 0 ∷ 7 ∷ 0x00 ∷ 0x11 ∷ 0 ∷ 2 ∷ 1 ∷ 0 ∷ 0 ∷ 0 ∷ []
 
-abbrev inputEntry : List ℕ
-inputEntry = 0 ∷ 0 ∷ 0 ∷ 0 ∷ 5 ∷ 0 ∷ 0 ∷ 7 ∷ 0x80 ∷ 0x11 ∷ 0 ∷ 1 ∷ 1 ∷ 0 ∷ 0 ∷ 0 ∷ []
+abbrev inputBytes : List ℕ
+inputBytes = 0 ∷ 0 ∷ 0 ∷ 0 ∷ 5 ∷ 0 ∷ 0 ∷ 7 ∷ 0x80 ∷ 0x11 ∷ 0 ∷ 1 ∷ 1 ∷ 0 ∷ 0 ∷ 0 ∷ []
 
-abbrev sampleArea : List ℕ
-sampleArea = outputEntry ++ inputEntry ++ replicate 224 0
+abbrev pub sampleArea : List ℕ
+sampleArea = outputBytes ++ inputBytes ++ replicate 224 0
 
 -- FMMU0: logical start 5, size 2, physical start 0x1100, W; FMMU1: logical start 0, size 5, physical start 0x1180, RO
-pub as-printed : (fieldsOf outputEntry ≡ mapped MasterWrite 5 2 0x1100) × (fieldsOf inputEntry ≡ mapped MasterRead 0 5 0x1180)
+pub as-printed : (fieldsOf outputBytes ≡ mapped MasterWrite 5 2 0x1100) × (fieldsOf inputBytes ≡ mapped MasterRead 0 5 0x1180)
 unfolding fieldsOf
 as-printed = (refl, refl)
 
@@ -88,7 +88,7 @@ unfolding fieldsOf imageOf controlAt unnamed listOf someBelow pdosFrom wrongLeng
 sample-passes =
     record {
       disabled = all-disabled;
-      between = replicate 16 0 ++ inputEntry ++ replicate 224 0;
+      between = replicate 16 0 ++ inputBytes ++ replicate 224 0;
       one = record { planned = inputs; says = refl; leaves = refl };
       two = record { planned = outputs; says = refl; leaves = refl };
     }
@@ -118,7 +118,7 @@ unfolding fieldsOf imageOf controlAt unnamed listOf someBelow pdosFrom wrongLeng
 moved-passes =
     record {
       disabled = all-disabled;
-      between = replicate 16 0 ++ inputEntry ++ replicate 224 0;
+      between = replicate 16 0 ++ inputBytes ++ replicate 224 0;
       one = record { planned = inputs; says = refl; leaves = refl };
       two = record { planned = outputs; says = refl; leaves = refl };
     }
@@ -149,7 +149,7 @@ ownSheet =
     ++ (0x02 ∷ 0x02 ∷ 0x16 ∷ 0x00 ∷ 0x02 ∷ 0x00 ∷ 0x10 ∷ [])
 
 abbrev ownOutput : List ℕ
-ownOutput = replicate 32 0 ++ outputEntry
+ownOutput = replicate 32 0 ++ outputBytes
 
 abbrev ownArea : List ℕ
 ownArea =

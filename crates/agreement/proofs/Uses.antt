@@ -20,7 +20,8 @@ use Rattle.pdo.specs.declared.PdoDirection.the-variants.{MasterRead, MasterWrit
 use Rattle.pdo.specs.Direction.{usageOf, fmmuUsageOf, other}
 use Rattle.pdo.specs.Bits.{Piece, byCoe, pathKind, bitsOf, piecesFrom, piecesOf}
 use Rattle.passes.specs.Use.{Use, useOf, own, given, firstWith, coeEntry, usesOf, total, sizeOf}
-use Rattle.wanted.specs.Wanted.{noEntry}
+use Rattle.passes.specs.Pass.{noEntry}
+use Rattle.passes.proofs.Pieces.{given-total}
 use Rattle.translation.specs.Translate.{within, named, orNone}
 use Rattle.counting.specs.Count.{spotAt, spotIn, deviceIn}
 use Rattle.translation.proofs.Lies.{before, behind}
@@ -118,15 +119,6 @@ module _ (entry : ℕ → ℕ) where
           let n : within o 0 a ≡ false = ⊎-elim (λ s. before o 0 a s) (⊎-elim (λ s. absurd (omega arith)) (λ s. behind o 0 a s)) (where-is o 0 a) in
           let y : o + 0 ≡ o = omega arith in
           rw (e, z, n, y) (i o)
-
-  given-total : (ps : List Piece) → total (given entry ps) ≡ total (own ps)
-  unfolding total own given
-  given-total [] = refl
-  given-total (p ∷ ps) = go (either (ltb 0 (p .bits))) (given-total ps)
-    where
-      go : (ltb 0 (p .bits) ≡ true) ⊎ (ltb 0 (p .bits) ≡ false) → total (given entry ps) ≡ total (own ps) → total (given entry (p ∷ ps)) ≡ total (own (p ∷ ps))
-      go (inl e) i = rw (e, i) refl
-      go (inr e) i = let h = ltb-false 0 (p .bits) e in rw (e, i) (omega arith)
 
 -- one after another on one entry
 one-entry : (k : ℕ) (us : List Use) → Each (λ (u : Use). (u .entry ≡ k) × (0 < u .size)) us → Grouped us

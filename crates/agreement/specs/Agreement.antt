@@ -9,6 +9,7 @@ use Prim.Native.Nat.{ℕ, _+_, _^_, _≤_, _<_}
 use lib.ListN.{getD}
 use lib.Dec.{eqb, ltb}
 use Rattle.wire.specs.Outcome.{Outcome, accepted}
+use Rattle.wire.specs.Image.{Bytes}
 use Rattle.fmmu.specs.Image.{fieldsOf}
 use Rattle.wire.specs.Lists.{Each}
 use Rattle.sheet.specs.Sheet.{sheetData}
@@ -26,10 +27,6 @@ use Rattle.counting.specs.Count.{countedAddress}
 -- every FMMU entry disabled: all sixteen
 abbrev pub EveryDisabled : List ℕ → Type 0
 EveryDisabled area = (k : ℕ) → k < 16 → fieldsOf (getD (entriesOf 16 area) k []) .enable ≡ false
-
--- bytes, as every slice holds them
-abbrev pub AllBytes : List ℕ → Type 0
-AllBytes l = (k : ℕ) → getD l k 0 < 256
 
 -- what a pass is lent beside the sheet and the FMMU area
 pub record Lent : Type 0 where
@@ -94,7 +91,7 @@ Agree sheet r l area = (a : ℕ) → a < 2 ^ 32 → translate r area a ≡ count
 abbrev pub Demand3 : Type 0
 Demand3 =
     (sheet : List ℕ) (lent : PdoDirection → Lent) (first : PdoDirection) (area after : List ℕ)
-    → AllBytes sheet
+    → Bytes sheet
     → TwoPasses sheet lent first area after
     → (r : PdoDirection)
     → Agree sheet r (lent r) after ↔ EndToEnd (laidBy sheet r (lent r))
@@ -107,7 +104,7 @@ InReach sheet r l = Each (λ (u : Use). 0 < u .size → u .at + u .size ≤ 6553
 abbrev pub Demand3InReach : Type 0
 Demand3InReach =
     (sheet : List ℕ) (lent : PdoDirection → Lent) (first : PdoDirection) (area after : List ℕ)
-    → AllBytes sheet
+    → Bytes sheet
     → TwoPasses sheet lent first area after
     → (r : PdoDirection)
     → InReach sheet r (lent r)

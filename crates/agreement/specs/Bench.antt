@@ -8,11 +8,13 @@ use Rattle.pdi.specs.Unit.{roundedUp}
 use Rattle.pdi.specs.Offset.{incremented, incrementedByteAligned}
 use Rattle.channel_bytes.specs.declared.Control.{Control}
 use Rattle.channel_bytes.specs.Bytes.{modeNumber, controlByte, readControl}
+use Rattle.sync_manager_channel.specs.declared.SyncManagerChannel.{SyncManagerChannel}
+use Rattle.sync_manager_channel.specs.Image.{readChannel, imageOf}
 use Rattle.sheet.specs.Sheet.{sheetData}
 use Rattle.pdo.specs.declared.PdoDirection.the-variants.{MasterRead}
 use Rattle.pdo.specs.Bits.{multipliersOf}
 use Rattle.area.specs.Area.{entriesOf}
-use Rattle.passes.specs.Pass.{dataPass, entriesAfter}
+use Rattle.passes.specs.Pass.{dataPass, entriesAfter, channelAreaAfter}
 use Rattle.passes.specs.Entries.{Planned}
 
 -- a case: its number, what is computed, what the document says; answers as lists of numbers
@@ -35,29 +37,46 @@ control (refused n) = refused n
 control (accepted c) = accepted (modeNumber (c .«operation_mode») ∷ controlByte c ∷ [])
 
 -- a pass: its segment's start and end
-abbrev pub segmentOf : Outcome Planned → Outcome (List ℕ)
-segmentOf (refused n) = refused n
-segmentOf (accepted p) = accepted (p .segment .start ∷ p .segment .end ∷ [])
+abbrev pub startAndEnd : Outcome Planned → Outcome (List ℕ)
+startAndEnd (refused n) = refused n
+startAndEnd (accepted p) = accepted (p .segment .start ∷ p .segment .end ∷ [])
 
 -- no oversampling: 1 for each PDO of the sheet
 abbrev pub ones : List ℕ → List ℕ
 ones sheet = multipliersOf [] (sheetData sheet .pdos)
 
--- the input pass over FMMU bytes, from offset and group start 0
-abbrev pub inputPass : List ℕ → List ℕ → Outcome Planned
-inputPass sheet area = dataPass sheet (ones sheet) MasterRead 0 0 area (replicate 128 0)
+-- a sync manager's image that is read, and written again
+abbrev pub rewritten : Outcome SyncManagerChannel → Outcome (List ℕ)
+rewritten (refused n) = refused n
+rewritten (accepted s) = accepted (imageOf s)
 
--- an accepted pass: the bytes of the entry k of the area that it leaves
-abbrev pub entryOf : ℕ → List ℕ → Outcome Planned → Outcome (List ℕ)
-entryOf k after (refused n) = refused n
-entryOf k after (accepted p) = accepted (getD (entriesOf 16 after) k [])
-
-abbrev pub inputEntry : ℕ → List ℕ → List ℕ → Outcome (List ℕ)
-inputEntry k sheet area =
-    entryOf k (entriesAfter (inputPass sheet area) (sheetData sheet) (ones sheet) MasterRead 0 area) (inputPass sheet area)
-
+-- both areas as zeros
 abbrev pub zeros : List ℕ
 zeros = replicate 256 0
+
+abbrev pub zeroChannels : List ℕ
+zeroChannels = replicate 128 0
+
+-- the input pass over FMMU bytes, from an offset, group start 0; and from offset 0
+abbrev pub inputFrom : ℕ → List ℕ → List ℕ → Outcome Planned
+inputFrom offset sheet area = dataPass sheet (ones sheet) MasterRead offset 0 area zeroChannels
+
+abbrev pub inputPass : List ℕ → List ℕ → Outcome Planned
+inputPass sheet area = inputFrom 0 sheet area
+
+-- an accepted pass: entry k, of so many bytes, of the area that it leaves
+abbrev pub entryOf : ℕ → ℕ → List ℕ → Outcome Planned → Outcome (List ℕ)
+entryOf size k after (refused n) = refused n
+entryOf size k after (accepted p) = accepted (getD (entriesOf size after) k [])
+
+-- the FMMU entry k, and the image of the sync manager k
+abbrev pub inputEntry : ℕ → List ℕ → Outcome (List ℕ)
+inputEntry k sheet =
+    entryOf 16 k (entriesAfter (inputPass sheet zeros) (sheetData sheet) (ones sheet) MasterRead 0 zeros) (inputPass sheet zeros)
+
+abbrev pub inputImage : ℕ → List ℕ → Outcome (List ℕ)
+inputImage k sheet =
+    entryOf 8 k (channelAreaAfter (inputPass sheet zeros) (sheetData sheet) (ones sheet) MasterRead zeroChannels) (inputPass sheet zeros)
 
 -- the document's sheet: its inputs are 12 + 5 = 17 and 8 + 1 = 9 bits
 abbrev pub sampleSheet : List ℕ
@@ -84,26 +103,32 @@ noBitsSheet =
     (0x00 ∷ 0x13 ∷ 0x01 ∷ 0x03 ∷ 0x00 ∷ 0x80 ∷ 0x00 ∷ 0x80 ∷ 0x02 ∷ 0x00 ∷ 0x00 ∷ [])
     ++ (0x10 ∷ 0x80 ∷ 0x22 ∷ 0x01 ∷ 0x02 ∷ 0x11 ∷ 0x80 ∷ 0x20 ∷ 0x01 ∷ 0x04 ∷ [])
 
--- each case, by the step and by the pass where both have it
+-- each case, by the step and by the pass where both have it; a control byte by itself, in an image, and by the pass that writes one
 abbrev pub benchCases : List Row
 benchCases =
     row 1 (number (roundedUp 65528)) (accepted (8191 ∷ []))
     ∷ row 1 (number (incrementedByteAligned 0 65528)) (accepted (8191 ∷ []))
-    ∷ row 1 (segmentOf (inputPass (bitsSheet 65528) zeros)) (accepted (0 ∷ 8191 ∷ []))
+    ∷ row 1 (startAndEnd (inputPass (bitsSheet 65528) zeros)) (accepted (0 ∷ 8191 ∷ []))
     ∷ row 2 (number (roundedUp 65529)) (refused 6)
     ∷ row 2 (number (incrementedByteAligned 0 65529)) (refused 6)
-    ∷ row 2 (segmentOf (inputPass (bitsSheet 65529) zeros)) (refused 6)
+    ∷ row 2 (startAndEnd (inputPass (bitsSheet 65529) zeros)) (refused 6)
     ∷ row 3 (number (roundedUp 0)) (accepted (0 ∷ []))
-    ∷ row 3 (segmentOf (inputPass (bitsSheet 0) zeros)) (accepted (0 ∷ 0 ∷ []))
+    ∷ row 3 (number (incrementedByteAligned 0 0)) (accepted (0 ∷ []))
+    ∷ row 3 (startAndEnd (inputPass (bitsSheet 0) zeros)) (accepted (0 ∷ 0 ∷ []))
     ∷ row 4 (number (roundedUp 1)) (accepted (1 ∷ []))
-    ∷ row 4 (segmentOf (inputPass (bitsSheet 1) zeros)) (accepted (0 ∷ 1 ∷ []))
-    ∷ row 5 (segmentOf (inputPass sampleSheet zeros)) (accepted (0 ∷ 5 ∷ []))
+    ∷ row 4 (number (incrementedByteAligned 0 1)) (accepted (1 ∷ []))
+    ∷ row 4 (startAndEnd (inputPass (bitsSheet 1) zeros)) (accepted (0 ∷ 1 ∷ []))
+    ∷ row 5 (startAndEnd (inputPass sampleSheet zeros)) (accepted (0 ∷ 5 ∷ []))
     ∷ row 6 (number (incremented 4294967294 1)) (accepted (4294967295 ∷ []))
+    ∷ row 6 (startAndEnd (inputFrom 4294967294 (bitsSheet 8) zeros)) (accepted (4294967294 ∷ 4294967295 ∷ []))
     ∷ row 7 (number (incremented 4294967294 2)) (refused 9)
-    ∷ row 8 (segmentOf (inputPass (bitsSheet 8) fullEntry)) (refused 8)
-    ∷ row 9 (segmentOf (inputPass noBitsSheet zeros)) (accepted (0 ∷ 0 ∷ []))
-    ∷ row 10 (inputEntry 0 (bitsSheet 0) zeros) (accepted (0 ∷ 0 ∷ 0 ∷ 0 ∷ 0 ∷ 0 ∷ 0 ∷ 7 ∷ 0x80 ∷ 0x11 ∷ 0 ∷ 1 ∷ 1 ∷ 0 ∷ 0 ∷ 0 ∷ []))
+    ∷ row 7 (startAndEnd (inputFrom 4294967294 (bitsSheet 16) zeros)) (refused 9)
+    ∷ row 8 (startAndEnd (inputPass (bitsSheet 8) fullEntry)) (refused 8)
+    ∷ row 9 (startAndEnd (inputPass noBitsSheet zeros)) (accepted (0 ∷ 0 ∷ []))
+    ∷ row 10 (inputEntry 0 (bitsSheet 0)) (accepted (0 ∷ 0 ∷ 0 ∷ 0 ∷ 0 ∷ 0 ∷ 0 ∷ 7 ∷ 0x80 ∷ 0x11 ∷ 0 ∷ 1 ∷ 1 ∷ 0 ∷ 0 ∷ 0 ∷ []))
     ∷ row 11 (control (readControl 0x23)) (refused 5)
-    ∷ row 11 (segmentOf (inputPass (set (bitsSheet 8) 13 0x23) zeros)) (refused 5)
+    ∷ row 11 (startAndEnd (inputPass (set (bitsSheet 8) 13 0x23) zeros)) (refused 5)
     ∷ row 12 (control (readControl 0xa2)) (accepted (2 ∷ 0x22 ∷ []))
+    ∷ row 12 (rewritten (readChannel (0x80 ∷ 0x11 ∷ 1 ∷ 0 ∷ 0xa2 ∷ 0 ∷ 1 ∷ 0 ∷ []))) (accepted (0x80 ∷ 0x11 ∷ 1 ∷ 0 ∷ 0x22 ∷ 0 ∷ 1 ∷ 0 ∷ []))
+    ∷ row 12 (inputImage 0 (set (bitsSheet 8) 13 0xa2)) (accepted (0x80 ∷ 0x11 ∷ 1 ∷ 0 ∷ 0x22 ∷ 0 ∷ 1 ∷ 0 ∷ []))
     ∷ []

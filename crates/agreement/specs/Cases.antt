@@ -32,16 +32,16 @@ abbrev pub entry : ℕ → ℕ → ℕ → ℕ → ℕ → ℕ → List ℕ
 entry start size end physical access enable = littleOf 4 start ++ littleOf 2 size ++ (0 ∷ end ∷ []) ++ littleOf 2 physical ++ (0 ∷ access ∷ enable ∷ 0 ∷ 0 ∷ 0 ∷ [])
 
 -- these entries first, the others zero
-abbrev pub areaOf : List (List ℕ) → List ℕ
-areaOf es = flat es ++ replicate (16 * (16 - length es)) 0
+abbrev pub withZeros : List (List ℕ) → List ℕ
+withZeros es = flat es ++ replicate (16 * (16 - length es)) 0
 
 -- inputs 0 to 4 at 0x1000, then 2 to 6 at 0x2000
 abbrev pub overlapping : List ℕ
-overlapping = areaOf (entry 0 4 7 0x1000 1 1 ∷ entry 2 4 7 0x2000 1 1 ∷ [])
+overlapping = withZeros (entry 0 4 7 0x1000 1 1 ∷ entry 2 4 7 0x2000 1 1 ∷ [])
 
 -- a good entry of 4 bytes, and one more
 abbrev pub goodAnd : List ℕ → List ℕ
-goodAnd e = areaOf (entry 0 4 7 0x1000 1 1 ∷ e ∷ [])
+goodAnd e = withZeros (entry 0 4 7 0x1000 1 1 ∷ e ∷ [])
 
 abbrev pub translationCases : List Row
 translationCases =
@@ -49,16 +49,18 @@ translationCases =
     ∷ row 2 (address (translate MasterRead overlapping 4)) (accepted (0x2002 ∷ []))  -- past the first one's end, the second
     ∷ row 3 (address (translate MasterRead overlapping 6)) (accepted [])  -- none holds it
     ∷ row 4 (address (translate MasterWrite overlapping 2)) (accepted [])  -- none has the other direction's bit
-    ∷ row 5 (address (translate MasterRead (areaOf (entry 0 4 7 0x1000 1 0 ∷ [])) 2)) (accepted [])  -- none is enabled
-    ∷ row 6 (address (translate MasterRead (areaOf (entry 0 4 7 0xfffe 1 1 ∷ [])) 1)) (accepted (0xffff ∷ []))  -- 65,535 is a device address
-    ∷ row 7 (address (translate MasterRead (areaOf (entry 0 4 7 0xfffe 1 1 ∷ entry 0 4 7 0x1000 1 1 ∷ [])) 2)) (accepted [])  -- 65,536 is none, whatever later entries say
-    ∷ row 8 (address (translate MasterRead (areaOf (entry 0xffffffff 2 7 0x1000 1 1 ∷ [])) 0xffffffff)) (accepted (0x1000 ∷ []))  -- the end is unbounded
-    ∷ row 9 (address (translate MasterRead (areaOf (entry 0xffffffff 2 7 0x1000 1 1 ∷ [])) 0)) (accepted [])  -- and doesn't wrap
-    ∷ row 10 (address (translate MasterRead (goodAnd (entry 8 4 6 0x2000 1 1)) 2)) (refused 11)  -- 11 after the match
+    ∷ row 5 (address (translate MasterRead (withZeros (entry 0 4 7 0x1000 1 0 ∷ [])) 2)) (accepted [])  -- none is enabled
+    ∷ row 6 (address (translate MasterRead (withZeros (entry 0 4 7 0xfffe 1 1 ∷ [])) 1)) (accepted (0xffff ∷ []))  -- 65,535 is a device address
+    ∷ row 7 (address (translate MasterRead (withZeros (entry 0 4 7 0xfffe 1 1 ∷ entry 0 4 7 0x1000 1 1 ∷ [])) 2)) (accepted [])  -- 65,536 is none, whatever later entries say
+    ∷ row 8 (address (translate MasterRead (withZeros (entry 0xffffffff 2 7 0x1000 1 1 ∷ [])) 0xffffffff)) (accepted (0x1000 ∷ []))  -- the end is unbounded
+    ∷ row 9 (address (translate MasterRead (withZeros (entry 0xffffffff 2 7 0x1000 1 1 ∷ [])) 0)) (accepted [])  -- and doesn't wrap
+    ∷ row 10 (address (translate MasterRead (goodAnd (entry 8 4 6 0x2000 1 1)) 2)) (refused 11)  -- 11 after the match, at the end bit
     ∷ row 11 (address (translate MasterRead (goodAnd (entry 8 0 6 0x2000 1 1)) 2)) (refused 11)  -- 11 at length 0
-    ∷ row 12 (address (translate MasterRead (goodAnd (entry 8 4 6 0x2000 2 1)) 2)) (accepted (0x1002 ∷ []))  -- not of the other direction
-    ∷ row 13 (address (translate MasterRead (goodAnd (entry 8 4 6 0x2000 1 0)) 2)) (accepted (0x1002 ∷ []))  -- nor of a disabled one
-    ∷ row 14 (address (translate MasterRead (0 ∷ goodAnd (entry 8 4 6 0x2000 1 1)) 2)) (refused 1)  -- 1 before 11
+    ∷ row 12 (address (translate MasterRead (goodAnd (set (entry 8 4 7 0x2000 1 1) 6 1)) 2)) (refused 11)  -- 11 at the start bit
+    ∷ row 13 (address (translate MasterRead (goodAnd (set (entry 8 4 7 0x2000 1 1) 10 1)) 2)) (refused 11)  -- 11 at the physical bit
+    ∷ row 14 (address (translate MasterRead (goodAnd (entry 8 4 6 0x2000 2 1)) 2)) (accepted (0x1002 ∷ []))  -- not of the other direction
+    ∷ row 15 (address (translate MasterRead (goodAnd (entry 8 4 6 0x2000 1 0)) 2)) (accepted (0x1002 ∷ []))  -- nor of a disabled one
+    ∷ row 16 (address (translate MasterRead (0 ∷ goodAnd (entry 8 4 6 0x2000 1 1)) 2)) (refused 1)  -- 1 before 11
     ∷ []
 
 abbrev pub countInputs : ℕ → ℕ → Outcome (List ℕ)

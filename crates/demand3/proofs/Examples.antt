@@ -1,0 +1,106 @@
+-- The theorem isn't empty: two accepted passes are passes of which calls can be made, whatever is asked for has an answer that keeps the promise, and on document 01's
+-- sheet the answers then agree everywhere.
+-- Assumes nothing.
+use mathlib.Core.Path.{_≡_, refl, sym, ap}
+use mathlib.Core.List.{List}
+use mathlib.Core.Option.{Option, none, some}
+use Prim.Native.Nat.{ℕ}
+use Rattle.wire.specs.Outcome.{Outcome, refused, accepted}
+use Rattle.pdi.specs.declared.PdiOffset.{PdiOffset}
+use Rattle.sheet.specs.Sheet.{sheetData}
+use Rattle.pdo.specs.declared.PdoDirection.{PdoDirection}
+use Rattle.pdo.specs.declared.PdoDirection.the-variants.{MasterRead, MasterWrite}
+use Rattle.passes.specs.Pass.{segmentAlone, offsetAfter, channelAreaAfter}
+use Rattle.translation.specs.declared.Reached.{Reached}
+use Rattle.translation.specs.declared.Reached.the-variants.{Nowhere, At}
+use Rattle.translation.specs.declared.Translated.{Translated}
+use Rattle.translation.specs.declared.Translated.the-variants as translated
+use Rattle.translation.specs.Translate.{reachedOf, translate, translatedOf}
+use Rattle.counting.specs.declared.Counted.{Counted}
+use Rattle.counting.specs.declared.Counted.the-variants as counted
+use Rattle.counting.specs.Count.{Spot, count, countedOf}
+use Rattle.agreement.specs.Agreement.{Lent, weights, passOf, Accepted}
+use Rattle.agreement.specs.Bench.{zeros, sampleSheet}
+use Rattle.agreement.proofs.Examples.{bytes-of, lent, all-disabled, sample-passes, sample-end-to-end, sampleArea}
+use Rattle.demand3.specs.Calls.{Pass, Translation, Counting, Calls, AgreeEverywhere}
+use Rattle.demand3.proofs.Functions.{demand-3-of-functions}
+
+-- an answer for whatever a definition says
+abbrev reachedBy : Option ℕ → Reached
+reachedBy none = Nowhere
+reachedBy (some x) = At x
+
+reached-back : (x : Option ℕ) → reachedOf (reachedBy x) ≡ x
+reached-back none = refl
+reached-back (some x) = refl
+
+abbrev translatedBy : Outcome (Option ℕ) → Translated
+translatedBy (refused n) = translated.Refused n
+translatedBy (accepted x) = translated.To (reachedBy x)
+
+translated-back : (o : Outcome (Option ℕ)) → translatedOf (translatedBy o) ≡ o
+translated-back (refused n) = refl
+translated-back (accepted x) = ap (λ (y : Option ℕ). accepted y) (reached-back x)
+
+abbrev countedBy : Outcome (Option Spot) → Counted
+countedBy (refused n) = counted.Refused n
+countedBy (accepted none) = counted.Nowhere
+countedBy (accepted (some p)) = counted.In (record { «sync_manager» = p .manager; byte = p .byte; device = reachedBy (p .device) })
+
+counted-back : (o : Outcome (Option Spot)) → countedOf (countedBy o) ≡ o
+counted-back (refused n) = refl
+counted-back (accepted none) = refl
+counted-back (accepted (some p)) = ap (λ (x : Option ℕ). accepted (some (record { manager = p .manager; byte = p .byte; device = x }))) (reached-back (p .device))
+
+-- an accepted pass is one that a call could have made
+module _ (sheet : List ℕ) (r : PdoDirection) (l : Lent) (area after : List ℕ) (a : Accepted sheet r l area after) where
+  abbrev from : PdiOffset
+  from = record { «start_address» = l .offset }
+
+  abbrev could-pass : Pass sheet r
+  could-pass =
+      record {
+        table = l .table;
+        fmmus = area;
+        channels = l .channels;
+        offset = from;
+        group = l .group;
+        segment = a .planned .segment;
+        fmmusThen = after;
+        channelsThen = channelAreaAfter (passOf sheet r l area) (sheetData sheet) (weights sheet l) r (l .channels);
+        offsetThen = offsetAfter (passOf sheet r l area) from;
+        promise = record { says = sym (ap segmentAlone (a .says)); moves = refl; entries = a .leaves; images = refl };
+      }
+
+could-translate : (fmmus : List ℕ) (r : PdoDirection) (a : ℕ) → Translation fmmus r a
+could-translate fmmus r a = record { answer = translatedBy (translate r fmmus a); promise = translated-back (translate r fmmus a) }
+
+could-count : (sheet : List ℕ) (l : Lent) (offset : PdiOffset) (r : PdoDirection) (a : ℕ) → Counting sheet (l .table) offset r a
+could-count sheet l offset r a =
+    let o = count r a sheet (weights sheet l) (offset .«start_address») in
+    record { answer = countedBy o; promise = counted-back o }
+
+-- document 01's sheet, inputs first
+abbrev samplePass : (r : PdoDirection) → Pass sampleSheet r
+samplePass MasterRead = could-pass sampleSheet MasterRead (lent MasterRead) zeros (sample-passes .between) (sample-passes .one)
+samplePass MasterWrite = could-pass sampleSheet MasterWrite (lent MasterWrite) (sample-passes .between) sampleArea (sample-passes .two)
+
+sample-count : (r : PdoDirection) (a : ℕ) → Counting sampleSheet (samplePass r .table) (samplePass r .offset) r a
+sample-count MasterRead a = could-count sampleSheet (lent MasterRead) (samplePass MasterRead .offset) MasterRead a
+sample-count MasterWrite a = could-count sampleSheet (lent MasterWrite) (samplePass MasterWrite .offset) MasterWrite a
+
+pub sample-calls : Calls sampleSheet MasterRead
+sample-calls =
+    record {
+      bytes = bytes-of sampleSheet tt;
+      pass = samplePass;
+      disabled = all-disabled;
+      handed-on = refl;
+      translating = λ r a h. could-translate sampleArea r a;
+      counting = λ r a h. sample-count r a;
+    }
+
+pub sample-calls-agree : (r : PdoDirection) → AgreeEverywhere sampleSheet MasterRead sample-calls r
+unfolding sample-calls
+sample-calls-agree MasterRead = demand-3-of-functions sampleSheet MasterRead sample-calls MasterRead .1 (sample-end-to-end MasterRead)
+sample-calls-agree MasterWrite = demand-3-of-functions sampleSheet MasterRead sample-calls MasterWrite .1 (sample-end-to-end MasterWrite)

@@ -1,0 +1,78 @@
+-- Demand 3 of the functions: read this first. It speaks of what they were lent and of what they answered.
+-- Each `promise` is the function's own `ensures`, at the values of the call; `Contracts` in proofs/ holds it to the generated contract.
+-- Assumes nothing.
+use mathlib.Core.Path.{_≡_}
+use mathlib.Core.List.{List}
+use mathlib.Core.Logic.{_↔_}
+use mathlib.Core.Option.{Option}
+use Prim.Native.Nat.{ℕ, _^_, _<_}
+use Rattle.wire.specs.Outcome.{accepted}
+use Rattle.wire.specs.Image.{Bytes}
+use Rattle.pdi.specs.declared.PdiOffset.{PdiOffset}
+use Rattle.pdi.specs.declared.PdiSegment.{PdiSegment}
+use Rattle.pdi.specs.declared.Placed.the-variants.{Segment}
+use Rattle.sheet.specs.Sheet.{sheetData}
+use Rattle.pdo.specs.declared.PdoDirection.{PdoDirection}
+use Rattle.pdo.specs.declared.Oversampling.{Oversampling}
+use Rattle.pdo.specs.Direction.{other}
+use Rattle.pdo.specs.Bits.{multipliersOf}
+use Rattle.passes.specs.Use.{Use, usesOf}
+use Rattle.passes.specs.Pass.{Passes}
+use Rattle.translation.specs.declared.Translated.{Translated}
+use Rattle.translation.specs.Translate.{translate, translatedOf}
+use Rattle.counting.specs.declared.Counted.{Counted}
+use Rattle.counting.specs.Count.{count, countedOf, deviceAlone}
+use Rattle.agreement.specs.Agreement.{EveryDisabled, EndToEnd}
+
+-- a call of `lent::configure_fmmus` that answered a segment: what it was lent beside the sheet, its answer, and what it left
+pub record Pass (sheet : List ℕ) (r : PdoDirection) : Type 0 where
+  pub table : List Oversampling
+  pub fmmus : List ℕ
+  pub channels : List ℕ
+  pub offset : PdiOffset
+  pub group : ℕ
+  pub segment : PdiSegment
+  pub fmmusThen : List ℕ
+  pub channelsThen : List ℕ
+  pub offsetThen : PdiOffset
+  pub promise : Passes sheet (multipliersOf table (sheetData sheet .pdos)) r offset group fmmus channels (Segment segment) offsetThen fmmusThen channelsThen
+
+-- a call of `translation::translate` at an address
+pub record Translation (fmmus : List ℕ) (r : PdoDirection) (a : ℕ) : Type 0 where
+  pub answer : Translated
+  pub promise : translatedOf answer ≡ translate r fmmus a
+
+-- a call of `lent::count` at an address
+pub record Counting (sheet : List ℕ) (table : List Oversampling) (offset : PdiOffset) (r : PdoDirection) (a : ℕ) : Type 0 where
+  pub answer : Counted
+  pub promise : countedOf answer ≡ count r a sheet (multipliersOf table (sheetData sheet .pdos)) (offset .«start_address»)
+
+-- the calls: from FMMU bytes with every entry disabled a pass of each direction, `first` before the other, which is lent what the first left;
+-- then, at all 2^32 addresses, translating through the bytes that are left, and counting with the pass's own table and offset
+pub record Calls (sheet : List ℕ) (first : PdoDirection) : Type 0 where
+  pub bytes : Bytes sheet
+  pub pass : (r : PdoDirection) → Pass sheet r
+  pub disabled : EveryDisabled (pass first .fmmus)
+  pub handed-on : pass (other first) .fmmus ≡ pass first .fmmusThen
+  pub translating : (r : PdoDirection) (a : ℕ) → a < 2 ^ 32 → Translation (pass (other first) .fmmusThen) r a
+  pub counting : (r : PdoDirection) (a : ℕ) → a < 2 ^ 32 → Counting sheet (pass r .table) (pass r .offset) r a
+
+-- the two answers name the same device address, or both none; neither is a refusal
+pub record SameDevice (t : Translated) (c : Counted) : Type 0 where
+  pub device : Option ℕ
+  pub translated : translatedOf t ≡ accepted device
+  pub counted : deviceAlone (countedOf c) ≡ accepted device
+
+-- at all 2^32 logical addresses
+abbrev pub AgreeEverywhere : (sheet : List ℕ) (first : PdoDirection) → Calls sheet first → PdoDirection → Type 0
+AgreeEverywhere sheet first calls r = (a : ℕ) (h : a < 2 ^ 32) → SameDevice (calls .translating r a h .answer) (calls .counting r a h .answer)
+
+-- the sync managers that the direction's pass laid, each with its size, its device address and the entry that it uses
+abbrev pub laidIn : (sheet : List ℕ) (first : PdoDirection) → Calls sheet first → PdoDirection → List Use
+laidIn sheet first calls r = usesOf (sheetData sheet) (multipliersOf (calls .pass r .table) (sheetData sheet .pdos)) r
+
+-- either order (`first`), either direction (`r`): they agree everywhere exactly if the nonempty sync managers that share an entry lie end to end
+abbrev pub Demand3OfFunctions : Type 0
+Demand3OfFunctions =
+    (sheet : List ℕ) (first : PdoDirection) (calls : Calls sheet first) (r : PdoDirection)
+    → AgreeEverywhere sheet first calls r ↔ EndToEnd (laidIn sheet first calls r)

@@ -1,0 +1,1 @@
+// Demand 3, of the functions themselves: its statement, read first, stands in specs/Calls.antt.
