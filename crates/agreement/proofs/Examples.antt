@@ -41,11 +41,11 @@ is-true true t = refl
 is-true false t = absurd t
 
 pub bytes-of : (l : List ℕ) → T (all (λ k. ltb (getD l k 0) 256) (length l)) → Bytes l
-bytes-of l t k = go (either (ltb k (length l)))
+bytes-of l t = record { below = λ k. go k (either (ltb k (length l))) }
   where
-    go : (ltb k (length l) ≡ true) ⊎ (ltb k (length l) ≡ false) → getD l k 0 < 256
-    go (inl h) = ltb-true (getD l k 0) 256 (is-true (ltb (getD l k 0) 256) (below (λ k. ltb (getD l k 0) 256) (length l) t k (ltb-true k (length l) h)))
-    go (inr h) = subst (λ (n : ℕ). n < 256) (sym (List·getD-eq-default l 0 (ltb-false k (length l) h))) (lit< tt)
+    go : (k : ℕ) → (ltb k (length l) ≡ true) ⊎ (ltb k (length l) ≡ false) → getD l k 0 < 256
+    go k (inl h) = ltb-true (getD l k 0) 256 (is-true (ltb (getD l k 0) 256) (below (λ k. ltb (getD l k 0) 256) (length l) t k (ltb-true k (length l) h)))
+    go k (inr h) = subst (λ (n : ℕ). n < 256) (sym (List·getD-eq-default l 0 (ltb-false k (length l) h))) (lit< tt)
 
 is-false : (b : Bool) → T (not b) → b ≡ false
 is-false true t = absurd t

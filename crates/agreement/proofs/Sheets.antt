@@ -23,7 +23,7 @@ each-listOf P f h zero = tt
 each-listOf P f h (suc n) = each-append P (listOf f n) (f n ∷ []) (each-listOf P f h n) (h n, tt)
 
 big-below : (s : List ℕ) (at : ℕ) → Bytes s → bigAt s at 2 < 65536
-big-below s at h = let a = h at in let b = h (at + 1) in omega arith
+big-below s at h = let a = h .below at in let b = h .below (at + 1) in omega arith
 
 addresses-below : (s : List ℕ) → Bytes s → Each (λ (m : SyncManager). m .«start_addr» < 65536) (sheetData s .managers)
 unfolding sheetData
