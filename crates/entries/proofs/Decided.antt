@@ -20,7 +20,7 @@ use Rattle.pdo.specs.declared.PdoDirection.{PdoDirection}
 use Rattle.passes.specs.declared.Configured.{Configured}
 use Rattle.passes.specs.declared.Configured.the-variants.{Mapped, Refused}
 use Rattle.passes.specs.Use.{Use, total}
-use Rattle.passes.specs.Entries.{plan, tooLong, Planned, planned, configuredOf, entriesOutcome, entryArea, WritesEntries}
+use Rattle.passes.specs.Entries.{plan, tooLong, Planned, configuredOf, entriesOutcome, entryArea, WritesEntries}
 use Rattle.entries.specs.declared.Laid.{Laid}
 use Rattle.entries.specs.declared.Laid.the-variants as lay
 use Rattle.entries.specs.Lay.{Run, laidAll, laidOf, segmentTo}

@@ -5,7 +5,7 @@ use mathlib.Core.Bool.{Bool, true, false, cond}
 use mathlib.Core.List.{List, [], _∷_}
 use Prim.Native.Nat.{ℕ, _+_, _%_}
 use native.Mathlib.Nat.{add-zero, add-assoc}
-use Rattle.wire.specs.Outcome.{Outcome, refused, accepted, when}
+use Rattle.wire.specs.Outcome.{Outcome, refused, accepted}
 use Rattle.wire.proofs.Order.{never, passed-answer}
 use Rattle.pdo.specs.declared.PdoDirection.{PdoDirection}
 use Rattle.passes.specs.Use.{Use, total}

@@ -1,11 +1,11 @@
 -- `area::load`: after k turns the first k entries stand in the array.
 -- Assumes nothing.
-use mathlib.Core.Path.{_≡_, refl, sym, _∙_, ap}
+use mathlib.Core.Path.{_≡_, refl, _∙_, ap}
 use mathlib.Core.List.{[], _++_}
 use Prim.Native.Nat.{_-_, _≤_}
 use native.Mathlib.Omega.{arith}
 use denote.Ref.{now}
-use lib.ListN.{length, take, drop, set, replicate}
+use lib.ListN.{length, take, drop, set}
 use Rattle.area.specs.Area.{chunks, areaOf}
 use Rattle.area.proofs.Flat.{length-chunks}
 use Rattle.area.proofs.Entry.{entry-any}

@@ -106,8 +106,8 @@ loop-again c =
     let sizes = u .before .before .before .before .before .before .before .before .args .t3 in
     let turned = ⊎-elim
     (λ w. turn-at
-    (turn-laid (i .3) (omega arith) h (is ∙ w .0 .taken ∙ i .2) (ap (sizeAt sizes) (w .1 .ensures .0)) (sym (w .3 .ensures) ∙ w .4 .taken) (w .5 .ensures) (w .7 .ensures) _ _ (w .8 .ensures) (w .10 .given .1)
-    (let f = w .11 .given in omega arith)) (w .13) (w .12))
+    (turn-laid (i .3) (omega arith) h (is ∙ w .0 .taken ∙ i .2) (ap (sizeAt sizes) (w .1 .ensures .0)) (sym (w .3 .ensures) ∙ w .4 .taken) (w .5 .ensures) (w .7 .ensures)
+    _ _ (w .8 .ensures) (w .10 .given .1) (let f = w .11 .given in omega arith)) (w .13) (w .12))
     (⊎-elim
     (λ w. turn-at (turn-skip (i .3) (omega arith) h (is ∙ w .0 .taken ∙ i .2) (ap (sizeAt sizes) (w .1 .ensures .0)) (sym (w .3 .ensures) ∙ w .4 .left)) (w .6) (w .5))
     (λ w. turn-at (turn-other (i .3) (omega arith) h (λ q. w .0 .left (sym is ∙ q ∙ sym (i .2)))) (w .2) (w .1))) (c .if2 .came) in

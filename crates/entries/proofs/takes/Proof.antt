@@ -1,6 +1,6 @@
 -- `entries::takes`: the two paths.
 -- Assumes nothing.
-use mathlib.Core.Path.{_≡_, refl, sym, _∙_, ap}
+use mathlib.Core.Path.{_≡_, refl, sym}
 use mathlib.Core.Bool.{Bool, true, false, cond, not, false≢true}
 use lib.Dec.{ltb}
 use Rattle.entries.proofs.takes.Statement.{statement}
