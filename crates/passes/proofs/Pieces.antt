@@ -114,7 +114,9 @@ module _ (d : Data) (ws : List ℕ) (r : PdoDirection) where
       go false = refl
 
   module _ (few : length (d .managers) ≤ 16) where
-    size-at : (k : ℕ) → k < length (d .managers) → eqb (getD (d .managers) k noManager .«usage_type») (usageOf r) ≡ true → sizeAt (sizesOf d ws r) k ≡ bytesOf (bitsOf (pathKind d r) k (d .pdos) ws)
+    size-at :
+        (k : ℕ) → k < length (d .managers) → eqb (getD (d .managers) k noManager .«usage_type») (usageOf r) ≡ true
+        → sizeAt (sizesOf d ws r) k ≡ bytesOf (bitsOf (pathKind d r) k (d .pdos) ws)
     size-at k h e = size-handed k (omega arith) ∙ ap bytesOf (exact-at k h e)
 
     -- the uses of what is handed on are those of the pass

@@ -1,4 +1,6 @@
 -- Laws that belong to no one function.
-pub mod Turns
+pub mod Managers
+pub mod Sums
+pub mod Sized
 pub mod Wanting
 pub mod Unique

@@ -1,10 +1,19 @@
 // Which sync managers a data pass wants, with which sizes, and by which path: configuration.rs up to the first register that it writes.
 ghost use mathlib.Core.Path.{_≡_};
-ghost use mathlib.Core.Bool.{cond};
-ghost use lib.ListN.{take};
+ghost use mathlib.Core.Bool.{true, false, cond, _&&_};
+ghost use mathlib.Core.List.{[], _∷_};
+ghost use Prim.Native.Nat.{_+_, _≤_};
+ghost use lib.ListN.{length, getD, take};
+ghost use lib.Dec.{eqb};
+ghost use Rattle.wire.specs.Lists.{sum};
 ghost use Rattle.wire.specs.Outcome as Outcome;
-ghost use Rattle.grammar.specs.Grammar.{pdoCount};
-ghost use Rattle.wanted.specs.Wanted.{wantedAfter, Wants};
+ghost use Rattle.wire.specs.Outcome.{when, decide};
+ghost use Rattle.grammar.specs.Grammar.{usageCount, pdoCount, usagesPlace, nextPdo, kindFits, broken};
+ghost use Rattle.sheet.specs.Device.{pdoAt};
+ghost use Rattle.sheet.specs.Sheet.{sheetData, answerOf};
+ghost use Rattle.passes.specs.Use.{firstWith};
+ghost use Rattle.passes.specs.Handed.{hasUsage};
+ghost use Rattle.wanted.specs.Wanted.{noSizes, wantedAfter, Wants, bitsIn, someTooWide, sizesIn, someSize, routedOf};
 use passes::Route;
 use pdi::BitLen;
 use pdi::ByteLen;
@@ -34,7 +43,10 @@ fn sum_bytes(part: &[u8]) -> u64
 }
 
 // The bits of the PDO at a place of a sound sheet.
-fn pdo_bits(sheet: &[u8], at: usize, kind: u8) -> u64 {
+fn pdo_bits(sheet: &[u8], at: usize, kind: u8) -> u64
+    requires { ⌜ (getD (now sheet) at 0 ≡ kind) × (nextPdo (now sheet) at ≤ length (now sheet)) × (kindFits kind (getD (now sheet) (at + 4) 0) ≡ true) × (length (now sheet) ≤ 16386) ⌝ }
+    ensures { λ r. ⌜ (r ≡ sum (pdoAt (now (sheet .entry)) at .lengths)) × (r ≤ 65535) ⌝ }
+{
     if kind == 0 {
         let end = at + 5 + wire::wide(sheet[at + 4]);
         return sum_bytes(&sheet[at + 5..end]);
@@ -43,7 +55,10 @@ fn pdo_bits(sheet: &[u8], at: usize, kind: u8) -> u64 {
 }
 
 // Whether the PDO at a place counts: it is of the kind, and names a sync manager of the usage.
-fn counts(sheet: &[u8], at: usize, kind: u8, usage: u8) -> bool {
+fn counts(sheet: &[u8], at: usize, kind: u8, usage: u8) -> bool
+    requires { ⌜ (at + 5 ≤ length (now sheet)) × (usagesPlace (now sheet) ≤ length (now sheet)) × (length (now sheet) ≤ 16386) ⌝ }
+    ensures { λ r. ⌜ r ≡ eqb (getD (now (sheet .entry)) at 0) kind && hasUsage usage (sheetData (now (sheet .entry)) .managers) (getD (now (sheet .entry)) (at + 1) 0) ⌝ }
+{
     if sheet[at] != kind {
         return false;
     }
@@ -55,7 +70,10 @@ fn counts(sheet: &[u8], at: usize, kind: u8, usage: u8) -> bool {
 }
 
 // The exact bits of each sync manager of the usage: over the PDOs that are of the kind, bits times multiplier.
-fn tally(sheet: &[u8], kind: u8, usage: u8, multipliers: &[u8; 255]) -> [BitLen; 16] {
+fn tally(sheet: &[u8], kind: u8, usage: u8, multipliers: &[u8]) -> [BitLen; 16]
+    requires { ⌜ (length (now sheet) ≤ 16386) × (broken (now sheet) ≡ false) × (length (now multipliers) ≡ 255) ⌝ }
+    ensures { λ r. ⌜ r ≡ bitsIn (now (sheet .entry)) kind usage (take (pdoCount (now (sheet .entry))) (now (multipliers .entry))) ⌝ }
+{
     let mut sums = [BitLen(0); 16];
     let mut place = grammar::pdos_place(sheet);
     let mut i = 0;
@@ -75,7 +93,9 @@ fn tally(sheet: &[u8], kind: u8, usage: u8, multipliers: &[u8; 255]) -> [BitLen;
 }
 
 // The place of the first FMMU entry with the usage; the count where there is none.
-fn first_with(sheet: &[u8], usage: u8) -> u8 {
+fn first_with(sheet: &[u8], usage: u8) -> u8
+    ensures { λ r. ⌜ r ≡ firstWith usage (sheetData (now (sheet .entry)) .usages) ⌝ }
+{
     let f = grammar::usage_count(sheet);
     let at = grammar::usages_place(sheet);
     let mut k = 0;
@@ -94,7 +114,10 @@ struct Sizes {
     list: [ByteLen; 16],
 }
 
-fn sizes_of(sheet: &[u8], kind: u8, usage: u8, multipliers: &[u8; 255]) -> Sizes {
+fn sizes_of(sheet: &[u8], kind: u8, usage: u8, multipliers: &[u8]) -> Sizes
+    requires { ⌜ (length (now sheet) ≤ 16386) × (broken (now sheet) ≡ false) × (length (now multipliers) ≡ 255) ⌝ }
+    ensures { λ r. ⌜ (answerOf {A = Unit {0}} (r .answer) tt ≡ decide (when 6 (someTooWide (now (sheet .entry)) kind usage (take (pdoCount (now (sheet .entry))) (now (multipliers .entry)))) ∷ []) tt) × (r .list ≡ cond (someTooWide (now (sheet .entry)) kind usage (take (pdoCount (now (sheet .entry))) (now (multipliers .entry)))) noSizes (sizesIn (now (sheet .entry)) kind usage (take (pdoCount (now (sheet .entry))) (now (multipliers .entry))))) ⌝ }
+{
     let bits = tally(sheet, kind, usage, multipliers);
     let mut list = [ByteLen(0); 16];
     let n = wire::wide(grammar::manager_count(sheet));
@@ -120,7 +143,9 @@ fn sizes_of(sheet: &[u8], kind: u8, usage: u8, multipliers: &[u8; 255]) -> Sizes
 }
 
 // Whether some size is above 0.
-fn some_size(sizes: [ByteLen; 16]) -> bool {
+fn some_size(sizes: [ByteLen; 16]) -> bool
+    ensures { λ r. ⌜ r ≡ someSize sizes ⌝ }
+{
     let mut k = 0;
     while k < 16 {
         if 0 < sizes[k].0 {
@@ -132,7 +157,9 @@ fn some_size(sizes: [ByteLen; 16]) -> bool {
 }
 
 // 7: whether no entry has the usage though some sync manager has bits.
-fn no_entry(sheet: &[u8], entry: u8, sizes: [ByteLen; 16]) -> bool {
+fn no_entry(sheet: &[u8], entry: u8, sizes: [ByteLen; 16]) -> bool
+    ensures { λ r. ⌜ r ≡ eqb entry (usageCount (now (sheet .entry))) && someSize sizes ⌝ }
+{
     if entry != grammar::usage_count(sheet) {
         return false;
     }
@@ -161,7 +188,9 @@ fn refused(number: u8) -> Wanted
 }
 
 // By EEPROM each uses its own entry; on the CoE path the first with the usage, or 7 where there is none.
-fn routed(sheet: &[u8], coe: bool, usage: u8, sizes: [ByteLen; 16]) -> Wanted {
+fn routed(sheet: &[u8], coe: bool, usage: u8, sizes: [ByteLen; 16]) -> Wanted
+    ensures { λ r. ⌜ r ≡ routedOf «coe» (eqb (firstWith usage (sheetData (now (sheet .entry)) .usages)) (usageCount (now (sheet .entry))) && someSize sizes) (firstWith usage (sheetData (now (sheet .entry)) .usages)) sizes ⌝ }
+{
     if !coe {
         return Wanted {
             answer: Answer::Accepted,
