@@ -4,13 +4,13 @@ use mathlib.Core.Path.{_≡_, refl, sym, _∙_, ap, subst, transport}
 use mathlib.Core.Bool.{Bool, true, false, cond}
 use mathlib.Core.List.{List, [], _∷_, _++_}
 use mathlib.Core.Option.{Option, none, some}
-use Prim.Native.Nat.{ℕ, _+_, _-_, _*_, _<_, _≤_}
+use Prim.Native.Nat.{ℕ, _+_, _-_, _*_, _≤_}
 use native.Mathlib.Numerals.{add-one}
 use native.Mathlib.Omega.{arith}
 use lib.ListN.{length}
 use lib.Dec.{eqb}
 use borrow.Author.Tests.{eq-eqb, ne-eqb}
-use Rattle.wire.specs.Outcome.{Outcome, refused, accepted, when, first, decide}
+use Rattle.wire.specs.Outcome.{refused, accepted, when, decide}
 use Rattle.wire.proofs.Order.{never, passed, passed-answer, stopped}
 use Rattle.pdi.specs.Unit.{bytesOf}
 use Rattle.pdi.specs.Offset.{pastEnd, offsetAt}
@@ -61,7 +61,9 @@ next-none none = refl
 next-none (some x) = refl
 
 -- the first piece, then the rest
-spot-first : (start a : ℕ) (p : Piece) (ps : List Piece) → orNext (spotHere start (bytesOf (p .bits)) (p .number) (p .address) a) (spotIn (start + bytesOf (p .bits)) ps a) ≡ spotIn start (p ∷ ps) a
+spot-first :
+    (start a : ℕ) (p : Piece) (ps : List Piece)
+    → orNext (spotHere start (bytesOf (p .bits)) (p .number) (p .address) a) (spotIn (start + bytesOf (p .bits)) ps a) ≡ spotIn start (p ∷ ps) a
 unfolding spotIn
 spot-first start a p ps = go (within start (bytesOf (p .bits)) a)
   where
@@ -75,7 +77,7 @@ spot-first start a p ps = go (within start (bytesOf (p .bits)) a)
     go true = refl
     go false = refl
 
--- what is laid and found so far, from the number k on with `ms` still to come, beside all the pieces from `start` on
+-- `end` and what is found so far, with `rest` still to be laid, beside all the pieces from `start` on
 pub record Laying (ps : List Piece) (start a : ℕ) (rest : List Piece) (end : ℕ) (found : Counted) : Type 0 where
   pub spot : Option Spot
   pub finds : countedOf found ≡ accepted spot

@@ -63,11 +63,11 @@ fn earlier(found: Counted, next: Counted) -> Counted
 fn lay_out(sheet: &[u8], usage: u8, sizes: [ByteLen; 16], offset: PdiOffset, address: u32) -> Laid
     ensures { λ r. ⌜ LaysOut (piecesBy usage sizes (managersIn (now (sheet .entry)))) (offset .«start_address») address (r .end) (r .found) ⌝ }
 {
-    let n = grammar::manager_count(sheet);
+    let n = sheet::front_count(sheet);
     let mut end = offset.start_address as u64;
     let mut found = Counted::Nowhere;
     let mut k = 0;
-    while k < n && k < 16 {
+    while k < n {
         if sheet::usage_of(sheet, k) == usage {
             let size = sizes[wire::wide(k)];
             found = earlier(found, position_in(end, size, sheet, k, address));

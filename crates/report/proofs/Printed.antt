@@ -135,6 +135,8 @@ plainly sheet a right b e =
     let n = managerCount sheet in
     let h = plan-right sheet a right b e in
     let head = line inputsFront (segmentText (b .inputs)) ++ line outputsFront (segmentText (b .outputs)) in
-    let images = ap (λ (l : List ℕ). lines imageLine 0 (take n (entriesOf 8 l))) (area-whole 128 (b .left .channels) (h .images .long)) ∙ lines-printed 0 n (entriesOf 8 (b .left .channels)) (h .images .reads) in
+    let images =
+    ap (λ (l : List ℕ). lines imageLine 0 (take n (entriesOf 8 l))) (area-whole 128 (b .left .channels) (h .images .long))
+    ∙ lines-printed 0 n (entriesOf 8 (b .left .channels)) (h .images .reads) in
     let entries = ap (λ (l : List ℕ). lines enabledLine 0 (entriesOf 16 l)) (area-whole 256 (b .left .fmmus) (h .entries)) in
     ap (outcomeText n) (sym e) ∙ (λ i. head ++ images i ++ entries i)

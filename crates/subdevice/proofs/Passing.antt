@@ -22,7 +22,7 @@ use Rattle.pdo.specs.declared.PdoDirection.{PdoDirection}
 use Rattle.pdo.specs.Direction.{usageOf}
 use Rattle.passes.specs.declared.Configured.{Configured}
 use Rattle.passes.specs.declared.Configured.the-variants.{Mapped, Refused}
-use Rattle.passes.specs.Use.{Use, total, usesOf, sizeOf}
+use Rattle.passes.specs.Use.{total, usesOf, sizeOf}
 use Rattle.passes.specs.Entries.{Planned, planned, configuredOf, entryRefusals, entriesOutcome, entryArea, WritesEntries}
 use Rattle.passes.specs.Pass.{notAreas, wantedRefusals, plannedOf, dataPass, entriesAfter, channelAreaAfter, Configures}
 use Rattle.passes.specs.Handed.{sizesOf, usesBy}
@@ -74,7 +74,8 @@ module _ (sheet ws : List ℕ) (r : PdoDirection) (offset group : ℕ) (fmmus ch
     unwanted-configures n e = refuses n (stopped {A = Unit {0}} (sheetRefusals sheet ++ wantedRefusals d ws r) tt n later (wanted-refused sheet ws r x h n e) ∙ sym rest)
 
     -- none of them holds: then the entries decide
-    module _ (e : x .answer ≡ answer.Accepted) (fmmusThen : List ℕ) (said : Configured) (w : WritesEntries (usesBy (x .route) (x .sizes) r (managersIn sheet)) r offset group fmmus said fmmusThen) where
+    module _ (e : x .answer ≡ answer.Accepted) (fmmusThen : List ℕ) (said : Configured)
+        (w : WritesEntries (usesBy (x .route) (x .sizes) r (managersIn sheet)) r offset group fmmus said fmmusThen) where
       few : length (d .managers) ≤ 16
       few = let n = wanted-accepted sheet ws r x h e .0 .managers in omega (arith, manager-count sheet)
 
@@ -95,7 +96,9 @@ module _ (sheet ws : List ℕ) (r : PdoDirection) (offset group : ℕ) (fmmus ch
       entries-then : fmmusThen ≡ entriesAfter outcome d ws r offset fmmus
       entries-then = w .holds ∙ (λ i. entryArea (decided i) r offset (uses-then i) fmmus)
 
-      images-then : {usage : ℕ} → usage ≡ usageOf r → channelArea (channelsAfter (sizeBy usage (x .sizes)) 0 (managersIn sheet)) channels ≡ channelAreaAfter (accepted (plannedOf d ws r offset group)) d ws r channels
+      images-then :
+          {usage : ℕ} → usage ≡ usageOf r
+          → channelArea (channelsAfter (sizeBy usage (x .sizes)) 0 (managersIn sheet)) channels ≡ channelAreaAfter (accepted (plannedOf d ws r offset group)) d ws r channels
       images-then {usage} u =
           let all = wanted-accepted sheet ws r x h e in
           (λ i. channelArea (channelsAfter (sizeBy (u i) (all .2 i .sizes)) 0 (all .0 .few i)) channels)

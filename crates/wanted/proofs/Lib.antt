@@ -3,4 +3,5 @@ pub mod Managers
 pub mod Sums
 pub mod Sized
 pub mod Wanting
+pub mod Answered
 pub mod Unique

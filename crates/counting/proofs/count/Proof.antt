@@ -1,14 +1,12 @@
 -- `counting::count`: what the pass wants decides 2 to 7; the sizes laid decide 9 and the position.
 -- Assumes nothing.
-use mathlib.Core.Path.{_≡_, sym, _∙_, ap}
+use mathlib.Core.Path.{sym, _∙_, ap}
 use denote.Ref.{now}
 use lib.ListN.{take}
 use borrow.Author.Needs.{needs}
 use Rattle.pdi.specs.Offset.{movedOf}
 use Rattle.sheet.specs.Sheet.{pdoCount}
 use Rattle.pdo.specs.declared.Terms.{Terms}
-use Rattle.counting.specs.Count as meaning
-use Rattle.counting.specs.Count.{countedOf}
 use Rattle.counting.proofs.Counting.{unwanted-counts, nine-counts, found-counts}
 use Rattle.counting.proofs.count.Statement.{statement}
 use Rattle.counting.proofs.count.Tie as tie

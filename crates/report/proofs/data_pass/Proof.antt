@@ -29,7 +29,7 @@ returns c =
     let few : pdoCount s < 256 = k .shared-slice-known .given 10 .fits in
     subst
     (λ (ws : List ℕ).
-      Configures s ws (a .direction) (a .offset .«start_address») 0 (now (a .fmmus)) (now (a .channels)) (p .pass .result) (p .pass .last .1 .1 .0) (p .pass .last .1 .1 .1 .0))
+    Configures s ws (a .direction) (a .offset .«start_address») 0 (now (a .fmmus)) (now (a .channels)) (p .pass .result) (p .pass .last .1 .1 .0) (p .pass .last .1 .1 .1 .0))
     (once-each s few)
     (p .pass .ensures)
 

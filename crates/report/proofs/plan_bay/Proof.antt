@@ -14,21 +14,38 @@ abbrev start : tie.After-slice-known3 → tie.Start
 start c = c .before .before .before .before .before .before .before
 
 -- the mailbox pass was accepted
-mailboxes : (c : tie.After-enum-told) → withInputs (now (start (c .before .before) .args .sheet)) (areas (now (start (c .before .before) .args .fmmus)) (c .before .before .before .before .configure-mailboxes .last .1 .0)) ≡ planBay (now (start (c .before .before) .args .sheet)) (areas (now (start (c .before .before) .args .fmmus)) (now (start (c .before .before) .args .channels)))
+abbrev entered : tie.After-enum-told → tie.Start
+entered c = start (c .before .before)
+
+mailboxes :
+    (c : tie.After-enum-told)
+    → let a = entered c .args in
+    withInputs (now (a .sheet)) (areas (now (a .fmmus)) (c .before .before .before .before .configure-mailboxes .last .1 .0))
+    ≡ planBay (now (a .sheet)) (areas (now (a .fmmus)) (now (a .channels)))
 mailboxes c =
-    let a = start (c .before .before) .args in
+    let a = entered c .args in
     let s = c .enum-told .given in
     mailboxes-read (now (a .sheet)) (now (a .fmmus)) (now (a .channels)) (c .before .before .before .before .configure-mailboxes .ensures) (s .0 .0) (s .1)
 
 -- so was the input pass
+abbrev read : tie.After-known-told2 → tie.After-enum-told
+read c = c .before .before .before .before .before .before .before .before .before .before
+
+abbrev passed : tie.After-known-told2 → tie.After-data-pass
+passed c = c .before .before .before .before .before .before .before
+
 abbrev input : tie.After-known-told2 → Planned
 input c = ended (c .before .inputs .given .0 .0) (c .before .inputs .given .0 .1 .0 .«start_address»)
 
-inputs : (c : tie.After-known-told2) → withOutputs (now (start (c .before .before .before .before .before .before .before .before .before .before .before .before) .args .sheet)) (input c) (areas (c .before .before .before .before .before .before .before .data-pass .last .1 .0) (c .before .before .before .before .before .before .before .data-pass .last .1 .1 .0)) ≡ planBay (now (start (c .before .before .before .before .before .before .before .before .before .before .before .before) .args .sheet)) (areas (now (start (c .before .before .before .before .before .before .before .before .before .before .before .before) .args .fmmus)) (now (start (c .before .before .before .before .before .before .before .before .before .before .before .before) .args .channels)))
+inputs :
+    (c : tie.After-known-told2)
+    → let a = entered (read c) .args in
+    withOutputs (now (a .sheet)) (input c) (areas (passed c .data-pass .last .1 .0) (passed c .data-pass .last .1 .1 .0))
+    ≡ planBay (now (a .sheet)) (areas (now (a .fmmus)) (now (a .channels)))
 inputs c =
-    let a = start (c .before .before .before .before .before .before .before .before .before .before .before .before) .args in
+    let a = entered (read c) .args in
     let s = c .before .inputs .given in
-    inputs-mapped (now (a .sheet)) (now (a .fmmus)) _ (c .before .before .before .before .before .before .before .data-pass .ensures) (s .0 .0) (s .0 .1 .0) (s .1) ∙ mailboxes (c .before .before .before .before .before .before .before .before .before .before)
+    inputs-mapped (now (a .sheet)) (now (a .fmmus)) _ (passed c .data-pass .ensures) (s .0 .0) (s .0 .1 .0) (s .1) ∙ mailboxes (read c)
 
 configure-mailboxes-requires : tie.Need-configure-mailboxes-requires
 configure-mailboxes-requires c κs = search needs
@@ -74,9 +91,10 @@ same-length-3 c = search needs
 
 returns-2 : tie.Need-returns-2
 returns-2 c =
+    let q = c .before .before .before .before .before .before .before .before .before .before in
     let d = c .before .before .before .before .before .before .before .data-pass2 in
     let s = c .before .outputs .given in
-    outputs-mapped (now (start (c .before .before .before .before .before .before .before .before .before .before .before .before .before .before .before .before .before .before .before .before .before .before) .args .sheet)) _ _ (input (c .before .before .before .before .before .before .before .before .before .before)) (d .ensures) (s .0 .0) (s .0 .1 .0) (s .1) ∙ inputs (c .before .before .before .before .before .before .before .before .before .before)
+    outputs-mapped (now (entered (read q) .args .sheet)) _ _ (input q) (d .ensures) (s .0 .0) (s .0 .1 .0) (s .1) ∙ inputs q
 
 same-length-4 : tie.Need-same-length-4
 same-length-4 c = search needs
@@ -86,9 +104,10 @@ same-length-5 c = search needs
 
 returns-3 : tie.Need-returns-3
 returns-3 c =
+    let q = c .before .before .before .before .before .before .before .before .before .before in
     let d = c .before .before .before .before .before .before .before .data-pass2 in
     let n = c .before .number2 .given in
-    outputs-refused (now (start (c .before .before .before .before .before .before .before .before .before .before .before .before .before .before .before .before .before .before .before .before .before .before) .args .sheet)) _ _ (input (c .before .before .before .before .before .before .before .before .before .before)) (d .ensures) (n .0 .0) (n .1) ∙ inputs (c .before .before .before .before .before .before .before .before .before .before)
+    outputs-refused (now (entered (read q) .args .sheet)) _ _ (input q) (d .ensures) (n .0 .0) (n .1) ∙ inputs q
 
 same-length-6 : tie.Need-same-length-6
 same-length-6 c = search needs
@@ -98,10 +117,11 @@ same-length-7 c = search needs
 
 returns-4 : tie.Need-returns-4
 returns-4 c =
-    let a = start (c .before .before .before .before .before .before .before .before .before .before .before .before) .args in
+    let m = c .before .before .before .before .before .before .before .before .before .before in
+    let a = entered m .args in
     let d = c .before .before .before .before .before .before .before .data-pass in
     let n = c .before .number3 .given in
-    inputs-refused (now (a .sheet)) (now (a .fmmus)) _ (d .ensures) (n .0 .0) (n .1) ∙ mailboxes (c .before .before .before .before .before .before .before .before .before .before)
+    inputs-refused (now (a .sheet)) (now (a .fmmus)) _ (d .ensures) (n .0 .0) (n .1) ∙ mailboxes m
 
 pub plan-bay-spec : {M : Type 1} → statement M
 plan-bay-spec =

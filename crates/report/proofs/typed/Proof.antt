@@ -47,7 +47,8 @@ returns c =
     let p = c .before .before .before .before .before .before .before .before .before .before .before .before .plan-bay in
     let n = c .before .before .before .before .before .before .manager-count in
     let s = c .before .before .before .before .before .before .before .before .inputs .given in
-    types (bay-text (now (a .sheet)) (areas (a .t2) (a .t3)) (p .result) (p .last .1 .0) (p .last .1 .1 .0) (p .ensures) (s .0 .0) (s .0 .1 .0) (n .result) (s .1) (n .ensures)) (c .before .before .put-bay .ensures)
+    types (bay-text (now (a .sheet)) (areas (a .t2) (a .t3)) (p .result) (p .last .1 .0) (p .last .1 .1 .0) (p .ensures) (s .0 .0) (s .0 .1 .0) (n .result) (s .1) (n .ensures))
+    (c .before .before .put-bay .ensures)
 
 same-length-2 : tie.Need-same-length-2
 same-length-2 c = search needs
