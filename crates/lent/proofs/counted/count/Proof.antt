@@ -70,7 +70,8 @@ use Rattle.counting.proofs.count.Symbol as by-value-def
 use Rattle.counting.proofs.count.Symbol.{name as #by-value}
 use Rattle.counting.proofs.count.Met as by-value-thm
 use Rattle.lent.proofs.Bytes.{Below, below}
-use Rattle.lent.proofs.Filling.{Ones, array-at, of-array, Filled, fronted, cell, lies, lay, MultipliersFor, given-fill, to-fill, goes-fill}
+use Rattle.oversampling.proofs.Local.{cell, lies, lay}
+use Rattle.lent.proofs.Filling.{Ones, array-at, of-array, Filled, fronted, MultipliersFor, given-fill, to-fill, goes-fill}
 use Rattle.lent.proofs.counted.count.Key.{name as #count}
 use Rattle.lent.proofs.counted.count as it
 use Rattle.lent.proofs.counted.count.Statement as stated
@@ -175,7 +176,7 @@ module _ {M : Type 1} (𝓤 : URA M) (H : Heap 𝓤) (A : Atoms 𝓤) (W : Given
         assigns ! (rep ! 255 (lit ! tt)) (from ! (stop !)) (init ! 13 refl (array-lawful 𝓤 H A W u8 (uint-lawful 𝓤 H A W w8) 255 .typed Ones _ ones .0)) $
         assigns ! (addr ! (from ! (stop !))) (from ! (stop !)) (init ! 9 refl (tt, tt)) $
         -- it is lent to `multipliers_for`, for a lifetime of the call
-        move ! (13 ∷ 0 ∷ []) $ use2 W (‵ (mem (Array u8 255) .lies Ones l₆ 0)) (lies 𝓤 H A W Ones (arrayVal (replicate 255 (vint w8 1))) l₆) $ lft-new ! tt (λ ν. move ! (1 ∷ []) $
+        move ! (13 ∷ 0 ∷ []) $ use2 W (‵ (mem (Array u8 255) .lies Ones l₆ 0)) (lies 𝓤 H A W u8 255 Ones (arrayVal (replicate 255 (vint w8 1))) l₆) $ lft-new ! tt (λ ν. move ! (1 ∷ []) $
         use1 W (later (some (λ (γ′ : GName). ‵ (MutRef (named 0) (ν ∷ []) (Array u8 255) .own (array-at l₆ γ′ Ones) (vptr l₆ 0 ∷ [])) ⊛ ‵ (flent (ν ∷ []) (Body (mem (Array u8 255)) l₆ 0 γ′))))) (lends-ref 𝓤 H A W (Array u8 255) (named 0) (ν ∷ []) Ones l₆ 0) $ await ! tt $
         pick ! (λ γ′. split ! $ move ! (4 ∷ []) $ use1 W (‵ X ⊛ ‵ X) (shr-slice-copy 𝓤 H A W (named 0) κ₀ u8 .twice x (v ∷ [])) $ split ! $ move ! (8 ∷ []) $
         use1 W (‵ TT ⊛ ‵ TT) (shr-slice-copy 𝓤 H A W (named 1) κ₁ O.the-row .twice t (u ∷ [])) $ split ! $ move ! (2 ∷ 4 ∷ []) $ join ! $ move ! (1 ∷ 0 ∷ []) $ join ! $ move ! (4 ∷ 0 ∷ []) $
@@ -205,11 +206,11 @@ module _ {M : Type 1} (𝓤 : URA M) (H : Heap 𝓤) (A : Atoms 𝓤) (W : Given
         land ! (from ! (stop !)) (init ! 25 refl (EL.lawful S.the-type S′.the-laws 𝓤 H A W tt .typed r _ is₂ .0)) $ move ! (1 ∷ []) $ split ! $ move ! (1 ∷ []) $ split ! $
         -- the array comes back
         move ! (0 ∷ []) $ lft-end ! tt $ move ! (0 ∷ 5 ∷ []) $ lent-back ! tt $
-        use1 W (‵ (cell 𝓤 H A W l₆ (of-array (ks .1 .1 .0))) ⊛ ‵ (Array u8 255 .own (ks .1 .1 .0) (of-array (ks .1 .1 .0) ∷ []))) (lay 𝓤 H A W (ks .1 .1 .0) l₆) $ split ! $ move ! (1 ∷ []) $
-        drop ! $ returns ! (look ! 26 refl) $ forget ! 9 refl $ forget ! 11 refl $ forget ! 13 refl $ forget ! 0 refl $ forget ! 16 refl $ forget ! 18 refl $ forget ! 20 refl $
-        forget ! 22 refl $ forget ! 24 refl $ forget ! 26 refl $ move ! (26 ∷ 27 ∷ []) $ free1 ! $ move ! (24 ∷ 25 ∷ []) $ free1 ! $ move ! (22 ∷ 23 ∷ []) $ free1 ! $ move ! (20 ∷ 21 ∷ []) $
-        free1 ! $ move ! (18 ∷ 19 ∷ []) $ free1 ! $ move ! (16 ∷ 17 ∷ []) $ free1 ! $ move ! (0 ∷ 15 ∷ []) $ free1 ! $ move ! (12 ∷ 13 ∷ []) $ free1 ! $ move ! (10 ∷ 11 ∷ []) $ free1 ! $
-        move ! (8 ∷ 9 ∷ []) $ free1 ! $ free0 ! $ keep ! (2 ∷ 1 ∷ 4 ∷ 3 ∷ 5 ∷ []) $
+        use1 W (‵ (cell 𝓤 H A W u8 255 l₆ (of-array (ks .1 .1 .0))) ⊛ ‵ (Array u8 255 .own (ks .1 .1 .0) (of-array (ks .1 .1 .0) ∷ []))) (lay 𝓤 H A W u8 255 (uint-vals w8) (uint-tells w8) (ks .1 .1 .0) l₆) $ split ! $
+        move ! (1 ∷ []) $ drop ! $ returns ! (look ! 26 refl) $ forget ! 9 refl $ forget ! 11 refl $ forget ! 13 refl $ forget ! 0 refl $ forget ! 16 refl $ forget ! 18 refl $
+        forget ! 20 refl $ forget ! 22 refl $ forget ! 24 refl $ forget ! 26 refl $ move ! (26 ∷ 27 ∷ []) $ free1 ! $ move ! (24 ∷ 25 ∷ []) $ free1 ! $ move ! (22 ∷ 23 ∷ []) $ free1 ! $
+        move ! (20 ∷ 21 ∷ []) $ free1 ! $ move ! (18 ∷ 19 ∷ []) $ free1 ! $ move ! (16 ∷ 17 ∷ []) $ free1 ! $ move ! (0 ∷ 15 ∷ []) $ free1 ! $ move ! (12 ∷ 13 ∷ []) $ free1 ! $
+        move ! (10 ∷ 11 ∷ []) $ free1 ! $ move ! (8 ∷ 9 ∷ []) $ free1 ! $ free0 ! $ keep ! (2 ∷ 1 ∷ 4 ∷ 3 ∷ 5 ∷ []) $
         by ! (exits r c₂ (counted ∙ ap (λ (ws : List ℕ). meaning.count d z (x .now) ws (h .«start_address»)) (fronted (t .now) (x .now) (ks .1 .1 .0) small filled))))))))))))))))))))))))))))
 
 module _ {M : Type 1} (𝓤 : URA M) (H : Heap 𝓤) (A : Atoms 𝓤) (W : Given 𝓤 H A) (at-mem : Memory → SProp 𝓤) (run : Routine → Fun 𝓤) (𝓣 : Tables 𝓤 H)

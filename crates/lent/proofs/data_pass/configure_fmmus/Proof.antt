@@ -76,7 +76,8 @@ use Rattle.lent.proofs.data_pass.passed.Symbol as passed-def
 use Rattle.lent.proofs.data_pass.passed.Symbol.{name as #passed}
 use Rattle.lent.proofs.data_pass.passed.Met as passed-thm
 use Rattle.lent.proofs.Bytes.{Below, below}
-use Rattle.lent.proofs.Filling.{Ones, array-at, of-array, Filled, fronted, cell, lies, lay, MultipliersFor, given-fill, to-fill, goes-fill}
+use Rattle.oversampling.proofs.Local.{cell, lies, lay}
+use Rattle.lent.proofs.Filling.{Ones, array-at, of-array, Filled, fronted, MultipliersFor, given-fill, to-fill, goes-fill}
 use Rattle.lent.proofs.data_pass.configure_fmmus.Key.{name as #lent·configure-fmmus}
 use Rattle.lent.proofs.data_pass.configure_fmmus as it
 use Rattle.lent.proofs.data_pass.configure_fmmus.Statement as stated
@@ -239,7 +240,7 @@ module _ {M : Type 1} (𝓤 : URA M) (H : Heap 𝓤) (A : Atoms 𝓤) (W : Given
         assigns ! (rep ! 255 (lit ! tt)) (from ! (stop !)) (init ! 34 refl (array-lawful 𝓤 H A W u8 (uint-lawful 𝓤 H A W w8) 255 .typed Ones _ ones .0)) $
         assigns ! (addr ! (from ! (stop !))) (from ! (stop !)) (init ! 26 refl (tt, tt)) $
         -- it is lent to `multipliers_for`, for a lifetime of the call
-        move ! (34 ∷ 0 ∷ []) $ use2 W (‵ (mem (Array u8 255) .lies Ones l₈ 0)) (lies 𝓤 H A W Ones (arrayVal (replicate 255 (vint w8 1))) l₈) $ lft-new ! tt (λ ν. move ! (1 ∷ []) $
+        move ! (34 ∷ 0 ∷ []) $ use2 W (‵ (mem (Array u8 255) .lies Ones l₈ 0)) (lies 𝓤 H A W u8 255 Ones (arrayVal (replicate 255 (vint w8 1))) l₈) $ lft-new ! tt (λ ν. move ! (1 ∷ []) $
         use1 W (later (some (λ (γ′ : GName). ‵ (MutRef (named 0) (ν ∷ []) (Array u8 255) .own (array-at l₈ γ′ Ones) (vptr l₈ 0 ∷ [])) ⊛ ‵ (flent (ν ∷ []) (Body (mem (Array u8 255)) l₈ 0 γ′))))) (lends-ref 𝓤 H A W (Array u8 255) (named 0) (ν ∷ []) Ones l₈ 0) $ await ! tt $
         pick ! (λ γ′. split ! $ move ! (4 ∷ []) $ use1 W (‵ X ⊛ ‵ X) (shr-slice-copy 𝓤 H A W (named 0) κ₀ u8 .twice x (v ∷ [])) $ split ! $ move ! (16 ∷ []) $
         use1 W (‵ TT ⊛ ‵ TT) (shr-slice-copy 𝓤 H A W (named 1) κ₁ O.the-row .twice t (u ∷ [])) $ split ! $ move ! (2 ∷ 4 ∷ []) $ join ! $ move ! (1 ∷ 0 ∷ []) $ join ! $ move ! (4 ∷ 0 ∷ []) $
@@ -287,8 +288,8 @@ module _ {M : Type 1} (𝓤 : URA M) (H : Heap 𝓤) (A : Atoms 𝓤) (W : Given
         drop ! $ move ! (0 ∷ []) $ split ! $ move ! (1 ∷ []) $ split ! $ move ! (1 ∷ []) $ split ! $ move ! (1 ∷ []) $ split ! $
         -- the array comes back
         move ! (3 ∷ []) $ lft-end ! tt $ move ! (0 ∷ 9 ∷ []) $ lent-back ! tt $
-        use1 W (‵ (cell 𝓤 H A W l₈ (of-array (ks .1 .1 .0))) ⊛ ‵ (Array u8 255 .own (ks .1 .1 .0) (of-array (ks .1 .1 .0) ∷ []))) (lay 𝓤 H A W (ks .1 .1 .0) l₈) $ split ! $ move ! (1 ∷ []) $
-        drop ! $
+        use1 W (‵ (cell 𝓤 H A W u8 255 l₈ (of-array (ks .1 .1 .0))) ⊛ ‵ (Array u8 255 .own (ks .1 .1 .0) (of-array (ks .1 .1 .0) ∷ []))) (lay 𝓤 H A W u8 255 (uint-vals w8) (uint-tells w8) (ks .1 .1 .0) l₈) $ split ! $
+        move ! (1 ∷ []) $ drop ! $
         -- the offset's borrow is shut at the new record
         owned ! R (Is R) (LL.makes T.the-type T′.the-plain 𝓤 H A) (r .next) (of-offset (r .next) ∷ []) (next-is r is₂) $ move ! (11 ∷ 0 ∷ 12 ∷ 13 ∷ 14 ∷ []) $
         closes ! tt R (r .next) (of-offset (r .next) ∷ []) b o $ returns ! (look ! 52 refl) $ forget ! 17 refl $ forget ! 19 refl $ forget ! 21 refl $ forget ! 23 refl $ forget ! 25 refl $
