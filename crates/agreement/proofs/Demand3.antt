@@ -30,6 +30,7 @@ use Rattle.area.specs.Area.{entriesOf, notEntries, notChannels}
 use Rattle.passes.specs.Entries.{plan, Planned, tooLong}
 use Rattle.passes.proofs.Room.{not-too-long}
 use Rattle.passes.specs.Pass.{someTooMany, noEntry, entriesAfter, segmentAlone, Passes, passRefusals, plannedOf, dataPass}
+use Rattle.passes.proofs.Pieces.{uses-total}
 use Rattle.translation.specs.Translate.{says, odd, firstSaid, orNone, translate}
 use Rattle.counting.specs.Count.{spotIn, deviceAlone, countRefusals, count}
 use Rattle.agreement.specs.Agreement.{EveryDisabled, Lent, weights, passOf, Accepted, TwoPasses, laidBy, counted, Demand3, Demand3InReach}
@@ -37,7 +38,7 @@ use Rattle.agreement.proofs.Basics.{accepted-clear, clear-accepted, or-
 use Rattle.agreement.proofs.Straight.{lay, Lays, apart-flip}
 use Rattle.agreement.proofs.Step.{Off, off-silent}
 use Rattle.agreement.proofs.Run.{Start, Alike, agree-iff, none-odd, other-after, other-before}
-use Rattle.agreement.proofs.Uses.{spot-lay, count-lay, uses-total, apart, Sane, sane}
+use Rattle.agreement.proofs.Uses.{spot-lay, count-lay, apart, Sane, sane}
 use Rattle.area.proofs.Flat.{length-chunks}
 use Rattle.agreement.proofs.Areas.{planned-long, planned-entries}
 use Rattle.agreement.proofs.Sheets.{bounded}

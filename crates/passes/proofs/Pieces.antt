@@ -127,10 +127,6 @@ module _ (d : Data) (ws : List ℕ) (r : PdoDirection) where
         (λ j l e. bytes-back (sizeAt (sizesOf d ws r) j) ∙ size-at j l e)
         ∙ route-uses
 
-    -- and so are their bytes
-    pub size-is : total (usesBy (routeOf d r) (sizesOf d ws r) r (d .managers)) ≡ sizeOf d ws r
-    size-is = ap total uses-are ∙ uses-total
-
     -- who gets which size is what the pass says
     sizes-agree : (k : ℕ) → k < length (d .managers) → sizeBy (usageOf r) (sizesOf d ws r) k (getD (d .managers) k noManager) ≡ dataSize d ws r k (getD (d .managers) k noManager)
     sizes-agree k h = go (eqb (getD (d .managers) k noManager .«usage_type») (usageOf r)) (size-at k h)
