@@ -25,7 +25,8 @@ use Rattle.translation.proofs.Lies.{inside, before, behind}
 use Rattle.agreement.proofs.Basics.{either, each-map, said-by}
 use Rattle.agreement.proofs.Straight.{lay, Fresh, straight-same, straight-iff}
 use Rattle.agreement.proofs.Run.{said, plan-leaves}
-use Rattle.agreement.proofs.Uses.{uses-total, apart}
+use Rattle.passes.proofs.Pieces.{uses-total}
+use Rattle.agreement.proofs.Uses.{apart}
 use Rattle.area.proofs.Flat.{length-chunks}
 use Rattle.agreement.proofs.Demand3.{one, two, rangeSize, Facts, lays, among, translated, other-unseen}
 

@@ -28,7 +28,7 @@ use Rattle.agreement.proofs.Basics.{either, first-none, none-at, never-
 use Rattle.agreement.proofs.Straight.{lay, Lays, goOn, goOn-total, lay-behind}
 use Rattle.agreement.proofs.Step.{Silent, off-silent, says-silent, odd-silent}
 use Rattle.agreement.proofs.Run.{said, none-odd, other-silents}
-use Rattle.agreement.proofs.Uses.{uses-total}
+use Rattle.passes.proofs.Pieces.{uses-total}
 use Rattle.area.proofs.Flat.{length-chunks}
 use Rattle.agreement.proofs.Areas.{planned-long, planned-entries}
 use Rattle.agreement.proofs.Demand3.{one-of-two, two, ownBy, rangeSize, Facts, facts, sane-uses, lays, counted-own, counted-lay, disabled-off, disabled-start}

@@ -19,9 +19,8 @@ use Rattle.pdo.specs.declared.PdoDirection.{PdoDirection}
 use Rattle.pdo.specs.declared.PdoDirection.the-variants.{MasterRead, MasterWrite}
 use Rattle.pdo.specs.Direction.{usageOf, fmmuUsageOf, other}
 use Rattle.pdo.specs.Bits.{Piece, byCoe, pathKind, bitsOf, piecesFrom, piecesOf}
-use Rattle.passes.specs.Use.{Use, useOf, own, given, firstWith, coeEntry, usesOf, total, sizeOf}
+use Rattle.passes.specs.Use.{Use, useOf, own, given, firstWith, coeEntry, usesOf}
 use Rattle.passes.specs.Pass.{noEntry}
-use Rattle.passes.proofs.Pieces.{given-total}
 use Rattle.translation.specs.Translate.{within, named, orNone}
 use Rattle.counting.specs.Count.{spotAt, spotIn, deviceIn}
 use Rattle.translation.proofs.Lies.{before, behind}
@@ -172,10 +171,6 @@ module _ (d : Data) where
 
   pub count-lay : (ws : List ℕ) (r : PdoDirection) (o a : ℕ) → lay o (own (piecesOf d ws r)) a ≡ lay o (usesOf d ws r) a
   count-lay ws r o a = path (λ us. lay o (own (piecesOf d ws r)) a ≡ lay o us a) ws r (λ c. given-lay (λ number. coeEntry d r) o a (piecesOf d ws r)) (λ c. refl)
-
-  pub uses-total : (ws : List ℕ) (r : PdoDirection) → total (usesOf d ws r) ≡ sizeOf d ws r
-  unfolding sizeOf
-  uses-total ws r = path (λ us. total us ≡ total (own (piecesOf d ws r))) ws r (λ c. given-total (λ number. coeEntry d r) (piecesOf d ws r)) (λ c. refl)
 
   -- by refusal 7, an entry that CoE uses is there
   coe-place : (ws : List ℕ) (r : PdoDirection) → byCoe d ≡ true → noEntry d ws r ≡ false → (coeEntry d r < length (d .usages)) ⊎ (coeUses ws r ≡ [])
