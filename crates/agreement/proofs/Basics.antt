@@ -14,7 +14,8 @@ use lib.Dec.{ltb}
 use borrow.Author.Tests.{ltb-true, ltb-false}
 use Rattle.wire.specs.Outcome.{refused, accepted, Refusal, decide}
 use Rattle.wire.proofs.Order.{never}
-use Rattle.wire.specs.Lists.{Each, someOf}
+use Rattle.wire.proofs.Lists.{some-hit}
+use Rattle.wire.specs.Lists.{Each, someBelow, someOf}
 use Rattle.translation.specs.Translate.{firstSaid}
 
 pub either : (b : Bool) → (b ≡ true) ⊎ (b ≡ false)
@@ -48,6 +49,13 @@ clear-accepted (r ∷ rs) x c = rw (c .0) (clear-accepted rs x (c .1))
 pub or-false : (a b : Bool) → (a || b) ≡ false → (a ≡ false) × (b ≡ false)
 or-false true b e = absurd (true≢false e)
 or-false false b e = (refl, e)
+
+pub none-below : (f : ℕ → Bool) (n : ℕ) → someBelow f n ≡ false → (k : ℕ) → k < n → f k ≡ false
+none-below f n e k h = go (either (f k))
+  where
+    go : (f k ≡ true) ⊎ (f k ≡ false) → f k ≡ false
+    go (inl t) = absurd (true≢false (sym (some-hit f k n h t) ∙ e))
+    go (inr t) = t
 
 pub none-of : {A : Type 0} (f : A → Bool) (l : List A) → someOf f l ≡ false → Each (λ (x : A). f x ≡ false) l
 none-of f [] e = tt

@@ -18,7 +18,6 @@ use Rattle.sheet.specs.Sheet.{sheetData}
 use Rattle.pdo.specs.declared.PdoDirection.{PdoDirection}
 use Rattle.pdo.specs.Direction.{other}
 use Rattle.passes.specs.Use.{Use, total}
-use Rattle.passes.proofs.Pieces.{uses-total}
 use Rattle.area.specs.Area.{entriesOf}
 use Rattle.translation.specs.Translate.{named, says, firstSaid, orNone, translate}
 use Rattle.agreement.specs.Agreement.{EveryDisabled, Lent, weights, TwoPasses, EndToEnd, laidBy, counted}
@@ -26,6 +25,7 @@ use Rattle.translation.proofs.Lies.{inside, before, behind}
 use Rattle.agreement.proofs.Basics.{either, each-map, said-by}
 use Rattle.agreement.proofs.Straight.{lay, Fresh, straight-same, straight-iff}
 use Rattle.agreement.proofs.Run.{said, plan-leaves}
+use Rattle.passes.proofs.Pieces.{uses-total}
 use Rattle.agreement.proofs.Uses.{apart}
 use Rattle.area.proofs.Flat.{length-chunks}
 use Rattle.agreement.proofs.Demand3.{one, two, rangeSize, Facts, lays, among, translated, other-unseen}

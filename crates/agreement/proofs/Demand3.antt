@@ -27,14 +27,14 @@ use Rattle.wire.specs.Lists.{someOf}
 use Rattle.pdo.specs.Bits.{piecesOf}
 use Rattle.passes.specs.Use.{Use, own, totalOn, sizeOf}
 use Rattle.area.specs.Area.{entriesOf, notEntries, notChannels}
-use Rattle.passes.specs.Entries.{plan, Planned, tooLong}
-use Rattle.passes.proofs.Room.{not-too-long}
+use Rattle.passes.specs.Entries.{plan, lengthNow, Planned, tooLong}
+use Rattle.passes.proofs.Pieces.{uses-total}
 use Rattle.passes.specs.Pass.{someTooMany, noEntry, entriesAfter, segmentAlone, Passes, passRefusals, plannedOf, dataPass}
 use Rattle.passes.proofs.Pieces.{uses-total}
 use Rattle.translation.specs.Translate.{says, odd, firstSaid, orNone, translate}
 use Rattle.counting.specs.Count.{spotIn, deviceAlone, countRefusals, count}
 use Rattle.agreement.specs.Agreement.{EveryDisabled, Lent, weights, passOf, Accepted, TwoPasses, laidBy, counted, Demand3, Demand3InReach}
-use Rattle.agreement.proofs.Basics.{accepted-clear, clear-accepted, or-false, each-map, each-of, either}
+use Rattle.agreement.proofs.Basics.{accepted-clear, clear-accepted, or-false, none-below, each-map, each-of, either}
 use Rattle.agreement.proofs.Straight.{lay, Lays, apart-flip}
 use Rattle.agreement.proofs.Step.{Off, off-silent}
 use Rattle.agreement.proofs.Run.{Start, Alike, agree-iff, none-odd, other-after, other-before}
@@ -89,7 +89,12 @@ module _ (sheet : List ℕ) (bytes : Bytes sheet) (r : PdoDirection) (l : Lent) 
   sane-uses = sane (sheetData sheet) (bounded sheet bytes (f .sheet-kept)) (weights sheet l) r (f .entry)
 
   room-on : (k : ℕ) → k < 16 → totalOn k (laidBy sheet r l) ≤ 65535
-  room-on k h = let m = not-too-long (laidBy sheet r l) (entriesOf 16 area) (f .room) .fits k h in omega arith
+  unfolding tooLong
+  room-on k h =
+      let long : ℕ → ℕ = λ j. lengthNow (getD (entriesOf 16 area) j []) + totalOn j (laidBy sheet r l) in
+      let m : lengthNow (getD (entriesOf 16 area) k []) + totalOn k (laidBy sheet r l) ≤ 65535 =
+      ltb-false 65535 (long k) (none-below (λ j. ltb 65535 (long j)) 16 (f .room) k h) in
+      omega arith
 
   pub lays : Lays (l .offset) (laidBy sheet r l)
   lays =

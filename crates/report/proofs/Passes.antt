@@ -15,7 +15,7 @@ use Rattle.passes.specs.declared.Configured.the-variants as configured
 use Rattle.mailboxes.specs.declared.MailboxConfig.{MailboxConfig}
 use Rattle.mailboxes.specs.declared.MailboxRead.{MailboxRead}
 use Rattle.mailboxes.specs.declared.MailboxRead.the-variants as mailbox
-use Rattle.mailboxes.specs.Mailbox.{mailboxPass, mailboxArea, mailboxOf, ConfiguresMailboxes}
+use Rattle.mailboxes.specs.Mailbox.{Recorded, recordOf, mailboxPass, mailboxArea, mailboxOf, ConfiguresMailboxes}
 use Rattle.passes.specs.Pass.{entriesAfter, channelAreaAfter, Configures}
 use Rattle.lines.specs.Text.{refusedText, bayText}
 use Rattle.report.specs.declared.Plan.{Plan}
@@ -68,19 +68,19 @@ module _ (sheet fmmus channels : List ℕ) {answer : Configured} {fmmusThen chan
 
 -- the mailbox pass
 module _ (sheet fmmus channels : List ℕ) {answer : MailboxRead} {channelsThen : List ℕ} (c : ConfiguresMailboxes sheet channels answer channelsThen) where
-  abbrev rest : MailboxConfig → Outcome Bay
+  abbrev rest : Recorded → Outcome Bay
   rest config = withInputs sheet (mailboxLeaves sheet (areas fmmus channels) config)
 
   pub mailboxes-read : (config : MailboxConfig) → answer ≡ mailbox.Config config → withInputs sheet (areas fmmus channelsThen) ≡ planBay sheet (areas fmmus channels)
   unfolding planBay
   mailboxes-read config is =
-      let says : accepted config ≡ mailboxPass sheet channels = sym (ap mailboxOf is) ∙ c .says in
-      let left = c .holds ∙ ap (λ (x : Outcome MailboxConfig). mailboxArea x (sheetData sheet) channels) (sym says) in
-      ap (λ (l : List ℕ). withInputs sheet (areas fmmus l)) left ∙ ap (λ (x : Outcome MailboxConfig). andThen x rest) says
+      let says : accepted (recordOf config) ≡ mailboxPass sheet channels = sym (ap mailboxOf is) ∙ c .says in
+      let left = c .holds ∙ ap (λ (x : Outcome Recorded). mailboxArea x (sheetData sheet) channels) (sym says) in
+      ap (λ (l : List ℕ). withInputs sheet (areas fmmus l)) left ∙ ap (λ (x : Outcome Recorded). andThen x rest) says
 
   pub mailboxes-refused : (n : ℕ) → answer ≡ mailbox.Refused n → refused n ≡ planBay sheet (areas fmmus channels)
   unfolding planBay
-  mailboxes-refused n is = ap (λ (x : Outcome MailboxConfig). andThen x rest) (sym (ap mailboxOf is) ∙ c .says)
+  mailboxes-refused n is = ap (λ (x : Outcome Recorded). andThen x rest) (sym (ap mailboxOf is) ∙ c .says)
 
 -- the text of what the passes answer
 module _ (sheet : List ℕ) (a : Areas) (r : Plan) (fmmus channels : List ℕ) (says : bayOf r (areas fmmus channels) ≡ planBay sheet a) where

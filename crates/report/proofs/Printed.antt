@@ -26,8 +26,7 @@ use Rattle.channels.proofs.After.{channels-kept}
 use Rattle.passes.specs.Use.{usesOf}
 use Rattle.passes.specs.Entries.{Planned, plan}
 use Rattle.passes.proofs.Kept.{plan-length, rows-plan}
-use Rattle.mailboxes.specs.declared.MailboxConfig.{MailboxConfig}
-use Rattle.mailboxes.specs.Mailbox.{mailboxPass, mailboxSize, mailboxChannels}
+use Rattle.mailboxes.specs.Mailbox.{Recorded, mailboxPass, mailboxSize, mailboxChannels}
 use Rattle.passes.specs.Pass.{dataSize}
 use Rattle.lines.specs.Text.{line, inputsFront, outputsFront, channelLine, imageLine, enabledLine, lines, bayText}
 use Rattle.report.specs.Plan.{andThen, Areas, areas, Bay, once, pass, passLeaves, withOutputs, withInputs, mailboxLeaves, planBay, outcomeText, reportText, channelLineOf, plainText}
@@ -80,7 +79,7 @@ images-after f ms l h =
     let back : entriesOf 8 (flat es) ≡ es = ap (λ (m : ℕ). chunks 8 m (flat es)) (sym (kept .0)) ∙ chunks-flat 8 es (kept .1) in
     record { long = flat-bytes 8 16 es kept; reads = subst (Each Reads) (sym back) (after-reads f 0 ms (entriesOf 8 l) (h .reads)) }
 
-mailbox-right : (sheet : List ℕ) (a : Areas) (c : MailboxConfig) → Right a → Right (mailboxLeaves sheet a c)
+mailbox-right : (sheet : List ℕ) (a : Areas) (c : Recorded) → Right a → Right (mailboxLeaves sheet a c)
 unfolding mailboxChannels
 mailbox-right sheet a c h = record { entries = h .entries; images = go (sheetData sheet .mailbox) }
   where

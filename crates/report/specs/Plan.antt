@@ -14,8 +14,7 @@ use Rattle.pdo.specs.declared.PdoDirection.{PdoDirection}
 use Rattle.pdo.specs.declared.PdoDirection.the-variants.{MasterRead, MasterWrite}
 use Rattle.pdo.specs.Bits.{multipliersOf}
 use Rattle.passes.specs.Entries.{Planned}
-use Rattle.mailboxes.specs.declared.MailboxConfig.{MailboxConfig}
-use Rattle.mailboxes.specs.Mailbox.{mailboxPass, mailboxArea}
+use Rattle.mailboxes.specs.Mailbox.{Recorded, mailboxPass, mailboxArea}
 use Rattle.lines.specs.Text.{line, numbered, inputsFront, outputsFront, lines, enabledLine, refusedText, bayText}
 use Rattle.report.specs.declared.Plan.{Plan}
 use Rattle.report.specs.declared.Plan.the-variants.{Segments, Refused}
@@ -71,11 +70,11 @@ withOutputs sheet i a =
 unfoldable pub withInputs : List ℕ → Areas → Outcome Bay
 withInputs sheet a = andThen (pass sheet MasterRead 0 a) (λ (i : Planned). withOutputs sheet i (passLeaves sheet MasterRead 0 a i))
 
-abbrev pub mailboxLeaves : List ℕ → Areas → MailboxConfig → Areas
+abbrev pub mailboxLeaves : List ℕ → Areas → Recorded → Areas
 mailboxLeaves sheet a c = areas (a .fmmus) (mailboxArea (accepted c) (sheetData sheet) (a .channels))
 
 unfoldable pub planBay : List ℕ → Areas → Outcome Bay
-planBay sheet a = andThen (mailboxPass sheet (a .channels)) (λ (c : MailboxConfig). withInputs sheet (mailboxLeaves sheet a c))
+planBay sheet a = andThen (mailboxPass sheet (a .channels)) (λ (c : Recorded). withInputs sheet (mailboxLeaves sheet a c))
 
 -- both segments, the images of the sheet's n sync managers, the enabled entries; or only the refusal
 abbrev pub outcomeText : ℕ → Outcome Bay → List ℕ
