@@ -301,7 +301,7 @@ module _ {M : Type 1} (𝓤 : URA M) (H : Heap 𝓤) (A : Atoms 𝓤) (W : Given
         move ! (18 ∷ 19 ∷ []) $ free1 ! $ move ! (16 ∷ 17 ∷ []) $ free1 ! $ free0 ! $ keep ! (0 ∷ 1 ∷ 2 ∷ 3 ∷ 5 ∷ 12 ∷ 6 ∷ 9 ∷ 7 ∷ 13 ∷ 10 ∷ []) $
         by ! (exits r (zs .1 .1 .0) (zs .1 .1 .1 .0) (subst (λ (ws : List ℕ). Said ws r (zs .1 .1 .0) (zs .1 .1 .1 .0)) (fronted (t .now) (x .now) (ks .1 .1 .0) small filled) said) lf lc (answer-is r is₂)))))))))))))))))))))))))))))))))))))))))
 
-module _ {M : Type 1} (𝓤 : URA M) (H : Heap 𝓤) (A : Atoms 𝓤) (W : Given 𝓤 H A) (at-mem : Memory → SProp 𝓤) (run : Routine → Fun 𝓤) (𝓣 : Tables 𝓤 H) 
+module _ {M : Type 1} (𝓤 : URA M) (H : Heap 𝓤) (A : Atoms 𝓤) (W : Given 𝓤 H A) (at-mem : Memory → SProp 𝓤) (run : Routine → Fun 𝓤) (𝓣 : Tables 𝓤 H)
     (known-fill : Triple 𝓤 (𝓣 .C #multipliers-for) (tripleOf 𝓤 H A multipliers-for.signature (multipliers-for.spec 𝓤 H A at-mem run))) (known-pass : Triple 𝓤 (𝓣 .C #passed) (PassedBy 𝓤 H A at-mem run)) where
   it-walks : Walks 𝓤 H A it.ended stayed (WpFn 𝓤 H (𝓣 .C) (𝓣 .Λ) code.function) (it.clauses 𝓤 H A at-mem run)
   it-walks = walked 𝓤 H A it.ended stayed (it.clauses 𝓤 H A at-mem run) (WpFn 𝓤 H (𝓣 .C) (𝓣 .Λ) code.function)
