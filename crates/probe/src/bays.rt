@@ -256,6 +256,12 @@ pub fn plan(request: &[u8]) {
 // No oversampling: the bits of each PDO count once.
 const ONCE: [u8; 255] = [1; 255];
 
+// A pass of a plan: where it begins, and which way it goes.
+struct Leg {
+    offset: PdiOffset,
+    direction: PdoDirection,
+}
+
 // A data pass of a plan; without a table it needs none, as lockerplan's.
 fn plan_pass(
     sheet: &[u8],
@@ -264,33 +270,34 @@ fn plan_pass(
     records: usize,
     fmmus: &mut [u8],
     channels: &mut [u8],
-    offset: PdiOffset,
-    direction: PdoDirection,
+    leg: Leg,
 ) -> Configured {
+    let offset = leg.offset;
+    let direction = leg.direction;
     if records == 0 {
-        return subdevice::pass(
-            sheet,
-            once,
-            fmmus,
-            channels,
-            Place { offset, group: 0 },
-            direction,
-        );
+        let place = Place { offset, group: 0 };
+        return subdevice::pass(sheet, once, fmmus, channels, place, direction);
     }
-    let done = table::plan(
-        sheet,
-        table,
-        records,
-        fmmus,
-        channels,
-        Start { offset, group: 0 },
-        direction,
-    );
+    let start = Start { offset, group: 0 };
+    let done = table::plan(sheet, table, records, fmmus, channels, start, direction);
     let answer = done.answer;
     let next = done.next;
     match answer {
-        Placed::Segment(s) => Configured::Mapped(s, next),
-        Placed::Refused(n) => Configured::Refused(n),
+        Placed::Segment(segment) => Configured::Mapped(segment, next),
+        Placed::Refused(number) => Configured::Refused(number),
+    }
+}
+
+// Both segments, or the second pass's refusal.
+fn both(inputs: PdiSegment, second: Configured) -> Line {
+    match second {
+        Configured::Mapped(outputs, _) => say::row(
+            inputs.start as u64,
+            inputs.end as u64,
+            outputs.start as u64,
+            outputs.end as u64,
+        ),
+        Configured::Refused(number) => say::refused(number),
     }
 }
 
@@ -301,7 +308,10 @@ fn plan_once(sheet: &[u8], once: &[u8; 255], table: [Oversampling; 256], records
     if let MailboxRead::Refused(number) = mailboxes::configure_mailboxes(sheet, &mut channels) {
         return say::refused(number);
     }
-    let start = PdiOffset { start_address: 0 };
+    let first = Leg {
+        offset: PdiOffset { start_address: 0 },
+        direction: PdoDirection::MasterRead,
+    };
     match plan_pass(
         sheet,
         once,
@@ -309,27 +319,26 @@ fn plan_once(sheet: &[u8], once: &[u8; 255], table: [Oversampling; 256], records
         records,
         &mut fmmus,
         &mut channels,
-        start,
-        PdoDirection::MasterRead,
+        first,
     ) {
-        Configured::Mapped(inputs, next) => match plan_pass(
-            sheet,
-            once,
-            table,
-            records,
-            &mut fmmus,
-            &mut channels,
-            next,
-            PdoDirection::MasterWrite,
-        ) {
-            Configured::Mapped(outputs, _) => say::row(
-                inputs.start as u64,
-                inputs.end as u64,
-                outputs.start as u64,
-                outputs.end as u64,
-            ),
-            Configured::Refused(number) => say::refused(number),
-        },
+        Configured::Mapped(inputs, next) => {
+            let second = Leg {
+                offset: next,
+                direction: PdoDirection::MasterWrite,
+            };
+            both(
+                inputs,
+                plan_pass(
+                    sheet,
+                    once,
+                    table,
+                    records,
+                    &mut fmmus,
+                    &mut channels,
+                    second,
+                ),
+            )
+        }
         Configured::Refused(number) => say::refused(number),
     }
 }
