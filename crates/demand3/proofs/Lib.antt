@@ -1,4 +1,4 @@
--- `Functions` proves the statement; `Contracts` holds its promises to the functions' generated contracts; `Examples`: it isn't empty.
+-- `Functions` proves the statement; `Contracts` makes its calls of the functions' own contracts; `Examples`: it isn't empty.
 pub mod Functions
 pub mod Contracts
 pub mod Examples

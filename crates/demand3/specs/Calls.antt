@@ -1,5 +1,5 @@
 -- Demand 3 of the functions: read this first. It speaks of what they were lent and of what they answered.
--- Each `promise` is the function's own `ensures`, at the values of the call; `Contracts` in proofs/ holds it to the generated contract.
+-- Each `promise` is the function's own `ensures`, at the values of the call: `Contracts` in proofs/ makes these records of the contracts.
 -- Assumes nothing.
 use mathlib.Core.Path.{_≡_}
 use mathlib.Core.List.{List}
@@ -48,7 +48,8 @@ pub record Counting (sheet : List ℕ) (table : List Oversampling) (offset : Pdi
   pub promise : countedOf answer ≡ count r a sheet (multipliersOf table (sheetData sheet .pdos)) (offset .«start_address»)
 
 -- the calls: from FMMU bytes with every entry disabled a pass of each direction, `first` before the other, which is lent what the first left;
--- then, at all 2^32 addresses, translating through the bytes that are left, and counting with the pass's own table and offset
+-- then, at all 2^32 addresses, translating through the bytes that are left, and counting with the pass's own table and offset. The sheet holds bytes, as every
+-- lent slice of them does (`below`, lent/proofs/Bytes.antt)
 pub record Calls (sheet : List ℕ) (first : PdoDirection) : Type 0 where
   pub bytes : Bytes sheet
   pub pass : (r : PdoDirection) → Pass sheet r

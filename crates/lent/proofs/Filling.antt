@@ -23,6 +23,7 @@ use denote.Slice.{sliceVal, ShrSlice}
 use denote.Steps.{nothing}
 use denote.Triple.Spec.{tripleOf}
 use denote.Triple.Statement.{Contract}
+use Rattle.wire.specs.Image.{Bytes}
 use Rattle.wire.specs.Room.{over}
 use Rattle.grammar.specs.Grammar.{pdoCount}
 use Rattle.sheet.specs.Sheet.{sheetData}
@@ -32,7 +33,6 @@ use Rattle.pdo.proofs.Oversampling as O
 use Rattle.oversampling.specs.Multipliers.{lookedUp}
 use Rattle.oversampling.proofs.Made.{made}
 use Rattle.oversampling.proofs.multipliers_for as multipliers-for
-use Rattle.lent.proofs.Bytes.{Below}
 
 -- the array, a reference to it, and its machine value
 abbrev pub Ones : List ℕ
@@ -48,8 +48,8 @@ of-array ws = arrayVal (map (vint w8) ws)
 abbrev pub Filled : List Oversampling → List ℕ → List ℕ → Type 0
 Filled t s ws = ws ≡ over (lookedUp t (sheetData s .pdos)) Ones
 
-pub fronted : (t : List Oversampling) (s ws : List ℕ) → Below s → Filled t s ws → take (pdoCount s) ws ≡ multipliersOf t (sheetData s .pdos)
-fronted t s ws small e = ap (take (pdoCount s)) e ∙ made t s (small 10)
+pub fronted : (t : List Oversampling) (s ws : List ℕ) → Bytes s → Filled t s ws → take (pdoCount s) ws ≡ multipliersOf t (sheetData s .pdos)
+fronted t s ws small e = ap (take (pdoCount s)) e ∙ made t s (small .below 10)
 
 module _ {M : Type 1} (𝓤 : URA M) (H : Heap 𝓤) (A : Atoms 𝓤) (W : Given 𝓤 H A) (at-mem : Memory → SProp 𝓤) (run : Routine → Fun 𝓤) (κ₀ κ₁ : Lft) (q₀ q₁ : Share) (x : RefT (List ℕ)) (t : RefT (List Oversampling)) where
   -- the machine values of the sheet and of the table

@@ -22,7 +22,7 @@ use Rattle.lent.proofs.counted.count as count
 abbrev leaves : Placed → PdiOffset → List ℕ → List ℕ → Placed × PdiOffset × List ℕ × List ℕ
 leaves r o fmmus channels = (r, o, fmmus, channels)
 
-abbrev PassesOn : Saying configure-fmmus.ended
+abbrev pub PassesOn : Saying configure-fmmus.ended
 PassesOn κs a r s =
     Passes (now (a .0)) (multipliersOf (now (a .1 .0)) (sheetData (now (a .0)) .pdos)) (a .1 .1 .1 .1 .1 .1 .0) (now (a .1 .1 .1 .1 .0)) (a .1 .1 .1 .1 .1 .0) (now (a .1 .1 .0)) (now (a .1 .1 .1 .0))
     r (now (s .1 .1 .1 .1 .0)) (now (s .1 .1 .0)) (now (s .1 .1 .1 .0))
@@ -33,7 +33,7 @@ configure-fmmus-states M 𝓤 H A mem run κs a r s g = refl
 pub configure-fmmus-pins : Pins PassesOn (λ κs r s. leaves r (now (s .1 .1 .1 .1 .0)) (now (s .1 .1 .0)) (now (s .1 .1 .1 .0)))
 configure-fmmus-pins κs a x y s t p q = passes-once _ _ _ _ _ _ _ x y _ _ _ _ _ _ p q
 
-abbrev CountsBy : Saying count.ended
+abbrev pub CountsBy : Saying count.ended
 CountsBy κs a r s = countedOf r ≡ meaning.count (a .1 .1 .1 .0) (a .1 .1 .1 .1 .0) (now (a .0)) (multipliersOf (now (a .1 .0)) (sheetData (now (a .0)) .pdos)) (a .1 .1 .0 .«start_address»)
 
 pub count-states : States count.ended (λ M 𝓤 H. count.clauses 𝓤 H) CountsBy

@@ -75,7 +75,8 @@ use Rattle.lent.proofs.data_pass.passed as passed
 use Rattle.lent.proofs.data_pass.passed.Symbol as passed-def
 use Rattle.lent.proofs.data_pass.passed.Symbol.{name as #passed}
 use Rattle.lent.proofs.data_pass.passed.Met as passed-thm
-use Rattle.lent.proofs.Bytes.{Below, below}
+use Rattle.wire.specs.Image.{Bytes}
+use Rattle.lent.proofs.Bytes.{below}
 use Rattle.oversampling.proofs.Local.{cell, lies, lay}
 use Rattle.lent.proofs.Filling.{Ones, array-at, of-array, Filled, fronted, MultipliersFor, given-fill, to-fill, goes-fill}
 use Rattle.lent.proofs.data_pass.configure_fmmus.Key.{name as #lent·configure-fmmus}
@@ -232,7 +233,7 @@ module _ {M : Type 1} (𝓤 : URA M) (H : Heap 𝓤) (A : Atoms 𝓤) (W : Given
         move ! (39 ∷ []) $ fsplit ! $ move ! (1 ∷ []) $ fsplit ! $ move ! (1 ∷ []) $ fsplit ! $ move ! (1 ∷ []) $ fsplit ! $ move ! (1 ∷ []) $ fsplit ! $ fsplit3 ! $ drop ! $
         move ! (45 ∷ []) $ split ! $ move ! (1 ∷ []) $ split ! $ move ! (1 ∷ []) $ split ! $ move ! (1 ∷ []) $ split ! $ move ! (1 ∷ []) $ split ! $
         -- the sheet's bytes are bytes
-        move ! (5 ∷ 12 ∷ []) $ use2 W (later (given (Below (x .now)) (‵ (flft κ₀ q₀) ⊛ ‵ X))) (below 𝓤 H A W (named 0) κ₀ q₀ x) $ await ! tt $ learn ! (λ small. split ! $
+        move ! (5 ∷ 12 ∷ []) $ use2 W (later (given (Bytes (x .now)) (‵ (flft κ₀ q₀) ⊛ ‵ X))) (below 𝓤 H A W (named 0) κ₀ q₀ x) $ await ! tt $ learn ! (λ small. split ! $
         -- the array of ones
         owned ! u8 (Is u8) (uint-makes 𝓤 H A W w8) 1 (vint w8 1 ∷ []) (refl, lit< tt) $
         use1 W (‵ (Array u8 255 .own Ones (arrayVal (replicate 255 (vint w8 1)) ∷ []))) (array-repeat 𝓤 H A W u8 (uint-copy 𝓤 H A W w8) 255 1 (vint w8 1)) $
