@@ -1,4 +1,4 @@
--- Demand 3, as a statement: read this first.
+-- Demand 3 over definitions: what a pass, translation and counting mean. Of the functions themselves it is stated in demand3/specs/Calls.antt.
 -- Assumes nothing.
 use mathlib.Core.Path.{_≡_}
 use mathlib.Core.Bool.{Bool, false, cond, _&&_}

@@ -1,1 +1,1 @@
-// Demand 3: its statement, read first, stands in specs/Agreement.antt; translation and counting have crates of their own.
+// Demand 3 over definitions: its statement stands in specs/Agreement.antt; of the functions themselves, in demand3.
