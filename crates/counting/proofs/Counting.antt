@@ -25,7 +25,7 @@ use Rattle.pdo.specs.Direction.{usageOf}
 use Rattle.pdo.specs.Bits.{Piece, pathKind, bitsOf, piecesFrom, piecesOf}
 use Rattle.passes.specs.Use.{Use, own, total, sizeOf}
 use Rattle.passes.specs.Pass.{wantedRefusals}
-use Rattle.passes.specs.Handed.{sizesOf}
+use Rattle.passes.specs.Handed.{sizesOf, piecesBy}
 use Rattle.passes.proofs.Pieces.{withPiece, bytes-back, uses-same, exact-at, size-handed}
 use Rattle.wanted.specs.declared.Wanted.{Wanted}
 use Rattle.wanted.specs.Wanted.{Wants}
@@ -34,7 +34,7 @@ use Rattle.translation.specs.declared.Reached.{Reached}
 use Rattle.translation.specs.Translate.{within, named, reachedOf}
 use Rattle.counting.specs.declared.Counted.{Counted}
 use Rattle.counting.specs.declared.Counted.the-variants.{Nowhere, In, Refused}
-use Rattle.counting.specs.Count.{Spot, spotAt, spotIn, spotHere, orNext, spotOf, countedOf, earlierOf, piecesBy, LaysOut, count}
+use Rattle.counting.specs.Count.{Spot, spotAt, spotIn, spotHere, orNext, spotOf, countedOf, earlierOf, LaysOut, count}
 
 -- one sync manager: not holding the address, or holding it
 module _ (start size k address a : ℕ) where

@@ -4,16 +4,13 @@ use mathlib.Core.Path.{_≡_}
 use mathlib.Core.Bool.{cond}
 use mathlib.Core.List.{List, [], _∷_, _++_}
 use mathlib.Core.Option.{Option, none, some}
-use Prim.Native.Nat.{ℕ, _+_, _-_, _*_}
+use Prim.Native.Nat.{ℕ, _+_, _-_}
 use Rattle.wire.specs.Outcome.{Outcome, refused, accepted, Refusal, when, decide}
 use Rattle.pdi.specs.Unit.{bytesOf}
 use Rattle.pdi.specs.Offset.{pastEnd}
-use Rattle.pdi.specs.declared.ByteLen.{ByteLen}
 use Rattle.sheet.specs.Sheet.{sheetRefusals, sheetData}
-use Rattle.sheet.specs.declared.SyncManager.{SyncManager}
-use Rattle.channels.specs.Channels.{sizeAt}
 use Rattle.pdo.specs.declared.PdoDirection.{PdoDirection}
-use Rattle.pdo.specs.Bits.{Piece, piecesFrom, piecesOf}
+use Rattle.pdo.specs.Bits.{Piece, piecesOf}
 use Rattle.passes.specs.Use.{own, total, sizeOf}
 use Rattle.passes.specs.Pass.{wantedRefusals}
 use Rattle.translation.specs.Translate.{within, named, reachedOf}
@@ -80,11 +77,7 @@ earlierOf Nowhere next = next
 earlierOf (In p) next = In p
 earlierOf (Refused n) next = Refused n
 
--- the sync managers of a usage with sizes that are handed on: eight bits for each byte
-abbrev pub piecesBy : ℕ → List ByteLen → List SyncManager → List Piece
-piecesBy usage sizes ms = piecesFrom usage (λ k. 8 * sizeAt sizes k) 0 ms
-
--- the promise of laying them out from an offset on: where the last one ends, and where the address lies
+-- the promise of laying pieces out from an offset on: where the last one ends, and where the address lies
 pub record LaysOut (ps : List Piece) (offset a end : ℕ) (found : Counted) : Type 0 where
   pub ends : end ≡ offset + total (own ps)
   pub finds : countedOf found ≡ accepted (spotIn offset ps a)

@@ -54,7 +54,9 @@ entry-line k f = go (f .enable)
         let t = fmmu-length f in
         omega arith
 
-lines-length : (lineOf : ℕ → List ℕ → List ℕ) (most : ℕ) → ((k : ℕ) (e : List ℕ) → length (lineOf k e) ≤ most) → (k : ℕ) (es : List (List ℕ)) → length (lines lineOf k es) ≤ most * length es
+lines-length :
+    (lineOf : ℕ → List ℕ → List ℕ) (most : ℕ) → ((k : ℕ) (e : List ℕ) → length (lineOf k e) ≤ most)
+    → (k : ℕ) (es : List (List ℕ)) → length (lines lineOf k es) ≤ most * length es
 unfolding lines
 lines-length lineOf most h k [] = omega arith
 lines-length lineOf most h k (e ∷ es) =

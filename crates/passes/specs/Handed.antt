@@ -34,9 +34,13 @@ sizesOf d ws r = listOf (λ k. record { 0 = bytesOf (exactBits d ws r k) }) 16
 abbrev pub routeOf : Data → PdoDirection → Route
 routeOf d r = record { «coe» = byCoe d; entry = cond (byCoe d) (coeEntry d r) 0 }
 
--- the uses of sync managers with these sizes by a route: as of pieces with eight bits for each byte
+-- the sync managers of a usage with these sizes: pieces with eight bits for each byte
+abbrev pub piecesBy : ℕ → List ByteLen → List SyncManager → List Piece
+piecesBy usage sizes ms = piecesFrom usage (λ k. 8 * sizeAt sizes k) 0 ms
+
+-- their uses by a route
 abbrev pub byRoute : Route → List Piece → List Use
 byRoute route ps = cond (route .coe) (given (λ number. route .entry) ps) (own ps)
 
 abbrev pub usesBy : Route → List ByteLen → PdoDirection → List SyncManager → List Use
-usesBy route sizes r ms = byRoute route (piecesFrom (usageOf r) (λ k. 8 * sizeAt sizes k) 0 ms)
+usesBy route sizes r ms = byRoute route (piecesBy (usageOf r) sizes ms)

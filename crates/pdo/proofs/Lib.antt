@@ -3,5 +3,6 @@ pub mod Part
 pub mod Records
 pub mod Some
 pub mod Bits
+pub mod Ones
 pub mod Sums
 pub mod Unique

@@ -12,8 +12,8 @@ use Rattle.sheet.specs.Sheet.{managersIn}
 use Rattle.sheet.proofs.Managers.{front-manager, front-over}
 use Rattle.channels.specs.Channels.{sizeAt}
 use Rattle.pdo.specs.Bits.{piecesFrom}
+use Rattle.passes.specs.Handed.{piecesBy}
 use Rattle.passes.proofs.Pieces.{bytes-back}
-use Rattle.counting.specs.Count.{piecesBy}
 use Rattle.counting.proofs.Counting.{Laying, laying-starts, laying-takes, laying-skips, laying-ends}
 use Rattle.counting.proofs.lay_out.Statement.{statement}
 use Rattle.counting.proofs.lay_out.Tie as tie

@@ -20,7 +20,8 @@ use Rattle.lines.proofs.put_channels.Tie as tie
 abbrev Inv-loop : tie.InvT-loop
 Inv-loop room₀ from channels n count at₀ k₀ room at k =
     (k ≤ count) × (count ≤ n) × (count ≤ 16) × (count ≡ length (take n (entriesOf 8 (areaOf 128 channels)))) × (length room ≡ length room₀)
-    × (typedAll (page room at) (lines imageLine k (drop k (take n (entriesOf 8 (areaOf 128 channels))))) ≡ typedAll (page room₀ from) (lines imageLine 0 (take n (entriesOf 8 (areaOf 128 channels)))))
+    × (typedAll (page room at) (lines imageLine k (drop k (take n (entriesOf 8 (areaOf 128 channels)))))
+    ≡ typedAll (page room₀ from) (lines imageLine 0 (take n (entriesOf 8 (areaOf 128 channels)))))
 
 abbrev μ-loop : tie.MeasureT-loop
 μ-loop room₀ from channels n count at₀ k₀ room at k = count - k

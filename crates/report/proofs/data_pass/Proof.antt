@@ -6,8 +6,8 @@ use Prim.Native.Nat.{ℕ, _<_}
 use denote.Ref.{now}
 use borrow.Author.Needs.{needs}
 use Rattle.grammar.specs.Grammar.{pdoCount}
+use Rattle.pdo.proofs.Ones.{once-each}
 use Rattle.passes.specs.Pass.{Configures}
-use Rattle.report.proofs.Once.{once-each}
 use Rattle.report.proofs.data_pass.Statement.{statement}
 use Rattle.report.proofs.data_pass.Tie as tie
 
