@@ -12,7 +12,7 @@ use Rattle.channels.specs.Channels.{channelsAfter, channelArea}
 use Rattle.channels.proofs.After.{area-whole}
 use Rattle.mailboxes.specs.declared.MailboxConfig.{MailboxConfig}
 use Rattle.mailboxes.specs.declared.Slot.the-variants.{None}
-use Rattle.mailboxes.specs.declared.MailboxRead.the-variants.{Config, Refused}
+use Rattle.mailboxes.specs.declared.MailboxAnswer.the-variants.{Config, Refused}
 use Rattle.mailboxes.specs.Mailbox.{Recorded, mailboxSize, recordedOf, recordOf, configOf, noMailboxes, mailboxPass, mailboxChannels, mailboxArea, ConfiguresMailboxes}
 
 -- what code records where there is nothing

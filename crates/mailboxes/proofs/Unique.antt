@@ -10,8 +10,8 @@ use Rattle.mailboxes.specs.declared.Mailbox.{Mailbox}
 use Rattle.mailboxes.specs.declared.Slot.{Slot}
 use Rattle.mailboxes.specs.declared.Slot.the-variants.{None, At}
 use Rattle.mailboxes.specs.declared.MailboxConfig.{MailboxConfig}
-use Rattle.mailboxes.specs.declared.MailboxRead.{MailboxRead}
-use Rattle.mailboxes.specs.declared.MailboxRead.the-variants.{Config, Refused}
+use Rattle.mailboxes.specs.declared.MailboxAnswer.{MailboxAnswer}
+use Rattle.mailboxes.specs.declared.MailboxAnswer.the-variants.{Config, Refused}
 use Rattle.mailboxes.proofs.configure_mailboxes.Reads as configure-mailboxes
 
 -- number and values determine each enum's answer
@@ -26,11 +26,11 @@ slot-determined (At m) = refl
 abbrev config-back : Recorded → MailboxConfig
 config-back r = record { read = slot-back (r .read); write = slot-back (r .write); «has_coe» = r .coeOn; «complete_access» = r .complete }
 
-abbrev mailbox-back : Outcome Recorded → MailboxRead
+abbrev mailbox-back : Outcome Recorded → MailboxAnswer
 mailbox-back (refused n) = Refused n
 mailbox-back (accepted r) = Config (config-back r)
 
-pub mailbox-determined : (x : MailboxRead) → mailbox-back (mailboxOf x) ≡ x
+pub mailbox-determined : (x : MailboxAnswer) → mailbox-back (mailboxOf x) ≡ x
 mailbox-determined (Config c) =
     λ i. Config (record { read = slot-determined (c .read) i; write = slot-determined (c .write) i; «has_coe» = c .«has_coe»; «complete_access» = c .«complete_access» })
 mailbox-determined (Refused n) = refl

@@ -14,8 +14,8 @@ use Rattle.mailboxes.specs.declared.Mailbox.{Mailbox}
 use Rattle.mailboxes.specs.declared.Slot.{Slot}
 use Rattle.mailboxes.specs.declared.Slot.the-variants.{None, At}
 use Rattle.mailboxes.specs.declared.MailboxConfig.{MailboxConfig}
-use Rattle.mailboxes.specs.declared.MailboxRead.{MailboxRead}
-use Rattle.mailboxes.specs.declared.MailboxRead.the-variants.{Config, Refused}
+use Rattle.mailboxes.specs.declared.MailboxAnswer.{MailboxAnswer}
+use Rattle.mailboxes.specs.declared.MailboxAnswer.the-variants.{Config, Refused}
 use Rattle.pdo.specs.Bits.{byCoe}
 use Rattle.area.specs.Area.{entriesOf, flat, notChannels}
 use Rattle.channels.specs.Channels.{channelsAfter}
@@ -69,7 +69,7 @@ abbrev pub mailboxArea : Outcome Recorded → Data → List ℕ → List ℕ
 mailboxArea (refused n) d area = area
 mailboxArea (accepted c) d area = cond (d .mailbox) (mailboxChannels d area) area
 
--- what the cases of `Slot` say, and so what is recorded; and those of `MailboxRead`
+-- what the cases of `Slot` say, and so what is recorded; and those of `MailboxAnswer`
 abbrev pub slotOf : Slot → Option Mailbox
 slotOf None = none
 slotOf (At m) = some m
@@ -77,11 +77,11 @@ slotOf (At m) = some m
 abbrev pub recordOf : MailboxConfig → Recorded
 recordOf c = record { read = slotOf (c .read); write = slotOf (c .write); coeOn = c .«has_coe»; complete = c .«complete_access» }
 
-abbrev pub mailboxOf : MailboxRead → Outcome Recorded
+abbrev pub mailboxOf : MailboxAnswer → Outcome Recorded
 mailboxOf (Config c) = accepted (recordOf c)
 mailboxOf (Refused n) = refused n
 
 -- the promise of the pass
-pub record ConfiguresMailboxes (sheet area : List ℕ) (r : MailboxRead) (after : List ℕ) : Type 0 where
+pub record ConfiguresMailboxes (sheet area : List ℕ) (r : MailboxAnswer) (after : List ℕ) : Type 0 where
   pub says : mailboxOf r ≡ mailboxPass sheet area
   pub holds : after ≡ mailboxArea (mailboxPass sheet area) (sheetData sheet) area

@@ -29,7 +29,7 @@ pub struct MailboxConfig {
 }
 
 // What the mailbox pass answers.
-pub enum MailboxRead {
+pub enum MailboxAnswer {
     Config(MailboxConfig),
     Refused(u8),
 }
@@ -86,23 +86,23 @@ fn mailboxes_of(sheet: &[u8], channels: &mut [u8]) -> MailboxConfig
 }
 
 // First stage: the mailboxes. Lent the sheet and the sync manager area.
-pub fn configure_mailboxes(sheet: &[u8], channels: &mut [u8]) -> MailboxRead
+pub fn configure_mailboxes(sheet: &[u8], channels: &mut [u8]) -> MailboxAnswer
     ensures { λ r. ⌜ ConfiguresMailboxes (now (sheet .entry)) (now (channels .entry)) r (now (channels .exit)) ⌝ }
 {
     if channels.len() != 128 {
-        return MailboxRead::Refused(1);
+        return MailboxAnswer::Refused(1);
     }
     let sound = sheet::check(sheet);
     if let Answer::Refused(number) = sound {
-        return MailboxRead::Refused(number);
+        return MailboxAnswer::Refused(number);
     }
     if !sheet::has_mailbox(sheet) {
-        return MailboxRead::Config(MailboxConfig {
+        return MailboxAnswer::Config(MailboxConfig {
             read: Slot::None,
             write: Slot::None,
             has_coe: false,
             complete_access: false,
         });
     }
-    MailboxRead::Config(mailboxes_of(sheet, channels))
+    MailboxAnswer::Config(mailboxes_of(sheet, channels))
 }

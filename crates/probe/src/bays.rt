@@ -5,8 +5,8 @@ use crate::say::Line;
 use crate::table;
 use crate::table::Start;
 use counting::Counted;
+use mailboxes::MailboxAnswer;
 use mailboxes::MailboxConfig;
-use mailboxes::MailboxRead;
 use mailboxes::Slot;
 use passes::Configured;
 use passes::Place;
@@ -102,10 +102,10 @@ fn config(c: MailboxConfig) {
     say::item(c.complete_access as u64);
 }
 
-fn recorded(answer: MailboxRead) {
+fn recorded(answer: MailboxAnswer) {
     match answer {
-        MailboxRead::Config(c) => config(c),
-        MailboxRead::Refused(number) => say::refuse(number),
+        MailboxAnswer::Config(c) => config(c),
+        MailboxAnswer::Refused(number) => say::refuse(number),
     }
 }
 
@@ -305,7 +305,7 @@ fn both(inputs: PdiSegment, second: Configured) -> Line {
 fn plan_once(sheet: &[u8], once: &[u8; 255], table: [Oversampling; 256], records: usize) -> Line {
     let mut fmmus = [0u8; 256];
     let mut channels = [0u8; 128];
-    if let MailboxRead::Refused(number) = mailboxes::configure_mailboxes(sheet, &mut channels) {
+    if let MailboxAnswer::Refused(number) = mailboxes::configure_mailboxes(sheet, &mut channels) {
         return say::refused(number);
     }
     let first = Leg {

@@ -13,8 +13,8 @@ use Rattle.passes.specs.Entries.{Planned, configuredOf}
 use Rattle.passes.specs.declared.Configured.{Configured}
 use Rattle.passes.specs.declared.Configured.the-variants as configured
 use Rattle.mailboxes.specs.declared.MailboxConfig.{MailboxConfig}
-use Rattle.mailboxes.specs.declared.MailboxRead.{MailboxRead}
-use Rattle.mailboxes.specs.declared.MailboxRead.the-variants as mailbox
+use Rattle.mailboxes.specs.declared.MailboxAnswer.{MailboxAnswer}
+use Rattle.mailboxes.specs.declared.MailboxAnswer.the-variants as mailbox
 use Rattle.mailboxes.specs.Mailbox.{Recorded, recordOf, mailboxPass, mailboxArea, mailboxOf, ConfiguresMailboxes}
 use Rattle.passes.specs.Pass.{entriesAfter, channelAreaAfter, Configures}
 use Rattle.lines.specs.Text.{refusedText, bayText}
@@ -67,7 +67,7 @@ module _ (sheet fmmus channels : List ℕ) {answer : Configured} {fmmusThen chan
     inputs-refused n is = stopped sheet MasterRead 0 fmmus channels c n is _
 
 -- the mailbox pass
-module _ (sheet fmmus channels : List ℕ) {answer : MailboxRead} {channelsThen : List ℕ} (c : ConfiguresMailboxes sheet channels answer channelsThen) where
+module _ (sheet fmmus channels : List ℕ) {answer : MailboxAnswer} {channelsThen : List ℕ} (c : ConfiguresMailboxes sheet channels answer channelsThen) where
   abbrev rest : Recorded → Outcome Bay
   rest config = withInputs sheet (mailboxLeaves sheet (areas fmmus channels) config)
 

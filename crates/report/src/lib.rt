@@ -4,7 +4,7 @@ ghost use Rattle.wire.specs.Room.{InRoom, textIn};
 ghost use Rattle.wire.specs.Text.{page, Types};
 ghost use Rattle.passes.specs.Pass.{Configures};
 ghost use Rattle.report.specs.Plan.{areas, once, planBay, bayOf, reportText};
-use mailboxes::MailboxRead;
+use mailboxes::MailboxAnswer;
 use passes::Configured;
 use passes::Place;
 use pdi::PdiOffset;
@@ -45,7 +45,7 @@ fn data_pass(
 fn plan_bay(sheet: &[u8], fmmus: &mut [u8], channels: &mut [u8]) -> Plan
     ensures { λ r. ⌜ bayOf r (areas (now (fmmus .exit)) (now (channels .exit))) ≡ planBay (now (sheet .entry)) (areas (now (fmmus .entry)) (now (channels .entry))) ⌝ }
 {
-    if let MailboxRead::Refused(number) = mailboxes::configure_mailboxes(sheet, channels) {
+    if let MailboxAnswer::Refused(number) = mailboxes::configure_mailboxes(sheet, channels) {
         return Plan::Refused(number);
     }
     let start = PdiOffset { start_address: 0 };
