@@ -60,10 +60,10 @@ use Rattle.counting.specs.declared.Counted.{Counted}
 use Rattle.counting.proofs.Counted as S
 use Rattle.counting.proofs.Counted.Laws as S′
 use Rattle.probe.proofs.Front.{silent, lent-front, kept, given-front, lends-front, front-back}
-use Rattle.lent.proofs.counted.count as count
-use Rattle.lent.proofs.counted.count.Symbol as count-def
-use Rattle.lent.proofs.counted.count.Symbol.{name as #count}
-use Rattle.lent.proofs.counted.count.Met as count-thm
+use Rattle.lent.proofs.count as count
+use Rattle.lent.proofs.count.Symbol as count-def
+use Rattle.lent.proofs.count.Symbol.{name as #count}
+use Rattle.lent.proofs.count.Met as count-thm
 use Rattle.probe.proofs.table.locate.Key.{name as #locate}
 use Rattle.probe.proofs.table.locate as it
 use Rattle.probe.proofs.table.locate.Statement as stated
@@ -235,4 +235,4 @@ locate-spec 𝓤 H 𝓜 𝓖 𝓡 =
     (tables 𝓤 H 𝓜 𝓡 code.env .C) (tables 𝓤 H 𝓜 𝓡 code.env .Λ) #locate code.function (code.unfolded 𝓤 H 𝓜 𝓡)
     (it-meets 𝓤 H (𝓖 .A) (givenOf 𝓤 H 𝓜 𝓖) (𝓜 .mem) (𝓡 .run) (tablesOf 𝓤 H 𝓜 (tables 𝓤 H 𝓜 𝓡 code.env))
     (cited 𝓤 H (Least 𝓤 H (𝓖 .A) (𝓜 .mem) (𝓡 .run)) 𝓜 𝓡 code.env #least least-def.routine code.calls-wire·least (least-thm.met 𝓤 H 𝓜 𝓖 𝓡))
-    (cited 𝓤 H (Count 𝓤 H (𝓖 .A) (𝓜 .mem) (𝓡 .run)) 𝓜 𝓡 code.env #count count-def.routine code.calls-lent·counted·count (count-thm.met 𝓤 H 𝓜 𝓖 𝓡)))
+    (cited 𝓤 H (Count 𝓤 H (𝓖 .A) (𝓜 .mem) (𝓡 .run)) 𝓜 𝓡 code.env #count count-def.routine code.calls-lent·count (count-thm.met 𝓤 H 𝓜 𝓖 𝓡)))

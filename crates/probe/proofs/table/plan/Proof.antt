@@ -73,10 +73,10 @@ use Rattle.wire.proofs.least.Symbol as least-def
 use Rattle.wire.proofs.least.Symbol.{name as #least}
 use Rattle.wire.proofs.least.Met as least-thm
 use Rattle.probe.proofs.Front.{silent, lent-front, kept, given-front, lends-front, front-back}
-use Rattle.lent.proofs.data_pass.configure_fmmus as fmmus
-use Rattle.lent.proofs.data_pass.configure_fmmus.Symbol as fmmus-def
-use Rattle.lent.proofs.data_pass.configure_fmmus.Symbol.{name as #fmmus}
-use Rattle.lent.proofs.data_pass.configure_fmmus.Met as fmmus-thm
+use Rattle.lent.proofs.configure_fmmus as fmmus
+use Rattle.lent.proofs.configure_fmmus.Symbol as fmmus-def
+use Rattle.lent.proofs.configure_fmmus.Symbol.{name as #fmmus}
+use Rattle.lent.proofs.configure_fmmus.Met as fmmus-thm
 use Rattle.probe.proofs.table.plan.Key.{name as #plan}
 use Rattle.probe.proofs.table.plan as it
 use Rattle.probe.proofs.table.plan.Statement as stated
@@ -375,4 +375,4 @@ plan-spec 𝓤 H 𝓜 𝓖 𝓡 =
     (tables 𝓤 H 𝓜 𝓡 code.env .C) (tables 𝓤 H 𝓜 𝓡 code.env .Λ) #plan code.function (code.unfolded 𝓤 H 𝓜 𝓡)
     (it-meets 𝓤 H (𝓖 .A) (givenOf 𝓤 H 𝓜 𝓖) (𝓜 .mem) (𝓡 .run) (tablesOf 𝓤 H 𝓜 (tables 𝓤 H 𝓜 𝓡 code.env))
     (cited 𝓤 H (Least 𝓤 H (𝓖 .A) (𝓜 .mem) (𝓡 .run)) 𝓜 𝓡 code.env #least least-def.routine code.calls-wire·least (least-thm.met 𝓤 H 𝓜 𝓖 𝓡))
-    (cited 𝓤 H (Fmmus 𝓤 H (𝓖 .A) (𝓜 .mem) (𝓡 .run)) 𝓜 𝓡 code.env #fmmus fmmus-def.routine code.calls-lent·data-pass·configure-fmmus (fmmus-thm.met 𝓤 H 𝓜 𝓖 𝓡)))
+    (cited 𝓤 H (Fmmus 𝓤 H (𝓖 .A) (𝓜 .mem) (𝓡 .run)) 𝓜 𝓡 code.env #fmmus fmmus-def.routine code.calls-lent·configure-fmmus (fmmus-thm.met 𝓤 H 𝓜 𝓖 𝓡)))
