@@ -21,14 +21,14 @@ use Rattle.passes.specs.Use.{Use, total}
 use Rattle.area.specs.Area.{entriesOf}
 use Rattle.translation.specs.Translate.{named, says, firstSaid, orNone, translate}
 use Rattle.agreement.specs.Agreement.{EveryDisabled, Lent, weights, TwoPasses, EndToEnd, laidBy, counted}
-use Rattle.translation.proofs.Lies.{inside, before, behind}
+use Rattle.translation.proofs.Lies.{inside, behind}
 use Rattle.agreement.proofs.Basics.{either, each-map, said-by}
 use Rattle.agreement.proofs.Straight.{lay, Fresh, straight-same, straight-iff}
 use Rattle.agreement.proofs.Run.{said, plan-leaves}
 use Rattle.passes.proofs.Pieces.{uses-total}
 use Rattle.agreement.proofs.Uses.{apart}
 use Rattle.area.proofs.Flat.{length-chunks}
-use Rattle.agreement.proofs.Demand3.{one, two, rangeSize, Facts, lays, among, translated, other-unseen}
+use Rattle.agreement.proofs.Demand3.{one, two, rangeSize, Facts, among, translated, other-unseen}
 
 -- after two such passes translation is never refused, neither with 11 nor with 1
 pub never-eleven : (sheet : List ℕ) (lent : PdoDirection → Lent) (first : PdoDirection) (area after : List ℕ) → Bytes sheet

@@ -1,14 +1,14 @@
 -- The area after some sync managers are written: one, one after the other, a turn of a loop over them; who gets which size said in two ways.
 -- Assumes nothing.
 use mathlib.Core.Path.{_≡_, refl, sym, _∙_, ap, subst}
-use mathlib.Core.Bool.{Bool, true, false, cond}
+use mathlib.Core.Bool.{Bool, true, false}
 use mathlib.Core.List.{List, [], _∷_}
 use mathlib.Core.Option.{Option, none, some}
-use Prim.Native.Nat.{ℕ, suc, _+_, _*_, _<_, _≤_}
+use Prim.Native.Nat.{ℕ, suc, _+_, _*_, _<_}
 use native.Mathlib.Nat.{zero-add, add-zero, zero-lt-suc}
 use native.Mathlib.Numerals.{add-one}
 use native.Mathlib.Omega.{arith}
-use lib.ListN.{length, getD, set, drop, length-set}
+use lib.ListN.{length, getD, set, length-set}
 use lib.Seq.{set-out}
 use lib.Dec.{eqb, leb}
 use borrow.Author.Tests.{eq-eqb, ne-eqb, eqb-true, eqb-false, leb-true, leb-false}
@@ -127,7 +127,9 @@ next : (k i : ℕ) → k + suc i ≡ suc k + i
 next k i = omega arith
 
 module _ (d : SyncManager) (f g : ℕ → SyncManager → Option ℕ) where
-  same-from : (k : ℕ) (ms : List SyncManager) (area : List (List ℕ)) → ((i : ℕ) → i < length ms → f (k + i) (getD ms i d) ≡ g (k + i) (getD ms i d)) → channelsAfter f k ms area ≡ channelsAfter g k ms area
+  same-from :
+      (k : ℕ) (ms : List SyncManager) (area : List (List ℕ)) → ((i : ℕ) → i < length ms → f (k + i) (getD ms i d) ≡ g (k + i) (getD ms i d))
+      → channelsAfter f k ms area ≡ channelsAfter g k ms area
   unfolding channelsAfter
   same-from k [] area h = refl
   same-from k (m ∷ ms) area h =

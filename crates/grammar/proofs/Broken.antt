@@ -56,7 +56,9 @@ module _ (s : List ℕ) where
   pub walk-same : {p at : ℕ} → p ≡ pdoCount s → at ≡ pdosPlace s → pdosFit s p at ≡ pdosFit s (pdoCount s) (pdosPlace s)
   walk-same ep ea = rw (ep, ea) refl
 
-  pub only-walk : getD s 3 0 ≤ 7 → managerCount s ≤ 16 → usageCount s ≤ 16 → pdosPlace s ≤ length s → someManagerWrong s ≡ false → someUsageWrong s ≡ false → broken s ≡ not (pdosFit s (pdoCount s) (pdosPlace s))
+  pub only-walk :
+      getD s 3 0 ≤ 7 → managerCount s ≤ 16 → usageCount s ≤ 16 → pdosPlace s ≤ length s → someManagerWrong s ≡ false → someUsageWrong s ≡ false
+      → broken s ≡ not (pdosFit s (pdoCount s) (pdosPlace s))
   unfolding broken
   only-walk a b c d u v = rw (le-ltb 7 (getD s 3 0) a, le-ltb 16 (managerCount s) b, le-ltb 16 (usageCount s) c, le-ltb (length s) (pdosPlace s) d, u, v) refl
 

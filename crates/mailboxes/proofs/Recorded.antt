@@ -11,7 +11,9 @@ use Rattle.mailboxes.specs.declared.Mailbox.{Mailbox}
 use Rattle.mailboxes.specs.Mailbox.{sizeFor, laterOf, lastOf}
 
 -- what is recorded after one more
-pub last-turn : (usage size k : ℕ) (before after : Option Mailbox) (m : SyncManager) (ms l : List SyncManager) → l ≡ m ∷ ms → after ≡ laterOf usage size before k m → lastOf usage size after (k + 1) ms ≡ lastOf usage size before k l
+pub last-turn :
+    (usage size k : ℕ) (before after : Option Mailbox) (m : SyncManager) (ms l : List SyncManager) → l ≡ m ∷ ms
+    → after ≡ laterOf usage size before k m → lastOf usage size after (k + 1) ms ≡ lastOf usage size before k l
 unfolding lastOf
 last-turn usage size k before after m ms l e h = rw (e, h, add-one)
 

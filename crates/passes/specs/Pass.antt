@@ -86,7 +86,9 @@ offsetAfter (refused n) offset = offset
 offsetAfter (accepted p) offset = record { «start_address» = p .next }
 
 -- the promise of the pass that is lent its offset
-pub record Passes (sheet ws : List ℕ) (r : PdoDirection) (offset : PdiOffset) (group : ℕ) (fmmus channels : List ℕ) (answer : Placed) (offsetThen : PdiOffset) (fmmusThen channelsThen : List ℕ) : Type 0 where
+pub record Passes
+    (sheet ws : List ℕ) (r : PdoDirection) (offset : PdiOffset) (group : ℕ) (fmmus channels : List ℕ)
+    (answer : Placed) (offsetThen : PdiOffset) (fmmusThen channelsThen : List ℕ) : Type 0 where
   pub says : placedOf answer ≡ segmentAlone (dataPass sheet ws r (offset .«start_address») group fmmus channels)
   pub moves : offsetThen ≡ offsetAfter (dataPass sheet ws r (offset .«start_address») group fmmus channels) offset
   pub entries : fmmusThen ≡ entriesAfter (dataPass sheet ws r (offset .«start_address») group fmmus channels) (sheetData sheet) ws r (offset .«start_address») fmmus

@@ -1,10 +1,9 @@
 -- `grammar::pdos_fit`: whether the records left fit from where the walk stands is whether all fit from the start.
 -- Assumes nothing.
 use mathlib.Core.Path.{_≡_, refl, sym, _∙_}
-use Prim.Native.Nat.{_+_, _≤_}
+use Prim.Native.Nat.{_+_}
 use native.Mathlib.Omega.{arith}
 use denote.Ref.{now}
-use lib.ListN.{length}
 use borrow.Author.Tests.{not-true, not-false}
 use Rattle.grammar.specs.Grammar.{pdosFit}
 use Rattle.grammar.proofs.Walk.{walk-end, walk-past, walk-odd, walk-step}

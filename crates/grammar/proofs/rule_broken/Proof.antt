@@ -59,7 +59,8 @@ returns-6 : tie.Need-returns-6
 returns-6 c =
     let s = now (c .before .before .before .before .before .before .before .before .before .before .before .before .before .before .args .sheet) in
     let w = c .before .before .wide in
-    sym (manager-broken s (manager-bytes s (w .result) (w .ensures .0 ∙ c .before .before .before .before .before .before .before .before .before .before .before .manager-count .ensures) (c .before .some-above .ensures) ∙ c .if6 .taken))
+    let n = c .before .before .before .before .before .before .before .before .before .before .before .manager-count .ensures in
+    sym (manager-broken s (manager-bytes s (w .result) (w .ensures .0 ∙ n) (c .before .some-above .ensures) ∙ c .if6 .taken))
 
 wide-requires-2 : tie.Need-wide-requires-2
 wide-requires-2 c κs = search needs

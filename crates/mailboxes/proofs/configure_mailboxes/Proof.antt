@@ -56,7 +56,8 @@ returns-4 c =
     let checked = checked-case s (c .before .before .before .before .before .before .before .before .check .ensures) (c .before .before .before .before .before .before .enum-told .given .1) in
     let flag = c .before .before .before .before .before .has-mailbox in
     let m = c .before .before .mailboxes-of in
-    with-mailboxes s (now (a .channels)) (c .before .before .before .before .before .before .before .before .before .if1 .left) (checked-on s (accepted (configOf (sheetData s))) checked) (m .result) (m .last .1 .0)
+    let long = c .before .before .before .before .before .before .before .before .before .if1 .left in
+    with-mailboxes s (now (a .channels)) long (checked-on s (accepted (configOf (sheetData s))) checked) (m .result) (m .last .1 .0)
     (sym (flag .ensures) ∙ not-false (flag .result) (c .before .before .before .before .if2 .left)) (m .ensures .0) (m .ensures .1)
 
 pub configure-mailboxes-spec : {M : Type 1} → statement M

@@ -19,7 +19,8 @@ abbrev Inv-loop : tie.InvT-loop
 Inv-loop sheet channels₀ receive send n read₀ write₀ k₀ channels read write k =
     (k ≤ n)
     × (length channels ≡ length channels₀)
-    × (channelArea (channelsAfter (mailboxSize (sheetData sheet)) k (drop k (sheetData sheet .managers))) channels ≡ channelArea (channelsAfter (mailboxSize (sheetData sheet)) 0 (sheetData sheet .managers)) channels₀)
+    × (channelArea (channelsAfter (mailboxSize (sheetData sheet)) k (drop k (sheetData sheet .managers))) channels
+    ≡ channelArea (channelsAfter (mailboxSize (sheetData sheet)) 0 (sheetData sheet .managers)) channels₀)
     × (lastOf 1 (sheetData sheet .receive) (slotOf write) k (drop k (sheetData sheet .managers)) ≡ lastOf 1 (sheetData sheet .receive) none 0 (sheetData sheet .managers))
     × (lastOf 2 (sheetData sheet .send) (slotOf read) k (drop k (sheetData sheet .managers)) ≡ lastOf 2 (sheetData sheet .send) none 0 (sheetData sheet .managers))
 

@@ -41,7 +41,10 @@ returns-2 c =
     sym (says-nothing (a .direction) (a .image) (u .unpack .result) (u .unpack .ensures) (a .address) (rw (h, g)))
 
 -- it holds the address
-abbrev held : (c : tie.Else2) → within (c .before .before .before .before .before .unpack .result .«logical_start_address») (c .before .before .before .before .before .unpack .result .«length_bytes» .0) (c .before .before .before .before .before .before .args .address) ≡ true
+abbrev held :
+    (c : tie.Else2)
+    → within (c .before .before .before .before .before .unpack .result .«logical_start_address») (c .before .before .before .before .before .unpack .result .«length_bytes» .0) (c .before .before .before .before .before .before .args .address)
+    ≡ true
 held c = sym (c .before .within .ensures) ∙ not-false _ (c .if2 .left)
 
 cast-named : tie.Need-cast-named
