@@ -31,7 +31,8 @@ module _ {M : Type 1} (𝓤 : URA M) (H : Heap 𝓤) (A : Atoms 𝓤) (W : Given
 
   pub below : ent 𝓤 (⋆ 𝓤 H A (‵ (flft κ q) ∷ ‵ X ∷ [])) (H .⇛ (guard 𝓤 (Bytes (x .now)) (sep 𝓤 (A .lft κ q) (sem 𝓤 H A X))))
   below =
-      qed W (‵ (flft κ q) ∷ ‵ X ∷ []) ∵ updating ! $ move ! (1 ∷ []) $ use1 W (‵ X ⊛ ‵ X) (shr-slice-copy 𝓤 H A W ℓ κ u8 .twice x (sliceVal (x .ptr) (length (x .now)) ∷ [])) $ split ! $ fsplit ! $ drop ! $ fsplit ! $ drop ! $
+      qed W (‵ (flft κ q) ∷ ‵ X ∷ []) ∵ updating ! $ move ! (1 ∷ []) $ use1 W (‵ X ⊛ ‵ X) (shr-slice-copy 𝓤 H A W ℓ κ u8 .twice x (sliceVal (x .ptr) (length (x .now)) ∷ [])) $ split ! $
+      fsplit ! $ drop ! $ fsplit ! $ drop ! $
       move ! (0 ∷ 2 ∷ []) $ looks-slice ! tt u8 (Is u8) (shows 𝓤 H A u8) (uint-vals w8) (uint-tells w8) (uint-copy 𝓤 H A W w8) (x .now) (x .ptr .0) (x .ptr .1) (λ s.
       rewrite ! 0 (λ (F : Fml). ‵ F) (parts-cells u8 s (x .now) (x .ptr .0) (x .ptr .1)) refl $
       use1 W (given (AllWT (fInt w8) (x .now)) (‵ (cells (Sh u8 s) (x .now) (x .ptr .0) (x .ptr .1)))) (cells-fit 𝓤 H A W (fInt w8) s (x .now) (x .ptr .0) (x .ptr .1)) $ learn ! (λ a.

@@ -51,7 +51,8 @@ Filled t s ws = ws ≡ over (lookedUp t (sheetData s .pdos)) Ones
 pub fronted : (t : List Oversampling) (s ws : List ℕ) → Bytes s → Filled t s ws → take (pdoCount s) ws ≡ multipliersOf t (sheetData s .pdos)
 fronted t s ws small e = ap (take (pdoCount s)) e ∙ made t s (small .below 10)
 
-module _ {M : Type 1} (𝓤 : URA M) (H : Heap 𝓤) (A : Atoms 𝓤) (W : Given 𝓤 H A) (at-mem : Memory → SProp 𝓤) (run : Routine → Fun 𝓤) (κ₀ κ₁ : Lft) (q₀ q₁ : Share) (x : RefT (List ℕ)) (t : RefT (List Oversampling)) where
+module _ {M : Type 1} (𝓤 : URA M) (H : Heap 𝓤) (A : Atoms 𝓤) (W : Given 𝓤 H A) (at-mem : Memory → SProp 𝓤) (run : Routine → Fun 𝓤) (κ₀ κ₁ : Lft) (q₀ q₁ : Share) (x : RefT (List ℕ))
+    (t : RefT (List Oversampling)) where
   -- the machine values of the sheet and of the table
   abbrev v : Val
   v = sliceVal (x .ptr) (length (x .now))
@@ -77,5 +78,6 @@ module _ {M : Type 1} (𝓤 : URA M) (H : Heap 𝓤) (A : Atoms 𝓤) (W : Given
 
   pub goes-fill : (ν l : ℕ) (γ : GName) → ent 𝓤 (⋆ 𝓤 H A (has-fill ν l γ)) (MultipliersFor .pre (to-fill ν l γ))
   goes-fill ν l γ =
-      qed W (has-fill ν l γ) ∵ nothing ! $ move ! (6 ∷ 0 ∷ []) $ fjoin ! $ move ! (5 ∷ 0 ∷ []) $ fjoin ! $ move ! (4 ∷ 0 ∷ []) $ fjoin ! $ nothing ! $ move ! (4 ∷ 0 ∷ []) $ join ! $ move ! (3 ∷ 0 ∷ []) $ join ! $
+      qed W (has-fill ν l γ) ∵ nothing ! $ move ! (6 ∷ 0 ∷ []) $ fjoin ! $ move ! (5 ∷ 0 ∷ []) $ fjoin ! $ move ! (4 ∷ 0 ∷ []) $ fjoin ! $ nothing ! $ move ! (4 ∷ 0 ∷ []) $ join ! $
+      move ! (3 ∷ 0 ∷ []) $ join ! $
       move ! (2 ∷ 0 ∷ []) $ join ! $ move ! (0 ∷ 1 ∷ []) $ join ! $ frame ! $ done !

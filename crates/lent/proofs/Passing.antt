@@ -14,7 +14,8 @@ use Rattle.passes.specs.declared.Configured.the-variants.{Refused as Stopped}
 use Rattle.passes.specs.Entries.{Planned, configuredOf}
 use Rattle.passes.specs.Pass.{Configures, Passes, segmentAlone, offsetAfter}
 
-module _ {sheet ws : List ℕ} {r : PdoDirection} (offset : PdiOffset) {group : ℕ} {fmmus channels : List ℕ} {answer : Configured} {fmmusThen channelsThen : List ℕ} (c : Configures sheet ws r (offset .«start_address») group fmmus channels answer fmmusThen channelsThen) where
+module _ {sheet ws : List ℕ} {r : PdoDirection} (offset : PdiOffset) {group : ℕ} {fmmus channels : List ℕ} {answer : Configured} {fmmusThen channelsThen : List ℕ}
+    (c : Configures sheet ws r (offset .«start_address») group fmmus channels answer fmmusThen channelsThen) where
   pub mapped : (s : PdiSegment) (next : PdiOffset) → answer ≡ Mapped s next → Passes sheet ws r offset group fmmus channels (Segment s) next fmmusThen channelsThen
   mapped s next e =
       let o = sym (ap configuredOf e) ∙ c .says in

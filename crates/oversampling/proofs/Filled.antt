@@ -2,7 +2,7 @@
 -- Assumes nothing.
 use mathlib.Core.Path.{_≡_, refl, sym, _∙_, ap}
 use mathlib.Core.List.{List, [], _∷_, _++_}
-use Prim.Native.Nat.{ℕ, zero, suc, _+_, _*_, _-_, _<_, _≤_}
+use Prim.Native.Nat.{ℕ, suc, _+_, _*_, _-_, _<_, _≤_}
 use native.Mathlib.Nat.{sub-zero}
 use native.Mathlib.Omega.{arith}
 use lib.Dec.{eqb·suc-zero}
@@ -14,6 +14,7 @@ use Rattle.wire.proofs.Copied.{copied, copied-all}
 use Rattle.grammar.specs.Grammar.{pdosPlace}
 use Rattle.sheet.specs.Device.{Pdo, pdoAt, nextPdo, pdosFrom}
 use Rattle.sheet.specs.Sheet.{sheetData}
+use Rattle.sheet.proofs.Sound.{length-pdos}
 use Rattle.pdo.specs.declared.Oversampling.{Oversampling}
 use Rattle.pdo.specs.Bits.{multiplierOf, multipliersOf}
 use Rattle.oversampling.specs.Multipliers.{lookedUp, asked}
@@ -21,11 +22,6 @@ use Rattle.oversampling.specs.Multipliers.{lookedUp, asked}
 -- a record's index as code reads it
 pub index-here : (s : List ℕ) (at a b y : ℕ) → a ≡ getD s (at + 2) 0 → b ≡ getD s (at + 3) 0 → y ≡ bigAt (a ∷ b ∷ []) 0 2 → y ≡ bigAt s (at + 2) 2
 index-here s at a b y ea eb e = let three : at + 2 + 1 ≡ at + 3 = omega arith in rw (three, ← ea, ← eb) e
-
-length-pdos : (s : List ℕ) (n at : ℕ) → length (pdosFrom s n at) ≡ n
-unfolding pdosFrom
-length-pdos s zero at = refl
-length-pdos s (suc n) at = ap suc (length-pdos s n (nextPdo s at))
 
 module _ (t : List Oversampling) (s : List ℕ) where
   -- the multipliers of n records from a place on

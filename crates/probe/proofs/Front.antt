@@ -49,7 +49,8 @@ module _ {M : Type 1} (𝓤 : URA M) (H : Heap 𝓤) (A : Atoms 𝓤) (W : Given
 
   module _ (n : ℕ) (ℓ : Lifetime) (κ : Lft) where
     pub lends-front : Single (R .mir) → Room R (length ys) → (v : Val)
-        → ent 𝓤 (⋆ 𝓤 H A (‵ (cell 𝓤 H A W R n l v) ∷ ‵ (Array R n .own xs (v ∷ [])) ∷ [])) (H .⇛ (ex 𝓤 (λ (γ : GName). sep 𝓤 (sem 𝓤 H A (given-front ℓ κ γ)) (sep 𝓤 (A .lent κ lent-front) (sem 𝓤 H A kept)))))
+        → ent 𝓤 (⋆ 𝓤 H A (‵ (cell 𝓤 H A W R n l v) ∷ ‵ (Array R n .own xs (v ∷ [])) ∷ [])) (H .⇛ (ex 𝓤 (λ (γ : GName). sep 𝓤 (sem 𝓤 H A (given-front ℓ κ γ)) (sep 𝓤 (A .lent κ lent-front)
+        (sem 𝓤 H A kept)))))
     lends-front one room v =
         qed W (‵ (cell 𝓤 H A W R n l v) ∷ ‵ (Array R n .own xs (v ∷ [])) ∷ []) ∵ updating ! $ use2 W (‵ (mem (Array R n) .lies xs l 0)) (lies 𝓤 H A W R n xs v l) $
         use1 W (‵ (arr-parts (shares R) n .part fullShare xs l 0)) (apart 𝓤 H A W R n one xs l 0) $ fsplit ! $ drop ! $
@@ -60,7 +61,8 @@ module _ {M : Type 1} (𝓤 : URA M) (H : Heap 𝓤) (A : Atoms 𝓤) (W : Given
         show ! (λ (γ : GName). sep 𝓤 (sem 𝓤 H A (given-front ℓ κ γ)) (sep 𝓤 (A .lent κ lent-front) (sem 𝓤 H A kept))) γ $ done !)
 
     pub front-back : (vals : R .Denot → List Val) → Tells R (Is R) vals → length xs ≡ n
-        → ent 𝓤 (⋆ 𝓤 H A (‵ (fdead κ) ∷ ‵ (flent κ lent-front) ∷ ‵ kept ∷ [])) (H .⇛ (sep 𝓤 (sem 𝓤 H A (cell 𝓤 H A W R n l (only (array-vals vals xs)))) (sem 𝓤 H A (Array R n .own xs (array-vals vals xs)))))
+        → ent 𝓤 (⋆ 𝓤 H A (‵ (fdead κ) ∷ ‵ (flent κ lent-front) ∷ ‵ kept ∷ [])) (H .⇛ (sep 𝓤 (sem 𝓤 H A (cell 𝓤 H A W R n l (only (array-vals vals xs)))) (sem 𝓤 H A (Array R n .own xs
+        (array-vals vals xs)))))
     front-back vals tells e =
         qed W (‵ (fdead κ) ∷ ‵ (flent κ lent-front) ∷ ‵ kept ∷ []) ∵ updating ! $ lent-back ! tt $ fsplit ! $ drop ! $ use1 W (‵ (cells (mem R) ys l 0)) (whole-in 𝓤 H A W R ys l 0) $
         use2 W (‵ (cells (mem R) (ys ++ past m xs) l 0)) (join-app 𝓤 H A (mem R) ys (past m xs) l 0) $ rewrite ! 0 (λ (zs : List (R .Denot)). ‵ (cells (mem R) zs l 0)) (take-append-drop m xs) refl $

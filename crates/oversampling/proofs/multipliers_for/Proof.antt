@@ -1,5 +1,7 @@
--- `oversampling::multipliers_for` meets its contract: a walk of its MIR, by hand. The lent list is opened and is its elements before the loop, and is put together and shut after it; a turn reads a record's index, calls `multiplier_of`, stores, and goes on to the next record.
--- The invariant: the first k places are filled, and the records ahead stand from a place on. The measure is what is left of the count. All that the proof knows of the functions called is that they meet their contracts.
+-- `oversampling::multipliers_for` meets its contract: a walk of its MIR, by hand. The lent list is opened and is its elements before the loop, and is put together and shut after it; a turn reads
+-- a record's index, calls `multiplier_of`, stores, and goes on to the next record.
+-- The invariant: the first k places are filled, and the records ahead stand from a place on. The measure is what is left of the count. All that the proof knows of the functions called is that
+-- they meet their contracts.
 -- Assumes nothing.
 use mathlib.Core.Path.{_≡_, refl, sym, _∙_, ap}
 use Prim.Native.Nat.{ℕ, _+_, _-_, _<_, _≤_, _^_}
@@ -24,8 +26,10 @@ use prog.Wp.{Heap, Env, Out, Calls, Loops, Wp, WpFn, Tables, afterSeq, afterBloc
 use ghost.Atoms.{Atoms, sem}
 use contract.Monad.{Fun, fact}
 use contract.Running.{givenOf, tables, tablesOf}
-use types.Kit.{Given, Item, Sq, runs, anyQ, atRet, ‵, raw, some, later, _⊛_, ⋆, _$_, _∵_, !, qed, by, move, keep, drop, use1, use2, split, join, pick, rewrite, fsplit, fsplit3, fjoin, fjoin3, feqL, feqI, suffices, frame, await, done}
-use types.Run.{look, init, store, forget, stop, hop, fld, from, load, lit, unit-lit, addr, of-opd, bin, and-then, no-more, assigns, assigns-last, land, first, blocks, stays, leaves-loop, returns, exec, enter, alloc1, alloc0, params1, pass1, pass0, free1, free0, Below, again, loops}
+use types.Kit.{Given, Item, Sq, runs, anyQ, atRet, ‵, raw, some, later, _⊛_, ⋆, _$_, _∵_, !, qed, by, move, keep, drop, use1, use2, split, join, pick, rewrite, fsplit, fsplit3, fjoin, fjoin3}
+use types.Kit.{feqL, feqI, suffices, frame, await, done}
+use types.Run.{look, init, store, forget, stop, hop, fld, from, load, lit, unit-lit, addr, of-opd, bin, and-then, no-more, assigns, assigns-last, land, first, blocks, stays, leaves-loop, returns}
+use types.Run.{exec, enter, alloc1, alloc0, params1, pass1, pass0, free1, free0, Below, again, loops}
 use types.Mut.{open-ref, close-ref}
 use types.Part.{whole, sub, look-in}
 use types.SemTy.{Body}
@@ -106,7 +110,8 @@ module _ {M : Type 1} (𝓤 : URA M) (H : Heap 𝓤) (A : Atoms 𝓤) (at-mem : 
   abbrev NextPdo : Contract 𝓤
   NextPdo = tripleOf 𝓤 H A next-pdo.signature (next-pdo.spec 𝓤 H A at-mem run)
 
-module _ {M : Type 1} (𝓤 : URA M) (H : Heap 𝓤) (A : Atoms 𝓤) (W : Given 𝓤 H A) (at-mem : Memory → SProp 𝓤) (run : Routine → Fun 𝓤) (κ₀ κ₁ κ₂ : Lft) (q₀ q₁ q₂ : Share) (x : RefT (List Oversampling)) (y : RefT (List ℕ)) (b o : ℕ) (γ : GName) (ys : List ℕ) where
+module _ {M : Type 1} (𝓤 : URA M) (H : Heap 𝓤) (A : Atoms 𝓤) (W : Given 𝓤 H A) (at-mem : Memory → SProp 𝓤) (run : Routine → Fun 𝓤) (κ₀ κ₁ κ₂ : Lft) (q₀ q₁ q₂ : Share)
+    (x : RefT (List Oversampling)) (y : RefT (List ℕ)) (b o : ℕ) (γ : GName) (ys : List ℕ) where
   -- the table, its length, and the sheet
   abbrev xs : List Oversampling
   xs = x .now
@@ -174,7 +179,8 @@ module _ {M : Type 1} (𝓤 : URA M) (H : Heap 𝓤) (A : Atoms 𝓤) (W : Given
 
   goes-index : (place : ℕ) → place < 2 ^ 32 → ent 𝓤 (⋆ 𝓤 H A the-sheet) (IndexAt 𝓤 H A at-mem run .pre (to-index place))
   goes-index place near =
-      qed W the-sheet ∵ says ! near $ nothing ! $ owned ! usize (Is usize) (uint-makes 𝓤 H A W w64) place _ (refl, omega arith) $ fjoin ! $ move ! (2 ∷ 0 ∷ []) $ fjoin ! $ nothing ! $ move ! (2 ∷ 0 ∷ []) $ join ! $
+      qed W the-sheet ∵ says ! near $ nothing ! $ owned ! usize (Is usize) (uint-makes 𝓤 H A W w64) place _ (refl, omega arith) $ fjoin ! $ move ! (2 ∷ 0 ∷ []) $ fjoin ! $ nothing ! $
+      move ! (2 ∷ 0 ∷ []) $ join ! $
       frame ! $ done !
 
   said-index : (place p : ℕ) → ent 𝓤 (ensured 𝓤 H A index-at.ended (index-at.clauses 𝓤 H A at-mem run) (κ₁, tt) (y, (place, tt)) tt p) (fact 𝓤 (p ≡ pdoAt s place .index))
@@ -186,7 +192,8 @@ module _ {M : Type 1} (𝓤 : URA M) (H : Heap 𝓤) (A : Atoms 𝓤) (W : Given
 
   goes-multiplier : (p : ℕ) → p < 2 ^ 16 → ent 𝓤 (⋆ 𝓤 H A (‵ (flft κ₀ q₀) ∷ ‵ X ∷ [])) (MultiplierOf 𝓤 H A at-mem run .pre (to-multiplier p))
   goes-multiplier p fits =
-      qed W (‵ (flft κ₀ q₀) ∷ ‵ X ∷ []) ∵ nothing ! $ owned ! u16 (Is u16) (uint-makes 𝓤 H A W w16) p _ (refl, fits) $ fjoin ! $ move ! (2 ∷ 0 ∷ []) $ fjoin ! $ nothing ! $ move ! (2 ∷ 0 ∷ []) $ join ! $
+      qed W (‵ (flft κ₀ q₀) ∷ ‵ X ∷ []) ∵ nothing ! $ owned ! u16 (Is u16) (uint-makes 𝓤 H A W w16) p _ (refl, fits) $ fjoin ! $ move ! (2 ∷ 0 ∷ []) $ fjoin ! $ nothing ! $ move ! (2 ∷ 0 ∷ []) $
+      join ! $
       move ! (0 ∷ 1 ∷ []) $ join ! $ frame ! $ done !
 
   said-multiplier : (p r : ℕ) → ent 𝓤 (ensured 𝓤 H A multiplier-of.ended (multiplier-of.clauses 𝓤 H A at-mem run) (κ₀, tt) (x, (p, tt)) tt r) (fact 𝓤 (r ≡ multiplierOf xs p))
@@ -198,7 +205,8 @@ module _ {M : Type 1} (𝓤 : URA M) (H : Heap 𝓤) (A : Atoms 𝓤) (W : Given
 
   goes-next : (place : ℕ) → place < 2 ^ 32 → ent 𝓤 (⋆ 𝓤 H A the-sheet) (NextPdo 𝓤 H A at-mem run .pre (to-next place))
   goes-next place near =
-      qed W the-sheet ∵ says ! near $ nothing ! $ owned ! usize (Is usize) (uint-makes 𝓤 H A W w64) place _ (refl, omega arith) $ fjoin ! $ move ! (2 ∷ 0 ∷ []) $ fjoin ! $ nothing ! $ move ! (2 ∷ 0 ∷ []) $ join ! $
+      qed W the-sheet ∵ says ! near $ nothing ! $ owned ! usize (Is usize) (uint-makes 𝓤 H A W w64) place _ (refl, omega arith) $ fjoin ! $ move ! (2 ∷ 0 ∷ []) $ fjoin ! $ nothing ! $
+      move ! (2 ∷ 0 ∷ []) $ join ! $
       frame ! $ done !
 
   said-next : (place m : ℕ) → ent 𝓤 (ensured 𝓤 H A next-pdo.ended (next-pdo.clauses 𝓤 H A at-mem run) (κ₁, tt) (y, (place, tt)) tt m) (fact 𝓤 ((m ≡ nextPdo s place) × (m ≤ place + 260)))
@@ -211,7 +219,13 @@ module _ {M : Type 1} (𝓤 : URA M) (H : Heap 𝓤) (A : Atoms 𝓤) (W : Given
   exits : (l : List ℕ) → l ≡ over (lookedUp xs (sheetData s .pdos)) ys → ent 𝓤 (⋆ 𝓤 H A (left-with l)) (Post vunit)
   exits l e =
       qed W (left-with l) ∵
-      suffices ! _ (ends-at 𝓤 H A it.ended stayed (it.clauses 𝓤 H A at-mem run) W (((κ₀, (κ₁, (κ₂, tt))), (q₀, (q₁, (q₂, tt))), tt, a, vals), tt) vunit tt (tt, (tt, (l, tt))) (tt, (tt, (tt, tt)))) $ says ! e $
+      suffices ! _ (ends-at 𝓤 H A it.ended stayed (it.clauses 𝓤 H A at-mem run) W (((κ₀, (κ₁, (κ₂, tt))), (q₀, (q₁, (q₂, tt))), tt, a, vals), tt) vunit tt (tt, (tt, (l, tt))) (
+        tt,
+        (
+          tt,
+          (tt, tt),
+        ),
+      )) $ says ! e $
       nothing ! $ move ! (3 ∷ 0 ∷ []) $ join ! $ move ! (3 ∷ 0 ∷ []) $ join ! $ move ! (3 ∷ 0 ∷ []) $ join ! $ frame ! $
       -- [obs; the list's borrow; X; P]
       feqI ! (List Val) (vptr b o ∷ []) (vptr b o ∷ []) refl $ fjoin3 ! $ nothing ! $ move ! (1 ∷ 0 ∷ []) $ fjoin ! $ move ! (2 ∷ 0 ∷ []) $ fjoin ! $ move ! (1 ∷ 0 ∷ []) $ fjoin ! $
@@ -243,7 +257,8 @@ module _ {M : Type 1} (𝓤 : URA M) (H : Heap 𝓤) (A : Atoms 𝓤) (W : Given
         filled-all xs s count at ys wide (i .0) (i .1 .0) (i .1 .1) h
         ∙ ap (λ (l : List ℕ). over l ys) (ap (λ (k : ℕ). those xs s k at) (few .0) ∙ ap (those xs s (asked n s)) (low .0) ∙ asked-all xs s)
 
-    module _ (𝓣 : Tables 𝓤 H) (known-index : Triple 𝓤 (𝓣 .C #index-at) (IndexAt 𝓤 H A at-mem run)) (known-multiplier : Triple 𝓤 (𝓣 .C #multiplier-of) (MultiplierOf 𝓤 H A at-mem run)) (known-next : Triple 𝓤 (𝓣 .C #next-pdo) (NextPdo 𝓤 H A at-mem run)) (l₀ l₁ l₂ l₃ l₄ l₅ l₆ l₇ l₈ l₉ l₁₀ l₁₁ l₁₂ : ℕ) where
+    module _ (𝓣 : Tables 𝓤 H) (known-index : Triple 𝓤 (𝓣 .C #index-at) (IndexAt 𝓤 H A at-mem run)) (known-multiplier : Triple 𝓤 (𝓣 .C #multiplier-of) (MultiplierOf 𝓤 H A at-mem run))
+        (known-next : Triple 𝓤 (𝓣 .C #next-pdo) (NextPdo 𝓤 H A at-mem run)) (l₀ l₁ l₂ l₃ l₄ l₅ l₆ l₇ l₈ l₉ l₁₀ l₁₁ l₁₂ : ℕ) where
       abbrev C : Calls 𝓤 H
       C = 𝓣 .C
 
@@ -260,14 +275,17 @@ module _ {M : Type 1} (𝓤 : URA M) (H : Heap 𝓤) (A : Atoms 𝓤) (W : Given
       array = tyRef (named 2) mut (tyArray (tyInt w8) 255)
 
       abbrev En : Env 𝓤 H
-      En = (tyUnit, l₀) ∷ (slice₀, l₁) ∷ (slice₁, l₂) ∷ (array, l₃) ∷ (tyInt w64, l₄) ∷ (tyInt w64, l₅) ∷ (tyInt w64, l₆) ∷ (tyInt w64, l₇) ∷ (tyBool, l₈) ∷ (tyInt w8, l₉) ∷ (tyInt w16, l₁₀) ∷ (tyPtr, l₁₁) ∷ (tyPtr, l₁₂) ∷ []
+      En = (tyUnit, l₀) ∷ (slice₀, l₁) ∷ (slice₁, l₂) ∷ (array, l₃) ∷ (tyInt w64, l₄) ∷ (tyInt w64, l₅) ∷ (tyInt w64, l₆) ∷ (tyInt w64, l₇) ∷ (tyBool, l₈) ∷ (tyInt w8, l₉) ∷ (tyInt w16, l₁₀)
+          ∷ (tyPtr, l₁₁) ∷ (tyPtr, l₁₂) ∷ []
 
       -- the list and its open borrow, the tokens, what the slices own, and the locals, the last first
       abbrev At : Upto → List (Item 𝓤)
-      At i = ‵ (row u8 fullShare (zs (i .0)) b o) ∷ ‵ (fobor κ₂ q₂ (Body (mem (Array u8 255)) b o γ)) ∷ ‵ (fobs γ (Array u8 255 .coded .code ys)) ∷ ‵ (fauth γ (Array u8 255 .coded .code ys)) ∷ ‵ (flft κ₀ q₀) ∷ ‵ (flft κ₁ q₁) ∷ ‵ X ∷ ‵ P
+      At i = ‵ (row u8 fullShare (zs (i .0)) b o) ∷ ‵ (fobor κ₂ q₂ (Body (mem (Array u8 255)) b o γ)) ∷ ‵ (fobs γ (Array u8 255 .coded .code ys)) ∷ ‵ (fauth γ (Array u8 255 .coded .code ys))
+          ∷ ‵ (flft κ₀ q₀) ∷ ‵ (flft κ₁ q₁) ∷ ‵ X ∷ ‵ P
           ∷ ‵ (froom tyPtr l₁₂ 0) ∷ ‵ (fdies tyPtr l₁₂) ∷ ‵ (froom tyPtr l₁₁ 0) ∷ ‵ (fdies tyPtr l₁₁) ∷ ‵ (froom (tyInt w16) l₁₀ 0) ∷ ‵ (fdies (tyInt w16) l₁₀)
           ∷ ‵ (froom (tyInt w8) l₉ 0) ∷ ‵ (fdies (tyInt w8) l₉) ∷ ‵ (froom tyBool l₈ 0) ∷ ‵ (fdies tyBool l₈) ∷ ‵ (fat fullShare (tyInt w64) l₇ 0 (vint w64 n)) ∷ ‵ (fdies (tyInt w64) l₇)
-          ∷ ‵ (fat fullShare (tyInt w64) l₆ 0 (vint w64 (i .0))) ∷ ‵ (fdies (tyInt w64) l₆) ∷ ‵ (fat fullShare (tyInt w64) l₅ 0 (vint w64 (i .1 .0))) ∷ ‵ (fdies (tyInt w64) l₅) ∷ ‵ (fat fullShare (tyInt w64) l₄ 0 (vint w64 count)) ∷ ‵ (fdies (tyInt w64) l₄)
+          ∷ ‵ (fat fullShare (tyInt w64) l₆ 0 (vint w64 (i .0))) ∷ ‵ (fdies (tyInt w64) l₆) ∷ ‵ (fat fullShare (tyInt w64) l₅ 0 (vint w64 (i .1 .0))) ∷ ‵ (fdies (tyInt w64) l₅)
+          ∷ ‵ (fat fullShare (tyInt w64) l₄ 0 (vint w64 count)) ∷ ‵ (fdies (tyInt w64) l₄)
           ∷ ‵ (fat fullShare array l₃ 0 (vptr b o)) ∷ ‵ (fdies array l₃) ∷ ‵ (fat fullShare slice₁ l₂ 0 v₁) ∷ ‵ (fdies slice₁ l₂) ∷ ‵ (fat fullShare slice₀ l₁ 0 v₀) ∷ ‵ (fdies slice₀ l₁)
           ∷ ‵ (froom tyUnit l₀ 0) ∷ ‵ (fdies tyUnit l₀) ∷ []
 
@@ -282,8 +300,10 @@ module _ {M : Type 1} (𝓤 : URA M) (H : Heap 𝓤) (A : Atoms 𝓤) (W : Given
           -- the index
           move ! (7 ∷ []) $ use1 W (‵ P ⊛ ‵ P) (shr-slice-copy 𝓤 H A W (named 1) κ₁ u8 .twice y (v₁ ∷ [])) $ split ! $ move ! (7 ∷ 0 ∷ []) $
           use2 W (raw (IndexAt 𝓤 H A at-mem run .pre (to-index place))) (goes-index place near) $
-          calls-at ! (fmOf 𝓤 H (W .laws) 𝓣) (IndexAt 𝓤 H A at-mem run) known-index (to-index place) (and-then ! (load ! (from ! (stop !)) (look ! 28 refl)) (and-then ! (load ! (from ! (stop !)) (look ! 22 refl)) (no-more !))) (λ c₁.
-          use1 W (later (some (λ (p : ℕ). ((‵ (flft κ₁ q₁) ⊛ ‵ ftrue) ⊛ ‵ (u16 .own p (c₁ ∷ []))) ⊛ raw (ensured 𝓤 H A index-at.ended (index-at.clauses 𝓤 H A at-mem run) (κ₁, tt) (y, (place, tt)) tt p)))) (id⊢ 𝓤 _) $ await ! tt $
+          calls-at ! (fmOf 𝓤 H (W .laws) 𝓣) (IndexAt 𝓤 H A at-mem run) known-index (to-index place) (and-then ! (load ! (from ! (stop !)) (look ! 28 refl)) (and-then ! (load ! (from ! (stop !))
+          (look ! 22 refl)) (no-more !))) (λ c₁.
+          use1 W (later (some (λ (p : ℕ). ((‵ (flft κ₁ q₁) ⊛ ‵ ftrue) ⊛ ‵ (u16 .own p (c₁ ∷ [])))
+          ⊛ raw (ensured 𝓤 H A index-at.ended (index-at.clauses 𝓤 H A at-mem run) (κ₁, tt) (y, (place, tt)) tt p)))) (id⊢ 𝓤 _) $ await ! tt $
           pick ! (λ p. split ! $ move ! (1 ∷ []) $ use1 W (raw (fact 𝓤 (p ≡ pdoAt s place .index))) (said-index place p) $
           heard ! (p ≡ pdoAt s place .index) (λ e₁. split ! $ move ! (1 ∷ []) $ peeks ! u16 (Is u16) (shows 𝓤 H A u16) p (c₁ ∷ []) (λ is₁.
           land ! (from ! (stop !)) (init ! 13 refl (uint-lawful 𝓤 H A W w16 .typed p _ is₁ .0)) $ rewrite ! 13 (λ (v : Val). ‵ (fat fullShare (tyInt w16) l₁₀ 0 v)) (ap only (is₁ .0)) refl $
@@ -291,8 +311,10 @@ module _ {M : Type 1} (𝓤 : URA M) (H : Heap 𝓤) (A : Atoms 𝓤) (W : Given
           -- its multiplier
           move ! (7 ∷ []) $ use1 W (‵ X ⊛ ‵ X) (shr-slice-copy 𝓤 H A W (named 0) κ₀ O.the-row .twice x (v₀ ∷ [])) $ split ! $ move ! (8 ∷ 0 ∷ []) $
           use2 W (raw (MultiplierOf 𝓤 H A at-mem run .pre (to-multiplier p))) (goes-multiplier p (is₁ .1)) $
-          calls-at ! (fmOf 𝓤 H (W .laws) 𝓣) (MultiplierOf 𝓤 H A at-mem run) known-multiplier (to-multiplier p) (and-then ! (load ! (from ! (stop !)) (look ! 30 refl)) (and-then ! (load ! (from ! (stop !)) (look ! 12 refl)) (no-more !))) (λ c₂.
-          use1 W (later (some (λ (r : ℕ). ((‵ (flft κ₀ q₀) ⊛ ‵ ftrue) ⊛ ‵ (u8 .own r (c₂ ∷ []))) ⊛ raw (ensured 𝓤 H A multiplier-of.ended (multiplier-of.clauses 𝓤 H A at-mem run) (κ₀, tt) (x, (p, tt)) tt r)))) (id⊢ 𝓤 _) $ await ! tt $
+          calls-at ! (fmOf 𝓤 H (W .laws) 𝓣) (MultiplierOf 𝓤 H A at-mem run) known-multiplier (to-multiplier p) (and-then ! (load ! (from ! (stop !)) (look ! 30 refl)) (and-then ! (load ! (from !
+          (stop !)) (look ! 12 refl)) (no-more !))) (λ c₂.
+          use1 W (later (some (λ (r : ℕ). ((‵ (flft κ₀ q₀) ⊛ ‵ ftrue) ⊛ ‵ (u8 .own r (c₂ ∷ [])))
+          ⊛ raw (ensured 𝓤 H A multiplier-of.ended (multiplier-of.clauses 𝓤 H A at-mem run) (κ₀, tt) (x, (p, tt)) tt r)))) (id⊢ 𝓤 _) $ await ! tt $
           pick ! (λ r. split ! $ move ! (1 ∷ []) $ use1 W (raw (fact 𝓤 (r ≡ multiplierOf xs p))) (said-multiplier p r) $ heard ! (r ≡ multiplierOf xs p) (λ e₂. split ! $ move ! (1 ∷ []) $
           peeks ! u8 (Is u8) (shows 𝓤 H A u8) r (c₂ ∷ []) (λ is₂.
           land ! (from ! (stop !)) (init ! 15 refl (uint-lawful 𝓤 H A W w8 .typed r _ is₂ .0)) $ rewrite ! 15 (λ (v : Val). ‵ (fat fullShare (tyInt w8) l₉ 0 v)) (ap only (is₂ .0)) refl $
@@ -308,8 +330,10 @@ module _ {M : Type 1} (𝓤 : URA M) (H : Heap 𝓤) (A : Atoms 𝓤) (W : Given
           -- on to the next record
           move ! (4 ∷ []) $ use1 W (‵ P ⊛ ‵ P) (shr-slice-copy 𝓤 H A W (named 1) κ₁ u8 .twice y (v₁ ∷ [])) $ split ! $ move ! (5 ∷ 0 ∷ []) $
           use2 W (raw (NextPdo 𝓤 H A at-mem run .pre (to-next place))) (goes-next place near) $
-          calls-at ! (fmOf 𝓤 H (W .laws) 𝓣) (NextPdo 𝓤 H A at-mem run) known-next (to-next place) (and-then ! (load ! (from ! (stop !)) (look ! 28 refl)) (and-then ! (load ! (from ! (stop !)) (look ! 22 refl)) (no-more !))) (λ c₃.
-          use1 W (later (some (λ (m : ℕ). ((‵ (flft κ₁ q₁) ⊛ ‵ ftrue) ⊛ ‵ (usize .own m (c₃ ∷ []))) ⊛ raw (ensured 𝓤 H A next-pdo.ended (next-pdo.clauses 𝓤 H A at-mem run) (κ₁, tt) (y, (place, tt)) tt m)))) (id⊢ 𝓤 _) $ await ! tt $
+          calls-at ! (fmOf 𝓤 H (W .laws) 𝓣) (NextPdo 𝓤 H A at-mem run) known-next (to-next place) (and-then ! (load ! (from ! (stop !)) (look ! 28 refl)) (and-then ! (load ! (from ! (stop !))
+          (look ! 22 refl)) (no-more !))) (λ c₃.
+          use1 W (later (some (λ (m : ℕ). ((‵ (flft κ₁ q₁) ⊛ ‵ ftrue) ⊛ ‵ (usize .own m (c₃ ∷ [])))
+          ⊛ raw (ensured 𝓤 H A next-pdo.ended (next-pdo.clauses 𝓤 H A at-mem run) (κ₁, tt) (y, (place, tt)) tt m)))) (id⊢ 𝓤 _) $ await ! tt $
           pick ! (λ m. split ! $ move ! (1 ∷ []) $ use1 W (raw (fact 𝓤 ((m ≡ nextPdo s place) × (m ≤ place + 260)))) (said-next place m) $
           heard ! ((m ≡ nextPdo s place) × (m ≤ place + 260)) (λ e₃. split ! $ move ! (1 ∷ []) $ peeks ! usize (Is usize) (shows 𝓤 H A usize) m (c₃ ∷ []) (λ is₃.
           land ! (from ! (stop !)) (store ! 23 refl (uint-lawful 𝓤 H A W w64 .typed m _ is₃ .0)) $ rewrite ! 23 (λ (v : Val). ‵ (fat fullShare (tyInt w64) l₅ 0 v)) (ap only (is₃ .0)) refl $
@@ -348,7 +372,8 @@ module _ {M : Type 1} (𝓤 : URA M) (H : Heap 𝓤) (A : Atoms 𝓤) (W : Given
       → Is (ShrSlice (named 0) κ₀ O.the-row) x (v₀ ∷ []) → Is (ShrSlice (named 1) κ₁ u8) y (v₁ ∷ [])
       → ent 𝓤 (onEntry 𝓤 H A it.signature (κ₀, (κ₁, (κ₂, tt))) (q₀, (q₁, (q₂, tt))) a vals) (WpFn 𝓤 H (𝓣 .C) (𝓣 .Λ) code.function (v₀ ∷ v₁ ∷ vptr b o ∷ []) Post)
   walk 𝓣 known-looked known-place known-index known-multiplier known-next is-x is-y =
-      qed W ((‵ (flft κ₀ q₀) ⊛ ‵ (flft κ₁ q₁) ⊛ ‵ (flft κ₂ q₂) ⊛ ‵ ftrue) ∷ ‵ (owns (ShrSlice (named 0) κ₀ O.the-row ∷ ShrSlice (named 1) κ₁ u8 ∷ MutRef (named 2) κ₂ (Array u8 255) ∷ []) a vals) ∷ []) ∵
+      qed W ((‵ (flft κ₀ q₀) ⊛ ‵ (flft κ₁ q₁) ⊛ ‵ (flft κ₂ q₂) ⊛ ‵ ftrue) ∷ ‵ (owns (ShrSlice (named 0) κ₀ O.the-row ∷ ShrSlice (named 1) κ₁ u8 ∷ MutRef (named 2) κ₂ (Array u8 255)
+      ∷ []) a vals) ∷ []) ∵
       enter ! (𝓣 .C) (𝓣 .Λ) code.function (v₀ ∷ v₁ ∷ vptr b o ∷ []) _ $ alloc1 ! (λ l₀. alloc1 ! (λ l₁. alloc1 ! (λ l₂. alloc1 ! (λ l₃. alloc1 ! (λ l₄. alloc1 ! (λ l₅. alloc1 ! (λ l₆.
       alloc1 ! (λ l₇. alloc1 ! (λ l₈. alloc1 ! (λ l₉. alloc1 ! (λ l₁₀. alloc1 ! (λ l₁₁. alloc1 ! (λ l₁₂. alloc0 ! $ params1 ! $
       pass1 ! (init ! 22 refl (shr-slice-lawful 𝓤 H A W (named 0) κ₀ O.the-row .typed x (v₀ ∷ []) is-x .0)) $
@@ -360,15 +385,18 @@ module _ {M : Type 1} (𝓤 : URA M) (H : Heap 𝓤) (A : Atoms 𝓤) (W : Given
       -- how many are looked up, and where the first record stands
       move ! (7 ∷ []) $ use1 W (‵ P ⊛ ‵ P) (shr-slice-copy 𝓤 H A W (named 1) κ₁ u8 .twice y (v₁ ∷ [])) $ split ! $ move ! (4 ∷ 0 ∷ []) $
       use2 W (raw (LookedUp 𝓤 H A at-mem run .pre to-looked)) (goes-looked (is-x .0 .1 .0)) $
-      calls-at ! (fmOf 𝓤 H (W .laws) 𝓣) (LookedUp 𝓤 H A at-mem run) known-looked to-looked (and-then ! (load ! (from ! (stop !)) (look ! 29 refl)) (and-then ! (load ! (from ! (stop !)) (look ! 19 refl)) (no-more !))) (λ c₁.
-      use1 W (later (some (λ (m : ℕ). ((‵ (flft κ₁ q₁) ⊛ ‵ ftrue) ⊛ ‵ (usize .own m (c₁ ∷ []))) ⊛ raw (ensured 𝓤 H A looked-up.ended (looked-up.clauses 𝓤 H A at-mem run) (κ₁, tt) (y, (n, tt)) tt m)))) (id⊢ 𝓤 _) $ await ! tt $
+      calls-at ! (fmOf 𝓤 H (W .laws) 𝓣) (LookedUp 𝓤 H A at-mem run) known-looked to-looked (and-then ! (load ! (from ! (stop !)) (look ! 29 refl)) (and-then ! (load ! (from ! (stop !))
+      (look ! 19 refl)) (no-more !))) (λ c₁.
+      use1 W (later (some (λ (m : ℕ). ((‵ (flft κ₁ q₁) ⊛ ‵ ftrue) ⊛ ‵ (usize .own m (c₁ ∷ [])))
+      ⊛ raw (ensured 𝓤 H A looked-up.ended (looked-up.clauses 𝓤 H A at-mem run) (κ₁, tt) (y, (n, tt)) tt m)))) (id⊢ 𝓤 _) $ await ! tt $
       pick ! (λ m. split ! $ move ! (1 ∷ []) $ use1 W (raw (fact 𝓤 ((m ≡ asked n s) × (m ≤ 255)))) (said-looked m) $ heard ! ((m ≡ asked n s) × (m ≤ 255)) (λ e₁. split ! $ move ! (1 ∷ []) $
       peeks ! usize (Is usize) (shows 𝓤 H A usize) m (c₁ ∷ []) (λ is₁.
       land ! (from ! (stop !)) (init ! 26 refl (uint-lawful 𝓤 H A W w64 .typed m _ is₁ .0)) $ rewrite ! 26 (λ (v : Val). ‵ (fat fullShare (tyInt w64) l₄ 0 v)) (ap only (is₁ .0)) refl $
       drop ! $ split ! $ move ! (1 ∷ []) $ drop ! $ move ! (1 ∷ []) $ use1 W (‵ P ⊛ ‵ P) (shr-slice-copy 𝓤 H A W (named 1) κ₁ u8 .twice y (v₁ ∷ [])) $ split ! $ move ! (2 ∷ 0 ∷ []) $
       use2 W (raw (PdosPlace 𝓤 H A at-mem run .pre to-place)) goes-place $
       calls-at ! (fmOf 𝓤 H (W .laws) 𝓣) (PdosPlace 𝓤 H A at-mem run) known-place to-place (and-then ! (load ! (from ! (stop !)) (look ! 29 refl)) (no-more !)) (λ c₂.
-      use1 W (later (some (λ (p : ℕ). ((‵ (flft κ₁ q₁) ⊛ ‵ ftrue) ⊛ ‵ (usize .own p (c₂ ∷ []))) ⊛ raw (ensured 𝓤 H A pdos-place.ended (pdos-place.clauses 𝓤 H A at-mem run) (κ₁, tt) (y, tt) tt p)))) (id⊢ 𝓤 _) $ await ! tt $
+      use1 W (later (some (λ (p : ℕ). ((‵ (flft κ₁ q₁) ⊛ ‵ ftrue) ⊛ ‵ (usize .own p (c₂ ∷ [])))
+      ⊛ raw (ensured 𝓤 H A pdos-place.ended (pdos-place.clauses 𝓤 H A at-mem run) (κ₁, tt) (y, tt) tt p)))) (id⊢ 𝓤 _) $ await ! tt $
       pick ! (λ p. split ! $ move ! (1 ∷ []) $ use1 W (raw (fact 𝓤 ((p ≡ pdosPlace s) × (p ≤ 1541)))) (said-place p) $
       heard ! ((p ≡ pdosPlace s) × (p ≤ 1541)) (λ e₂. split ! $ move ! (1 ∷ []) $ peeks ! usize (Is usize) (shows 𝓤 H A usize) p (c₂ ∷ []) (λ is₂.
       land ! (from ! (stop !)) (init ! 24 refl (uint-lawful 𝓤 H A W w64 .typed p _ is₂ .0)) $ rewrite ! 24 (λ (v : Val). ‵ (fat fullShare (tyInt w64) l₅ 0 v)) (ap only (is₂ .0)) refl $
@@ -376,19 +404,44 @@ module _ {M : Type 1} (𝓤 : URA M) (H : Heap 𝓤) (A : Atoms 𝓤) (W : Given
       -- the list is opened, and is its elements
       move ! (5 ∷ 6 ∷ 2 ∷ []) $ open-ref ! tt (mem (Array u8 255)) {x = ys} $ use1 W (‵ (arr-parts (shares u8) 255 .part fullShare ys b o)) (apart 𝓤 H A W u8 255 tt ys b o) $ fsplit ! $
       feqL ! (λ whole-list.
-      keep ! (0 ∷ 1 ∷ 2 ∷ 3 ∷ 7 ∷ 4 ∷ 9 ∷ 5 ∷ 10 ∷ 11 ∷ 12 ∷ 13 ∷ 14 ∷ 15 ∷ 16 ∷ 17 ∷ 18 ∷ 19 ∷ 20 ∷ 21 ∷ 22 ∷ 23 ∷ 24 ∷ 25 ∷ 26 ∷ 27 ∷ 28 ∷ 29 ∷ 30 ∷ 31 ∷ 32 ∷ 33 ∷ 34 ∷ 35 ∷ []) $ first ! $ blocks ! $
-      loops ! 𝓣 (Nearer m p e₁ e₂ whole-list) (Nearer-wf m p e₁ e₂ whole-list) (At m p e₁ e₂ whole-list 𝓣 known-index known-multiplier known-next l₀ l₁ l₂ l₃ l₄ l₅ l₆ l₇ l₈ l₉ l₁₀ l₁₁ l₁₂) (λ i. turn-by m p e₁ e₂ whole-list 𝓣 known-index known-multiplier known-next l₀ l₁ l₂ l₃ l₄ l₅ l₆ l₇ l₈ l₉ l₁₀ l₁₁ l₁₂ i (ltb (i .0) m) refl) (0, (p, filling-start xs s m p))))))))))))))))))))))))
+      keep ! (0 ∷ 1 ∷ 2 ∷ 3 ∷ 7 ∷ 4 ∷ 9 ∷ 5 ∷ 10 ∷ 11 ∷ 12 ∷ 13 ∷ 14 ∷ 15 ∷ 16 ∷ 17 ∷ 18 ∷ 19 ∷ 20 ∷ 21 ∷ 22 ∷ 23 ∷ 24 ∷ 25 ∷ 26 ∷ 27 ∷ 28 ∷ 29 ∷ 30 ∷ 31 ∷ 32 ∷ 33 ∷ 34 ∷ 35 ∷ []) $ first ! $
+      blocks ! $
+      loops ! 𝓣 (Nearer m p e₁ e₂ whole-list) (Nearer-wf m p e₁ e₂ whole-list) (At m p e₁ e₂ whole-list 𝓣 known-index known-multiplier known-next l₀ l₁ l₂ l₃ l₄ l₅ l₆ l₇ l₈ l₉ l₁₀ l₁₁ l₁₂)
+      (λ i. turn-by m p e₁ e₂ whole-list 𝓣 known-index known-multiplier known-next l₀ l₁ l₂ l₃ l₄ l₅ l₆ l₇ l₈ l₉ l₁₀ l₁₁ l₁₂ i (ltb (i .0) m) refl) (
+        0,
+        (p, filling-start xs s m p),
+      )))))))))))))))))))))))
 
-module _ {M : Type 1} (𝓤 : URA M) (H : Heap 𝓤) (A : Atoms 𝓤) (W : Given 𝓤 H A) (at-mem : Memory → SProp 𝓤) (run : Routine → Fun 𝓤) (𝓣 : Tables 𝓤 H) (known-looked : Triple 𝓤 (𝓣 .C #looked-up) (LookedUp 𝓤 H A at-mem run)) (known-place : Triple 𝓤 (𝓣 .C #pdos-place) (PdosPlace 𝓤 H A at-mem run)) (known-index : Triple 𝓤 (𝓣 .C #index-at) (IndexAt 𝓤 H A at-mem run)) (known-multiplier : Triple 𝓤 (𝓣 .C #multiplier-of) (MultiplierOf 𝓤 H A at-mem run)) (known-next : Triple 𝓤 (𝓣 .C #next-pdo) (NextPdo 𝓤 H A at-mem run)) where
+module _ {M : Type 1} (𝓤 : URA M) (H : Heap 𝓤) (A : Atoms 𝓤) (W : Given 𝓤 H A) (at-mem : Memory → SProp 𝓤) (run : Routine → Fun 𝓤) (𝓣 : Tables 𝓤 H)
+    (known-looked : Triple 𝓤 (𝓣 .C #looked-up) (LookedUp 𝓤 H A at-mem run)) (known-place : Triple 𝓤 (𝓣 .C #pdos-place) (PdosPlace 𝓤 H A at-mem run))
+    (known-index : Triple 𝓤 (𝓣 .C #index-at) (IndexAt 𝓤 H A at-mem run)) (known-multiplier : Triple 𝓤 (𝓣 .C #multiplier-of) (MultiplierOf 𝓤 H A at-mem run))
+    (known-next : Triple 𝓤 (𝓣 .C #next-pdo) (NextPdo 𝓤 H A at-mem run)) where
   it-walks : Walks 𝓤 H A it.ended stayed (WpFn 𝓤 H (𝓣 .C) (𝓣 .Λ) code.function) (it.clauses 𝓤 H A at-mem run)
   it-walks = walked 𝓤 H A it.ended stayed (it.clauses 𝓤 H A at-mem run) (WpFn 𝓤 H (𝓣 .C) (𝓣 .Λ) code.function)
-      (λ κs. (slice-vals, (slice-vals, (ptr-vals, tt)))) (λ κs. (shr-slice-tells (named 0) (κs .0) O.the-row, (shr-slice-tells (named 1) (κs .1 .0) u8, (mut-tells (named 2) (κs .1 .1 .0) (Array u8 255), tt))))
+      (λ κs. (slice-vals, (slice-vals, (ptr-vals, tt)))) (λ κs. (
+        shr-slice-tells (named 0) (κs .0) O.the-row,
+        (
+          shr-slice-tells (named 1) (κs .1 .0) u8,
+          (
+            mut-tells (named 2) (κs .1 .1 .0)
+                (Array u8 255),
+            tt,
+          ),
+        ),
+      ))
       (λ κs qs bounds a g are. via 𝓤 _ (fst∗ 𝓤 _ (emp 𝓤))
       (walk 𝓤 H A W at-mem run (κs .0) (κs .1 .0) (κs .1 .1 .0) (qs .0) (qs .1 .0) (qs .1 .1 .0) (a .0) (a .1 .0) (a .1 .1 .0 .ptr .0) (a .1 .1 .0 .ptr .1) (a .1 .1 .0 .name) (a .1 .1 .0 .now)
       𝓣 known-looked known-place known-index known-multiplier known-next (are .0) (are .1 .0)))
 
   it-meets : Meets 𝓤 H A it.signature (WpFn 𝓤 H (𝓣 .C) (𝓣 .Λ) code.function) (it.spec 𝓤 H A at-mem run)
-  it-meets = walk-meets 𝓤 H A it.ended stayed W (goes-none-slice 𝓤 H A W 3 (0 ∷ []) tt (plain (λ _. O.the-row)) yes, (goes-none-slice 𝓤 H A W 3 (1 ∷ []) tt (plain (λ _. u8)) yes, (goes-ref 𝓤 H A W 3 2 tt (plain (λ _. Array u8 255)), tt)))
+  it-meets = walk-meets 𝓤 H A it.ended stayed W (
+    goes-none-slice 𝓤 H A W 3 (0 ∷ []) tt (plain (λ _. O.the-row)) yes,
+    (
+      goes-none-slice 𝓤 H A W 3 (1
+          ∷ []) tt (plain (λ _. u8)) yes,
+      (goes-ref 𝓤 H A W 3 2 tt (plain (λ _. Array u8 255)), tt),
+    ),
+  )
       (it.clauses 𝓤 H A at-mem run) (WpFn 𝓤 H (𝓣 .C) (𝓣 .Λ) code.function) (WpFn-mono 𝓤 H (W .laws) 𝓣 code.function) it-walks
 
 pub multipliers-for-spec : {M : Type 1} → stated.statement M

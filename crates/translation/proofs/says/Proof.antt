@@ -43,7 +43,10 @@ returns-2 c =
 -- it holds the address
 abbrev held :
     (c : tie.Else2)
-    → within (c .before .before .before .before .before .unpack .result .«logical_start_address») (c .before .before .before .before .before .unpack .result .«length_bytes» .0) (c .before .before .before .before .before .before .args .address)
+    → within
+    (c .before .before .before .before .before .unpack .result .«logical_start_address»)
+    (c .before .before .before .before .before .unpack .result .«length_bytes» .0)
+    (c .before .before .before .before .before .before .args .address)
     ≡ true
 held c = sym (c .before .within .ensures) ∙ not-false _ (c .if2 .left)
 

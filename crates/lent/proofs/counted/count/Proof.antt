@@ -79,7 +79,19 @@ use Rattle.lent.proofs.counted.count.Statement as stated
 use Rattle.lent.proofs.counted.count.Code as code
 
 abbrev stayed : Stays (it.ended .signature .params) (it.ended .kept)
-stayed = (stay-none-slice (0 ∷ []) tt (plain (λ _. u8)) yes, (stay-none-slice (1 ∷ []) tt (plain (λ _. O.the-row)) yes, (stay-none (λ _. P.the-row) yes, (stay-none (λ _. D.the-row) yes, (stay-none (λ _. u32) yes, tt)))))
+stayed = (
+  stay-none-slice (0 ∷ []) tt (plain (λ _. u8)) yes,
+  (
+    stay-none-slice (1 ∷ []) tt (plain (λ _. O.the-row)) yes,
+    (
+      stay-none (λ _. P.the-row) yes,
+      (
+        stay-none (λ _. D.the-row) yes,
+        (stay-none (λ _. u32) yes, tt),
+      ),
+    ),
+  ),
+)
 
 -- the contract of counting by value
 abbrev ByValue : {M : Type 1} (𝓤 : URA M) (H : Heap 𝓤) (A : Atoms 𝓤) (at-mem : Memory → SProp 𝓤) (run : Routine → Fun 𝓤) → Contract 𝓤
@@ -92,7 +104,8 @@ offset-val h = LL.val P.the-type P′.the-laws h
 abbrev direction-val : PdoDirection → Val
 direction-val d = EL.val D.the-type D′.the-laws d
 
-module _ {M : Type 1} (𝓤 : URA M) (H : Heap 𝓤) (A : Atoms 𝓤) (W : Given 𝓤 H A) (at-mem : Memory → SProp 𝓤) (run : Routine → Fun 𝓤) (κ₀ κ₁ : Lft) (q₀ q₁ : Share) (x : RefT (List ℕ)) (t : RefT (List Oversampling))
+module _ {M : Type 1} (𝓤 : URA M) (H : Heap 𝓤) (A : Atoms 𝓤) (W : Given 𝓤 H A) (at-mem : Memory → SProp 𝓤) (run : Routine → Fun 𝓤) (κ₀ κ₁ : Lft) (q₀ q₁ : Share) (x : RefT (List ℕ))
+    (t : RefT (List Oversampling))
     (h : PdiOffset) (d : PdoDirection) (z : ℕ) (h-is : Is P.the-row h (offset-val h ∷ [])) (d-is : Is D.the-row d (direction-val d ∷ [])) (z-fits : z < 2 ^ 32) where
   -- the machine values of the slices
   abbrev v : Val
@@ -142,7 +155,14 @@ module _ {M : Type 1} (𝓤 : URA M) (H : Heap 𝓤) (A : Atoms 𝓤) (W : Given
   abbrev CountedBy : List ℕ → Counted → Type 0
   CountedBy ws r = countedOf r ≡ meaning.count d z (x .now) (take (pdoCount (x .now)) ws) (h .«start_address»)
 
-  said-count : (μ l : ℕ) (δ : GName) (ws : List ℕ) (r : Counted) → ent 𝓤 (ensured 𝓤 H A by-value.ended (by-value.clauses 𝓤 H A at-mem run) (κ₀, (μ ∷ [], tt)) (given-to l δ ws) tt r) (fact 𝓤 (CountedBy ws r))
+  said-count : (μ l : ℕ) (δ : GName) (ws : List ℕ) (r : Counted) → ent 𝓤 (ensured 𝓤 H A by-value.ended (by-value.clauses 𝓤 H A at-mem run) (
+    κ₀,
+    (
+      μ
+          ∷ [],
+      tt,
+    ),
+  ) (given-to l δ ws) tt r) (fact 𝓤 (CountedBy ws r))
   said-count μ l δ ws r = exE 𝓤 _ (λ ls. snd∗ 𝓤 (sem 𝓤 H A (lasts by-value.ended (κ₀, (μ ∷ [], tt)) (given-to l δ ws) ls)) (fact 𝓤 (CountedBy ws r)))
 
   abbrev Answers : Counted → Type 0
@@ -151,12 +171,26 @@ module _ {M : Type 1} (𝓤 : URA M) (H : Heap 𝓤) (A : Atoms 𝓤) (W : Given
   exits : (r : Counted) (w : Val) → Answers r → ent 𝓤 (⋆ 𝓤 H A (‵ (S.the-row .own r (w ∷ [])) ∷ ‵ (flft κ₀ q₀) ∷ ‵ (flft κ₁ q₁) ∷ ‵ X ∷ ‵ TT ∷ [])) (Post w)
   exits r w e =
       qed W (‵ (S.the-row .own r (w ∷ [])) ∷ ‵ (flft κ₀ q₀) ∷ ‵ (flft κ₁ q₁) ∷ ‵ X ∷ ‵ TT ∷ []) ∵
-      suffices ! _ (ends-at 𝓤 H A it.ended stayed (it.clauses 𝓤 H A at-mem run) W (((κ₀, (κ₁, tt)), (q₀, (q₁, tt)), tt, a, vals), tt) w r (tt, (tt, (tt, (tt, (tt, tt))))) (tt, (tt, (tt, (tt, (tt, tt)))))) $ says ! e $
+      suffices ! _ (ends-at 𝓤 H A it.ended stayed (it.clauses 𝓤 H A at-mem run) W (((κ₀, (κ₁, tt)), (q₀, (q₁, tt)), tt, a, vals), tt) w r (tt, (tt, (tt, (tt, (tt, tt))))) (
+        tt,
+        (
+          tt,
+          (
+            tt,
+            (
+              tt,
+              (tt, tt),
+            ),
+          ),
+        ),
+      )) $ says ! e $
       nothing ! $ move ! (3 ∷ 0 ∷ []) $ join ! $ move ! (2 ∷ 0 ∷ []) $ join ! $ frame ! $ nothing ! $ owned ! u32 (Is u32) (uint-makes 𝓤 H A W w32) z _ (refl, z-fits) $ fjoin ! $
-      owned ! D.the-row (Is D.the-row) (EL.makes D.the-type D′.the-plain 𝓤 H A) d _ d-is $ fjoin ! $ owned ! P.the-row (Is P.the-row) (LL.makes P.the-type P′.the-plain 𝓤 H A) h _ h-is $ fjoin ! $ move ! (3 ∷ 0 ∷ []) $ fjoin ! $
+      owned ! D.the-row (Is D.the-row) (EL.makes D.the-type D′.the-plain 𝓤 H A) d _ d-is $ fjoin ! $ owned ! P.the-row (Is P.the-row) (LL.makes P.the-type P′.the-plain 𝓤 H A) h _ h-is $
+      fjoin ! $ move ! (3 ∷ 0 ∷ []) $ fjoin ! $
       move ! (2 ∷ 0 ∷ []) $ fjoin ! $ move ! (0 ∷ 1 ∷ []) $ done !
 
-  module _ (C : Calls 𝓤 H) (Λ : Loops 𝓤 H) (fm : FmC 𝓤 H (W .laws) C) (known-fill : Triple 𝓤 (C #multipliers-for) (MultipliersFor 𝓤 H A W at-mem run κ₀ κ₁ q₀ q₁ x t)) (known-count : Triple 𝓤 (C #by-value) (ByValue 𝓤 H A at-mem run)) where
+  module _ (C : Calls 𝓤 H) (Λ : Loops 𝓤 H) (fm : FmC 𝓤 H (W .laws) C) (known-fill : Triple 𝓤 (C #multipliers-for) (MultipliersFor 𝓤 H A W at-mem run κ₀ κ₁ q₀ q₁ x t))
+      (known-count : Triple 𝓤 (C #by-value) (ByValue 𝓤 H A at-mem run)) where
     walk : Is (ShrSlice (named 0) κ₀ u8) x (v ∷ []) → Is (ShrSlice (named 1) κ₁ O.the-row) t (u ∷ [])
         → ent 𝓤 (onEntry 𝓤 H A it.signature (κ₀, (κ₁, tt)) (q₀, (q₁, tt)) a vals) (WpFn 𝓤 H C Λ code.function machine Post)
     walk px pt =
@@ -178,15 +212,38 @@ module _ {M : Type 1} (𝓤 : URA M) (H : Heap 𝓤) (A : Atoms 𝓤) (W : Given
         assigns ! (addr ! (from ! (stop !))) (from ! (stop !)) (init ! 9 refl (tt, tt)) $
         -- it is lent to `multipliers_for`, for a lifetime of the call
         move ! (13 ∷ 0 ∷ []) $ use2 W (‵ (mem (Array u8 255) .lies Ones l₆ 0)) (lies 𝓤 H A W u8 255 Ones (arrayVal (replicate 255 (vint w8 1))) l₆) $ lft-new ! tt (λ ν. move ! (1 ∷ []) $
-        use1 W (later (some (λ (γ′ : GName). ‵ (MutRef (named 0) (ν ∷ []) (Array u8 255) .own (array-at l₆ γ′ Ones) (vptr l₆ 0 ∷ [])) ⊛ ‵ (flent (ν ∷ []) (Body (mem (Array u8 255)) l₆ 0 γ′))))) (lends-ref 𝓤 H A W (Array u8 255) (named 0) (ν ∷ []) Ones l₆ 0) $ await ! tt $
+        use1 W (later (some (λ (γ′ : GName). ‵ (MutRef (named 0) (ν ∷ []) (Array u8 255) .own (array-at l₆ γ′ Ones) (vptr l₆ 0 ∷ [])) ⊛ ‵ (flent (ν
+        ∷ []) (Body (mem (Array u8 255)) l₆ 0 γ′))))) (lends-ref 𝓤 H A W (Array u8 255) (named 0) (ν ∷ []) Ones l₆ 0) $ await ! tt $
         pick ! (λ γ′. split ! $ move ! (4 ∷ []) $ use1 W (‵ X ⊛ ‵ X) (shr-slice-copy 𝓤 H A W (named 0) κ₀ u8 .twice x (v ∷ [])) $ split ! $ move ! (8 ∷ []) $
         use1 W (‵ TT ⊛ ‵ TT) (shr-slice-copy 𝓤 H A W (named 1) κ₁ O.the-row .twice t (u ∷ [])) $ split ! $ move ! (2 ∷ 4 ∷ []) $ join ! $ move ! (1 ∷ 0 ∷ []) $ join ! $ move ! (4 ∷ 0 ∷ []) $
         join ! $ move ! (4 ∷ 0 ∷ []) $ join ! $ move ! (4 ∷ 0 ∷ []) $ join ! $
         use1 W (raw (MultipliersFor 𝓤 H A W at-mem run κ₀ κ₁ q₀ q₁ x t .pre (to-fill 𝓤 H A W at-mem run κ₀ κ₁ q₀ q₁ x t ν l₆ γ′))) (goes-fill 𝓤 H A W at-mem run κ₀ κ₁ q₀ q₁ x t ν l₆ γ′) $
-        calls-at ! fm (MultipliersFor 𝓤 H A W at-mem run κ₀ κ₁ q₀ q₁ x t) known-fill (to-fill 𝓤 H A W at-mem run κ₀ κ₁ q₀ q₁ x t ν l₆ γ′) (and-then ! (load ! (from ! (stop !)) (look ! 19 refl)) (and-then ! (load ! (from ! (stop !)) (look ! 21 refl)) (and-then ! (load ! (from ! (stop !)) (look ! 8 refl)) (no-more !)))) (λ c₁.
-        use1 W (later (some (λ (n : Unit {0}). ((‵ (flft κ₁ q₁) ⊛ ‵ (flft κ₀ q₀) ⊛ ‵ (flft (ν ∷ []) fullShare) ⊛ ‵ ftrue) ⊛ ‵ (unit .own n (c₁ ∷ []))) ⊛ raw (ensured 𝓤 H A multipliers-for.ended (multipliers-for.clauses 𝓤 H A at-mem run) (κ₁, (κ₀, (ν ∷ [], tt))) (given-fill 𝓤 H A W at-mem run κ₀ κ₁ q₀ q₁ x t l₆ γ′) tt n)))) (id⊢ 𝓤 _) $ await ! tt $
+        calls-at ! fm (MultipliersFor 𝓤 H A W at-mem run κ₀ κ₁ q₀ q₁ x t) known-fill (to-fill 𝓤 H A W at-mem run κ₀ κ₁ q₀ q₁ x t ν l₆ γ′) (and-then ! (load ! (from ! (stop !)) (look ! 19 refl))
+        (and-then ! (load ! (from ! (stop !)) (look ! 21 refl)) (and-then ! (load ! (from ! (stop !)) (look ! 8 refl)) (no-more !)))) (λ c₁.
+        use1 W (later (some (λ (n : Unit {0}). ((‵ (flft κ₁ q₁) ⊛ ‵ (flft κ₀ q₀) ⊛ ‵ (flft (ν ∷ []) fullShare) ⊛ ‵ ftrue) ⊛ ‵ (unit .own n (c₁
+        ∷ []))) ⊛ raw (ensured 𝓤 H A multipliers-for.ended (multipliers-for.clauses 𝓤 H A at-mem run) (
+          κ₁,
+          (
+            κ₀,
+            (
+              ν
+                  ∷ [],
+              tt,
+            ),
+          ),
+        ) (given-fill 𝓤 H A W at-mem run κ₀ κ₁ q₀ q₁ x t l₆ γ′) tt n)))) (id⊢ 𝓤 _) $ await ! tt $
         pick ! (λ n. split ! $ move ! (1 ∷ []) $
-        use1 W (some (λ (ks : Unit {0} × (Unit {0} × (List ℕ × Unit {0}))). ‵ (lasts multipliers-for.ended (κ₁, (κ₀, (ν ∷ [], tt))) (given-fill 𝓤 H A W at-mem run κ₀ κ₁ q₀ q₁ x t l₆ γ′) ks) ⊛ raw (fact 𝓤 (Filled (t .now) (x .now) (ks .1 .1 .0))))) (id⊢ 𝓤 _) $ pick ! (λ ks.
+        use1 W (some (λ (ks : Unit {0} × (Unit {0} × (List ℕ × Unit {0}))). ‵ (lasts multipliers-for.ended (
+          κ₁,
+          (
+            κ₀,
+            (
+              ν
+                  ∷ [],
+              tt,
+            ),
+          ),
+        ) (given-fill 𝓤 H A W at-mem run κ₀ κ₁ q₀ q₁ x t l₆ γ′) ks) ⊛ raw (fact 𝓤 (Filled (t .now) (x .now) (ks .1 .1 .0))))) (id⊢ 𝓤 _) $ pick ! (λ ks.
         split ! $ move ! (1 ∷ []) $ heard ! (Filled (t .now) (x .now) (ks .1 .1 .0)) (λ filled. fsplit ! $ drop ! $ fsplit ! $ drop ! $ fsplit ! $ move ! (1 ∷ []) $ drop ! $ move ! (1 ∷ []) $
         split ! $ move ! (1 ∷ []) $ peeks ! unit (Is unit) (shows 𝓤 H A unit) n (c₁ ∷ []) (λ is₁. land ! (from ! (stop !)) (init ! 12 refl (nothing-lawful 𝓤 H A W .typed n _ is₁ .0)) $
         drop ! $ move ! (0 ∷ []) $ split ! $ move ! (1 ∷ []) $ split ! $ move ! (1 ∷ []) $ split ! $ move ! (1 ∷ []) $ drop ! $
@@ -197,17 +254,22 @@ module _ {M : Type 1} (𝓤 : URA M) (H : Heap 𝓤) (A : Atoms 𝓤) (W : Given
         assigns ! (addr ! (from ! (stop !))) (from ! (stop !)) (init ! 7 refl (tt, tt)) $
         -- the array is lent again, shared
         lft-new ! tt (λ μ. move ! (1 ∷ []) $
-        use1 W (later (some (λ (δ : GName). ‵ (ShrRef (named 1) (μ ∷ []) (Array u8 255) .own (array-at l₆ δ (ks .1 .1 .0)) (vptr l₆ 0 ∷ [])) ⊛ ‵ (flent (μ ∷ []) (partAt (Array u8 255) fullShare (ks .1 .1 .0) l₆ 0))))) (lends-shr 𝓤 H A W (Array u8 255) (named 1) (μ ∷ []) fullShare (ks .1 .1 .0) l₆ 0) $ await ! tt $
+        use1 W (later (some (λ (δ : GName). ‵ (ShrRef (named 1) (μ ∷ []) (Array u8 255) .own (array-at l₆ δ (ks .1 .1 .0)) (vptr l₆ 0 ∷ [])) ⊛ ‵ (flent (μ
+        ∷ []) (partAt (Array u8 255) fullShare (ks .1 .1 .0) l₆ 0))))) (lends-shr 𝓤 H A W (Array u8 255) (named 1) (μ ∷ []) fullShare (ks .1 .1 .0) l₆ 0) $ await ! tt $
         pick ! (λ δ. split ! $ move ! (6 ∷ []) $ use1 W (‵ X ⊛ ‵ X) (shr-slice-copy 𝓤 H A W (named 0) κ₀ u8 .twice x (v ∷ [])) $ split ! $ move ! (0 ∷ 2 ∷ []) $ join ! $ move ! (3 ∷ 0 ∷ []) $
         join ! $ move ! (3 ∷ 0 ∷ []) $ join ! $ use1 W (raw (ByValue 𝓤 H A at-mem run .pre (to-count μ l₆ δ (ks .1 .1 .0)))) (goes-count μ l₆ δ (ks .1 .1 .0)) $
-        calls-at ! fm (ByValue 𝓤 H A at-mem run) known-count (to-count μ l₆ δ (ks .1 .1 .0)) (and-then ! (load ! (from ! (stop !)) (look ! 22 refl)) (and-then ! (load ! (from ! (stop !)) (look ! 7 refl)) (and-then ! (load ! (from ! (stop !)) (look ! 18 refl)) (and-then ! (load ! (from ! (stop !)) (look ! 16 refl)) (and-then ! (load ! (from ! (stop !)) (look ! 14 refl)) (no-more !)))))) (λ c₂.
-        use1 W (later (some (λ (r : Counted). ((‵ (flft κ₀ q₀) ⊛ ‵ (flft (μ ∷ []) fullShare) ⊛ ‵ ftrue) ⊛ ‵ (S.the-row .own r (c₂ ∷ []))) ⊛ raw (ensured 𝓤 H A by-value.ended (by-value.clauses 𝓤 H A at-mem run) (κ₀, (μ ∷ [], tt)) (given-to l₆ δ (ks .1 .1 .0)) tt r)))) (id⊢ 𝓤 _) $ await ! tt $
+        calls-at ! fm (ByValue 𝓤 H A at-mem run) known-count (to-count μ l₆ δ (ks .1 .1 .0)) (and-then ! (load ! (from ! (stop !)) (look ! 22 refl)) (and-then ! (load ! (from ! (stop !))
+        (look ! 7 refl)) (and-then ! (load ! (from ! (stop !)) (look ! 18 refl)) (and-then ! (load ! (from ! (stop !)) (look ! 16 refl)) (and-then ! (load ! (from ! (stop !)) (look ! 14 refl))
+        (no-more !)))))) (λ c₂.
+        use1 W (later (some (λ (r : Counted). ((‵ (flft κ₀ q₀) ⊛ ‵ (flft (μ ∷ []) fullShare) ⊛ ‵ ftrue) ⊛ ‵ (S.the-row .own r (c₂
+        ∷ []))) ⊛ raw (ensured 𝓤 H A by-value.ended (by-value.clauses 𝓤 H A at-mem run) (κ₀, (μ ∷ [], tt)) (given-to l₆ δ (ks .1 .1 .0)) tt r)))) (id⊢ 𝓤 _) $ await ! tt $
         pick ! (λ r. split ! $ move ! (1 ∷ []) $ use1 W (raw (fact 𝓤 (CountedBy (ks .1 .1 .0) r))) (said-count μ l₆ δ (ks .1 .1 .0) r) $
         heard ! (CountedBy (ks .1 .1 .0) r) (λ counted. split ! $ move ! (1 ∷ []) $ peeks ! S.the-row (Is S.the-row) (shows 𝓤 H A S.the-row) r (c₂ ∷ []) (λ is₂.
         land ! (from ! (stop !)) (init ! 25 refl (EL.lawful S.the-type S′.the-laws 𝓤 H A W tt .typed r _ is₂ .0)) $ move ! (1 ∷ []) $ split ! $ move ! (1 ∷ []) $ split ! $
         -- the array comes back
         move ! (0 ∷ []) $ lft-end ! tt $ move ! (0 ∷ 5 ∷ []) $ lent-back ! tt $
-        use1 W (‵ (cell 𝓤 H A W u8 255 l₆ (of-array (ks .1 .1 .0))) ⊛ ‵ (Array u8 255 .own (ks .1 .1 .0) (of-array (ks .1 .1 .0) ∷ []))) (lay 𝓤 H A W u8 255 (uint-vals w8) (uint-tells w8) (ks .1 .1 .0) l₆) $ split ! $
+        use1 W (‵ (cell 𝓤 H A W u8 255 l₆ (of-array (ks .1 .1 .0))) ⊛ ‵ (Array u8 255 .own (ks .1 .1 .0) (of-array (ks .1 .1 .0)
+        ∷ []))) (lay 𝓤 H A W u8 255 (uint-vals w8) (uint-tells w8) (ks .1 .1 .0) l₆) $ split ! $
         move ! (1 ∷ []) $ drop ! $ returns ! (look ! 26 refl) $ forget ! 9 refl $ forget ! 11 refl $ forget ! 13 refl $ forget ! 0 refl $ forget ! 16 refl $ forget ! 18 refl $
         forget ! 20 refl $ forget ! 22 refl $ forget ! 24 refl $ forget ! 26 refl $ move ! (26 ∷ 27 ∷ []) $ free1 ! $ move ! (24 ∷ 25 ∷ []) $ free1 ! $ move ! (22 ∷ 23 ∷ []) $ free1 ! $
         move ! (20 ∷ 21 ∷ []) $ free1 ! $ move ! (18 ∷ 19 ∷ []) $ free1 ! $ move ! (16 ∷ 17 ∷ []) $ free1 ! $ move ! (0 ∷ 15 ∷ []) $ free1 ! $ move ! (12 ∷ 13 ∷ []) $ free1 ! $
@@ -215,7 +277,8 @@ module _ {M : Type 1} (𝓤 : URA M) (H : Heap 𝓤) (A : Atoms 𝓤) (W : Given
         by ! (exits r c₂ (counted ∙ ap (λ (ws : List ℕ). meaning.count d z (x .now) ws (h .«start_address»)) (fronted (t .now) (x .now) (ks .1 .1 .0) small filled))))))))))))))))))))))))))))
 
 module _ {M : Type 1} (𝓤 : URA M) (H : Heap 𝓤) (A : Atoms 𝓤) (W : Given 𝓤 H A) (at-mem : Memory → SProp 𝓤) (run : Routine → Fun 𝓤) (𝓣 : Tables 𝓤 H)
-    (known-fill : Triple 𝓤 (𝓣 .C #multipliers-for) (tripleOf 𝓤 H A multipliers-for.signature (multipliers-for.spec 𝓤 H A at-mem run))) (known-count : Triple 𝓤 (𝓣 .C #by-value) (ByValue 𝓤 H A at-mem run)) where
+    (known-fill : Triple 𝓤 (𝓣 .C #multipliers-for) (tripleOf 𝓤 H A multipliers-for.signature (multipliers-for.spec 𝓤 H A at-mem run))) (known-count : Triple 𝓤 (𝓣 .C #by-value)
+    (ByValue 𝓤 H A at-mem run)) where
   it-walks : Walks 𝓤 H A it.ended stayed (WpFn 𝓤 H (𝓣 .C) (𝓣 .Λ) code.function) (it.clauses 𝓤 H A at-mem run)
   it-walks = walked 𝓤 H A it.ended stayed (it.clauses 𝓤 H A at-mem run) (WpFn 𝓤 H (𝓣 .C) (𝓣 .Λ) code.function)
       (λ κs. (slice-vals, (slice-vals, (LL.vals P.the-type P′.the-laws, (EL.vals D.the-type D′.the-laws, (uint-vals w32, tt))))))
@@ -239,5 +302,6 @@ count-spec 𝓤 H 𝓜 𝓖 𝓡 =
     entered 𝓤 H (tripleOf 𝓤 H (𝓖 .A) it.signature (it.spec 𝓤 H (𝓖 .A) (𝓜 .mem) (𝓡 .run)))
     (tables 𝓤 H 𝓜 𝓡 code.env .C) (tables 𝓤 H 𝓜 𝓡 code.env .Λ) #count code.function (code.unfolded 𝓤 H 𝓜 𝓡)
     (it-meets 𝓤 H (𝓖 .A) (givenOf 𝓤 H 𝓜 𝓖) (𝓜 .mem) (𝓡 .run) (tablesOf 𝓤 H 𝓜 (tables 𝓤 H 𝓜 𝓡 code.env))
-    (cited 𝓤 H (tripleOf 𝓤 H (𝓖 .A) multipliers-for.signature (multipliers-for.spec 𝓤 H (𝓖 .A) (𝓜 .mem) (𝓡 .run))) 𝓜 𝓡 code.env #multipliers-for multipliers-for-def.routine code.calls-oversampling·multipliers-for (multipliers-for-thm.met 𝓤 H 𝓜 𝓖 𝓡))
+    (cited 𝓤 H (tripleOf 𝓤 H (𝓖 .A) multipliers-for.signature (multipliers-for.spec 𝓤 H (𝓖 .A) (𝓜 .mem)
+    (𝓡 .run))) 𝓜 𝓡 code.env #multipliers-for multipliers-for-def.routine code.calls-oversampling·multipliers-for (multipliers-for-thm.met 𝓤 H 𝓜 𝓖 𝓡))
     (cited 𝓤 H (ByValue 𝓤 H (𝓖 .A) (𝓜 .mem) (𝓡 .run)) 𝓜 𝓡 code.env #by-value by-value-def.routine code.calls-counting·count (by-value-thm.met 𝓤 H 𝓜 𝓖 𝓡)))

@@ -1,5 +1,6 @@
 -- `lent::configure_fmmus` meets its contract: a walk of its MIR, by hand. A local array is lent twice, each time for a lifetime of the call: `&mut` to be filled, then shared.
--- The offset's borrow is opened before the pass and shut after it, at what the pass says; the areas are lent on; of what the sheet and the table own a copy goes to each call, and one is kept for the exit.
+-- The offset's borrow is opened before the pass and shut after it, at what the pass says; the areas are lent on; of what the sheet and the table own a copy goes to each call, and one is kept for
+-- the exit.
 -- All that the proof knows of the two callees is that each meets its contract. Assumes nothing.
 use mathlib.Core.Path.{_≡_, refl, ap, subst}
 use Prim.Native.Nat.{ℕ, _<_, _^_}
@@ -18,8 +19,10 @@ use prog.Wp.{Heap, Calls, Loops, WpFn, Tables}
 use ghost.Atoms.{Atoms}
 use contract.Monad.{Fun, fact}
 use contract.Running.{givenOf, tables, tablesOf}
-use types.Kit.{Given, Item, ‵, raw, some, later, _⊛_, ⋆, _$_, _∵_, !, qed, by, move, keep, drop, use1, use2, use3, split, join, pick, rewrite, fsplit, fsplit3, fjoin, fjoin3, feqL, feqI, suffices, frame, await, given, learn, done}
-use types.Run.{look, look-raw, init, store-raw, forget, stop, hop, fld, from, load, lit, addr, of-opd, assigns, and-then, no-more, land, returns, enter, alloc1, alloc0, params1, pass1, pass0, free1, free0}
+use types.Kit.{Given, Item, ‵, raw, some, later, _⊛_, ⋆, _$_, _∵_, !, qed, by, move, keep, drop, use1, use2, use3, split, join, pick, rewrite, fsplit, fsplit3, fjoin, fjoin3, feqL, feqI, suffices}
+use types.Kit.{frame, await, given, learn, done}
+use types.Run.{look, look-raw, init, store-raw, forget, stop, hop, fld, from, load, lit, addr, of-opd, assigns, and-then, no-more, land, returns, enter, alloc1, alloc0, params1, pass1, pass0}
+use types.Run.{free1, free0}
 use types.Part.{rep, agg, whole, sub, look-in}
 use types.SemTy.{Body}
 use types.Tokens.{lft-new, lft-end, lent-back}
@@ -123,7 +126,8 @@ answer-is r is = LL.owed S.the-type S′.the-laws r _ is .0
 next-is : (r : Done) {vs : List Val} → Is S.the-row r vs → Is T.the-row (r .next) (of-offset (r .next) ∷ [])
 next-is r is = LL.owed S.the-type S′.the-laws r _ is .1 .0
 
-module _ {M : Type 1} (𝓤 : URA M) (H : Heap 𝓤) (A : Atoms 𝓤) (W : Given 𝓤 H A) (at-mem : Memory → SProp 𝓤) (run : Routine → Fun 𝓤) (κ₀ κ₁ κ₂ κ₃ κ₄ : Lft) (q₀ q₁ q₂ q₃ q₄ : Share) (x : RefT (List ℕ)) (t : RefT (List Oversampling)) (y z : RefT (List ℕ))
+module _ {M : Type 1} (𝓤 : URA M) (H : Heap 𝓤) (A : Atoms 𝓤) (W : Given 𝓤 H A) (at-mem : Memory → SProp 𝓤) (run : Routine → Fun 𝓤) (κ₀ κ₁ κ₂ κ₃ κ₄ : Lft) (q₀ q₁ q₂ q₃ q₄ : Share)
+    (x : RefT (List ℕ)) (t : RefT (List Oversampling)) (y z : RefT (List ℕ))
     (b o : ℕ) (γ : GName) (h : PdiOffset) (k : ℕ) (k-fits : k < 2 ^ 32) (d : PdoDirection) (d-is : Is D.the-row d (of-direction d ∷ [])) where
   abbrev R : RattleType
   R = T.the-row
@@ -192,7 +196,8 @@ module _ {M : Type 1} (𝓤 : URA M) (H : Heap 𝓤) (A : Atoms 𝓤) (W : Given
   goes-pass μ l δ ws at-is =
       qed W (has-pass μ l δ ws) ∵ nothing ! $ owned ! D.the-row (Is D.the-row) (EL.makes D.the-type D′.the-plain 𝓤 H A) d _ d-is $ fjoin ! $
       owned ! P.the-row (Is P.the-row) (LL.makes P.the-type P′.the-plain 𝓤 H A) at _ at-is $ fjoin ! $ move ! (8 ∷ 0 ∷ []) $ fjoin ! $ move ! (7 ∷ 0 ∷ []) $ fjoin ! $ move ! (6 ∷ 0 ∷ []) $ fjoin ! $
-      move ! (5 ∷ 0 ∷ []) $ fjoin ! $ nothing ! $ move ! (5 ∷ 0 ∷ []) $ join ! $ move ! (4 ∷ 0 ∷ []) $ join ! $ move ! (3 ∷ 0 ∷ []) $ join ! $ move ! (2 ∷ 0 ∷ []) $ join ! $ move ! (0 ∷ 1 ∷ []) $ join ! $ frame ! $ done !
+      move ! (5 ∷ 0 ∷ []) $ fjoin ! $ nothing ! $ move ! (5 ∷ 0 ∷ []) $ join ! $ move ! (4 ∷ 0 ∷ []) $ join ! $ move ! (3 ∷ 0 ∷ []) $ join ! $ move ! (2 ∷ 0 ∷ []) $ join ! $
+      move ! (0 ∷ 1 ∷ []) $ join ! $ frame ! $ done !
 
   -- what the pass says, and what this function promises
   abbrev Said : List ℕ → Done → List ℕ → List ℕ → Type 0
@@ -211,18 +216,22 @@ module _ {M : Type 1} (𝓤 : URA M) (H : Heap 𝓤) (A : Atoms 𝓤) (W : Given
       → ent 𝓤 (⋆ 𝓤 H A (left-with r fs cs)) (Post (of-answer (r .answer)))
   exits r fs cs e lf lc an-answer =
       qed W (left-with r fs cs) ∵
-      suffices ! _ (ends-at 𝓤 H A it.ended stayed (it.clauses 𝓤 H A at-mem run) W (((κ₀, (κ₁, (κ₂, (κ₃, (κ₄, tt))))), (q₀, (q₁, (q₂, (q₃, (q₄, tt))))), tt, a, vals), tt) (of-answer (r .answer)) (r .answer) (tt, (tt, (fs, (cs, (r .next, (tt, (tt, tt))))))) (tt, (tt, (lf, (lc, (tt, (tt, (tt, tt)))))))) $
+      suffices ! _ (ends-at 𝓤 H A it.ended stayed (it.clauses 𝓤 H A at-mem run) W (((κ₀, (κ₁, (κ₂, (κ₃, (κ₄, tt))))), (q₀, (q₁, (q₂, (q₃, (q₄, tt))))), tt, a, vals), tt) (of-answer (r .answer))
+      (r .answer) (tt, (tt, (fs, (cs, (r .next, (tt, (tt, tt))))))) (tt, (tt, (lf, (lc, (tt, (tt, (tt, tt)))))))) $
       says ! e $ nothing ! $ move ! (3 ∷ 0 ∷ []) $ join ! $ move ! (3 ∷ 0 ∷ []) $ join ! $ move ! (3 ∷ 0 ∷ []) $ join ! $ move ! (3 ∷ 0 ∷ []) $ join ! $ move ! (3 ∷ 0 ∷ []) $ join ! $ frame ! $
       -- [obs; the offset's borrow; both areas at the end; TT; X]
       feqI ! (List Val) (vptr b o ∷ []) (vptr b o ∷ []) refl $ fjoin3 ! $ nothing ! $ owned ! D.the-row (Is D.the-row) (EL.makes D.the-type D′.the-plain 𝓤 H A) d _ d-is $ fjoin ! $
-      owned ! u32 (Is u32) (uint-makes 𝓤 H A W w32) k _ (refl, k-fits) $ fjoin ! $ move ! (1 ∷ 0 ∷ []) $ fjoin ! $ move ! (2 ∷ 0 ∷ []) $ fjoin ! $ move ! (1 ∷ 0 ∷ []) $ fjoin ! $ move ! (1 ∷ 0 ∷ []) $ fjoin ! $
+      owned ! u32 (Is u32) (uint-makes 𝓤 H A W w32) k _ (refl, k-fits) $ fjoin ! $ move ! (1 ∷ 0 ∷ []) $ fjoin ! $ move ! (2 ∷ 0 ∷ []) $ fjoin ! $ move ! (1 ∷ 0 ∷ []) $ fjoin ! $
+      move ! (1 ∷ 0 ∷ []) $ fjoin ! $
       move ! (1 ∷ 0 ∷ []) $ fjoin ! $ owned ! Q.the-row (Is Q.the-row) (EL.makes Q.the-type Q′.the-plain 𝓤 H A) (r .answer) _ an-answer $ move ! (1 ∷ 0 ∷ []) $ done !
 
-  module _ (C : Calls 𝓤 H) (Λ : Loops 𝓤 H) (fm : FmC 𝓤 H (W .laws) C) (known-fill : Triple 𝓤 (C #multipliers-for) (MultipliersFor 𝓤 H A W at-mem run κ₀ κ₁ q₀ q₁ x t)) (known-pass : Triple 𝓤 (C #passed) (PassedBy 𝓤 H A at-mem run)) where
+  module _ (C : Calls 𝓤 H) (Λ : Loops 𝓤 H) (fm : FmC 𝓤 H (W .laws) C) (known-fill : Triple 𝓤 (C #multipliers-for) (MultipliersFor 𝓤 H A W at-mem run κ₀ κ₁ q₀ q₁ x t))
+      (known-pass : Triple 𝓤 (C #passed) (PassedBy 𝓤 H A at-mem run)) where
     walk : Is (ShrSlice (named 0) κ₀ u8) x (v ∷ []) → Is (ShrSlice (named 1) κ₁ O.the-row) t (u ∷ []) → Room u8 (length (y .now)) → Room u8 (length (z .now))
         → ent 𝓤 (onEntry 𝓤 H A it.signature (κ₀, (κ₁, (κ₂, (κ₃, (κ₄, tt))))) (q₀, (q₁, (q₂, (q₃, (q₄, tt))))) a vals) (WpFn 𝓤 H C Λ code.function machine Post)
     walk px pt room-y room-z =
-        qed W ((‵ (flft κ₀ q₀) ⊛ ‵ (flft κ₁ q₁) ⊛ ‵ (flft κ₂ q₂) ⊛ ‵ (flft κ₃ q₃) ⊛ ‵ (flft κ₄ q₄) ⊛ ‵ ftrue) ∷ ‵ (owns (ShrSlice (named 0) κ₀ u8 ∷ ShrSlice (named 1) κ₁ O.the-row ∷ MutSlice (named 2) κ₂ u8 ∷ MutSlice (named 3) κ₃ u8 ∷ MutRef (named 4) κ₄ R ∷ u32 ∷ D.the-row ∷ []) a vals) ∷ []) ∵
+        qed W ((‵ (flft κ₀ q₀) ⊛ ‵ (flft κ₁ q₁) ⊛ ‵ (flft κ₂ q₂) ⊛ ‵ (flft κ₃ q₃) ⊛ ‵ (flft κ₄ q₄) ⊛ ‵ ftrue) ∷ ‵ (owns (ShrSlice (named 0) κ₀ u8 ∷ ShrSlice (named 1) κ₁ O.the-row
+        ∷ MutSlice (named 2) κ₂ u8 ∷ MutSlice (named 3) κ₃ u8 ∷ MutRef (named 4) κ₄ R ∷ u32 ∷ D.the-row ∷ []) a vals) ∷ []) ∵
         enter ! C Λ code.function machine _ $ alloc1 ! (λ l₀. alloc1 ! (λ l₁. alloc1 ! (λ l₂. alloc1 ! (λ l₃. alloc1 ! (λ l₄. alloc1 ! (λ l₅. alloc1 ! (λ l₆. alloc1 ! (λ l₇. alloc1 ! (λ l₈.
         alloc1 ! (λ l₉. alloc1 ! (λ l₁₀. alloc1 ! (λ l₁₁. alloc1 ! (λ l₁₂. alloc1 ! (λ l₁₃. alloc1 ! (λ l₁₄. alloc1 ! (λ l₁₅. alloc1 ! (λ l₁₆. alloc1 ! (λ l₁₇. alloc1 ! (λ l₁₈.
         alloc0 ! $ params1 ! $ pass1 ! (init ! 34 refl (shr-slice-lawful 𝓤 H A W (named 0) κ₀ u8 .typed x (v ∷ []) px .0)) $
@@ -242,15 +251,38 @@ module _ {M : Type 1} (𝓤 : URA M) (H : Heap 𝓤) (A : Atoms 𝓤) (W : Given
         assigns ! (addr ! (from ! (stop !))) (from ! (stop !)) (init ! 26 refl (tt, tt)) $
         -- it is lent to `multipliers_for`, for a lifetime of the call
         move ! (34 ∷ 0 ∷ []) $ use2 W (‵ (mem (Array u8 255) .lies Ones l₈ 0)) (lies 𝓤 H A W u8 255 Ones (arrayVal (replicate 255 (vint w8 1))) l₈) $ lft-new ! tt (λ ν. move ! (1 ∷ []) $
-        use1 W (later (some (λ (γ′ : GName). ‵ (MutRef (named 0) (ν ∷ []) (Array u8 255) .own (array-at l₈ γ′ Ones) (vptr l₈ 0 ∷ [])) ⊛ ‵ (flent (ν ∷ []) (Body (mem (Array u8 255)) l₈ 0 γ′))))) (lends-ref 𝓤 H A W (Array u8 255) (named 0) (ν ∷ []) Ones l₈ 0) $ await ! tt $
+        use1 W (later (some (λ (γ′ : GName). ‵ (MutRef (named 0) (ν ∷ []) (Array u8 255) .own (array-at l₈ γ′ Ones) (vptr l₈ 0 ∷ [])) ⊛ ‵ (flent (ν
+        ∷ []) (Body (mem (Array u8 255)) l₈ 0 γ′))))) (lends-ref 𝓤 H A W (Array u8 255) (named 0) (ν ∷ []) Ones l₈ 0) $ await ! tt $
         pick ! (λ γ′. split ! $ move ! (4 ∷ []) $ use1 W (‵ X ⊛ ‵ X) (shr-slice-copy 𝓤 H A W (named 0) κ₀ u8 .twice x (v ∷ [])) $ split ! $ move ! (16 ∷ []) $
         use1 W (‵ TT ⊛ ‵ TT) (shr-slice-copy 𝓤 H A W (named 1) κ₁ O.the-row .twice t (u ∷ [])) $ split ! $ move ! (2 ∷ 4 ∷ []) $ join ! $ move ! (1 ∷ 0 ∷ []) $ join ! $ move ! (4 ∷ 0 ∷ []) $
         join ! $ move ! (4 ∷ 0 ∷ []) $ join ! $ move ! (8 ∷ 0 ∷ []) $ join ! $
         use1 W (raw (MultipliersFor 𝓤 H A W at-mem run κ₀ κ₁ q₀ q₁ x t .pre (to-fill 𝓤 H A W at-mem run κ₀ κ₁ q₀ q₁ x t ν l₈ γ′))) (goes-fill 𝓤 H A W at-mem run κ₀ κ₁ q₀ q₁ x t ν l₈ γ′) $
-        calls-at ! fm (MultipliersFor 𝓤 H A W at-mem run κ₀ κ₁ q₀ q₁ x t) known-fill (to-fill 𝓤 H A W at-mem run κ₀ κ₁ q₀ q₁ x t ν l₈ γ′) (and-then ! (load ! (from ! (stop !)) (look ! 44 refl)) (and-then ! (load ! (from ! (stop !)) (look ! 46 refl)) (and-then ! (load ! (from ! (stop !)) (look ! 25 refl)) (no-more !)))) (λ c₁.
-        use1 W (later (some (λ (n : Unit {0}). ((‵ (flft κ₁ q₁) ⊛ ‵ (flft κ₀ q₀) ⊛ ‵ (flft (ν ∷ []) fullShare) ⊛ ‵ ftrue) ⊛ ‵ (unit .own n (c₁ ∷ []))) ⊛ raw (ensured 𝓤 H A multipliers-for.ended (multipliers-for.clauses 𝓤 H A at-mem run) (κ₁, (κ₀, (ν ∷ [], tt))) (given-fill 𝓤 H A W at-mem run κ₀ κ₁ q₀ q₁ x t l₈ γ′) tt n)))) (id⊢ 𝓤 _) $ await ! tt $
+        calls-at ! fm (MultipliersFor 𝓤 H A W at-mem run κ₀ κ₁ q₀ q₁ x t) known-fill (to-fill 𝓤 H A W at-mem run κ₀ κ₁ q₀ q₁ x t ν l₈ γ′) (and-then ! (load ! (from ! (stop !)) (look ! 44 refl))
+        (and-then ! (load ! (from ! (stop !)) (look ! 46 refl)) (and-then ! (load ! (from ! (stop !)) (look ! 25 refl)) (no-more !)))) (λ c₁.
+        use1 W (later (some (λ (n : Unit {0}). ((‵ (flft κ₁ q₁) ⊛ ‵ (flft κ₀ q₀) ⊛ ‵ (flft (ν ∷ []) fullShare) ⊛ ‵ ftrue) ⊛ ‵ (unit .own n (c₁
+        ∷ []))) ⊛ raw (ensured 𝓤 H A multipliers-for.ended (multipliers-for.clauses 𝓤 H A at-mem run) (
+          κ₁,
+          (
+            κ₀,
+            (
+              ν
+                  ∷ [],
+              tt,
+            ),
+          ),
+        ) (given-fill 𝓤 H A W at-mem run κ₀ κ₁ q₀ q₁ x t l₈ γ′) tt n)))) (id⊢ 𝓤 _) $ await ! tt $
         pick ! (λ n. split ! $ move ! (1 ∷ []) $
-        use1 W (some (λ (ks : Unit {0} × (Unit {0} × (List ℕ × Unit {0}))). ‵ (lasts multipliers-for.ended (κ₁, (κ₀, (ν ∷ [], tt))) (given-fill 𝓤 H A W at-mem run κ₀ κ₁ q₀ q₁ x t l₈ γ′) ks) ⊛ raw (fact 𝓤 (Filled (t .now) (x .now) (ks .1 .1 .0))))) (id⊢ 𝓤 _) $ pick ! (λ ks.
+        use1 W (some (λ (ks : Unit {0} × (Unit {0} × (List ℕ × Unit {0}))). ‵ (lasts multipliers-for.ended (
+          κ₁,
+          (
+            κ₀,
+            (
+              ν
+                  ∷ [],
+              tt,
+            ),
+          ),
+        ) (given-fill 𝓤 H A W at-mem run κ₀ κ₁ q₀ q₁ x t l₈ γ′) ks) ⊛ raw (fact 𝓤 (Filled (t .now) (x .now) (ks .1 .1 .0))))) (id⊢ 𝓤 _) $ pick ! (λ ks.
         split ! $ move ! (1 ∷ []) $ heard ! (Filled (t .now) (x .now) (ks .1 .1 .0)) (λ filled. fsplit ! $ drop ! $ fsplit ! $ drop ! $ fsplit ! $ move ! (1 ∷ []) $ drop ! $ move ! (1 ∷ []) $
         split ! $ move ! (1 ∷ []) $ peeks ! unit (Is unit) (shows 𝓤 H A unit) n (c₁ ∷ []) (λ is₁. land ! (from ! (stop !)) (init ! 29 refl (nothing-lawful 𝓤 H A W .typed n _ is₁ .0)) $
         drop ! $ move ! (0 ∷ []) $ split ! $ move ! (1 ∷ []) $ split ! $ move ! (1 ∷ []) $ split ! $ move ! (1 ∷ []) $ drop ! $
@@ -261,35 +293,53 @@ module _ {M : Type 1} (𝓤 : URA M) (H : Heap 𝓤) (A : Atoms 𝓤) (W : Given
         move ! (9 ∷ 10 ∷ 5 ∷ []) $ opens ! tt R {h = h} b o (λ vs. spelt ! R (Is R) (shows 𝓤 H A R) (LL.vals T.the-type T′.the-laws) (LL.tells T.the-type T′.the-laws) fullShare h vs b o $
         move ! (1 ∷ []) $ peeks ! R (Is R) (shows 𝓤 H A R) h (of-offset h ∷ []) (λ g.
         assigns ! (of-opd ! (load ! (from ! (hop ! (look ! 41 refl) (stop !))) (look-raw ! 1 refl))) (from ! (stop !)) (init ! 26 refl (LL.lawful T.the-type T′.the-laws 𝓤 H A W .typed h _ g .0)) $
-        assigns ! (agg ! (and-then ! (load ! (from ! (stop !)) (look ! 26 refl)) (and-then ! (load ! (from ! (stop !)) (look ! 39 refl)) (no-more !)))) (from ! (stop !)) (init ! 34 refl (LL.lawful P.the-type P′.the-laws 𝓤 H A W .typed at _ (placed g) .0)) $
+        assigns ! (agg ! (and-then ! (load ! (from ! (stop !)) (look ! 26 refl)) (and-then ! (load ! (from ! (stop !)) (look ! 39 refl)) (no-more !)))) (from ! (stop !)) (init ! 34 refl
+        (LL.lawful P.the-type P′.the-laws 𝓤 H A W .typed at _ (placed g) .0)) $
         assigns ! (addr ! (from ! (stop !))) (from ! (stop !)) (init ! 24 refl (tt, tt)) $
         -- both areas are lent on, as `&mut *area`
         assigns ! (addr ! (from ! (fld ! refl (hop ! (look-in ! 45 (sub ! 0 refl (whole !))) (stop !))))) (from ! (stop !)) (init ! 22 refl (tt, tt)) $
-        assigns ! (agg ! (and-then ! (load ! (from ! (stop !)) (look ! 22 refl)) (and-then ! (load ! (from ! (fld ! refl (stop !))) (look-in ! 45 (sub ! 1 refl (whole !)))) (no-more !)))) (from ! (stop !)) (init ! 20 refl (tt, (tt, (record { fits = room-y .0 }, tt)))) $
+        assigns ! (agg ! (and-then ! (load ! (from ! (stop !)) (look ! 22 refl)) (and-then ! (load ! (from ! (fld ! refl (stop !))) (look-in ! 45 (sub ! 1 refl (whole !)))) (no-more !))))
+        (from ! (stop !)) (init ! 20 refl (tt, (tt, (record { fits = room-y .0 }, tt)))) $
         assigns ! (addr ! (from ! (fld ! refl (hop ! (look-in ! 43 (sub ! 0 refl (whole !))) (stop !))))) (from ! (stop !)) (init ! 18 refl (tt, tt)) $
-        assigns ! (agg ! (and-then ! (load ! (from ! (stop !)) (look ! 18 refl)) (and-then ! (load ! (from ! (fld ! refl (stop !))) (look-in ! 43 (sub ! 1 refl (whole !)))) (no-more !)))) (from ! (stop !)) (init ! 16 refl (tt, (tt, (record { fits = room-z .0 }, tt)))) $
+        assigns ! (agg ! (and-then ! (load ! (from ! (stop !)) (look ! 18 refl)) (and-then ! (load ! (from ! (fld ! refl (stop !))) (look-in ! 43 (sub ! 1 refl (whole !)))) (no-more !))))
+        (from ! (stop !)) (init ! 16 refl (tt, (tt, (record { fits = room-z .0 }, tt)))) $
         -- the array is lent again, shared
         lft-new ! tt (λ μ. move ! (6 ∷ []) $
-        use1 W (later (some (λ (δ : GName). ‵ (ShrRef (named 1) (μ ∷ []) (Array u8 255) .own (array-at l₈ δ (ks .1 .1 .0)) (vptr l₈ 0 ∷ [])) ⊛ ‵ (flent (μ ∷ []) (partAt (Array u8 255) fullShare (ks .1 .1 .0) l₈ 0))))) (lends-shr 𝓤 H A W (Array u8 255) (named 1) (μ ∷ []) fullShare (ks .1 .1 .0) l₈ 0) $ await ! tt $
+        use1 W (later (some (λ (δ : GName). ‵ (ShrRef (named 1) (μ ∷ []) (Array u8 255) .own (array-at l₈ δ (ks .1 .1 .0)) (vptr l₈ 0 ∷ [])) ⊛ ‵ (flent (μ
+        ∷ []) (partAt (Array u8 255) fullShare (ks .1 .1 .0) l₈ 0))))) (lends-shr 𝓤 H A W (Array u8 255) (named 1) (μ ∷ []) fullShare (ks .1 .1 .0) l₈ 0) $ await ! tt $
         pick ! (λ δ. split ! $
         -- `passed`
         move ! (11 ∷ []) $ use1 W (‵ X ⊛ ‵ X) (shr-slice-copy 𝓤 H A W (named 0) κ₀ u8 .twice x (v ∷ [])) $ split ! $ move ! (18 ∷ 17 ∷ []) $ join ! $ move ! (3 ∷ 0 ∷ []) $ join ! $
         move ! (1 ∷ 0 ∷ []) $ join ! $ move ! (13 ∷ 0 ∷ []) $ join ! $ move ! (13 ∷ 0 ∷ []) $ join ! $ move ! (3 ∷ 0 ∷ []) $ join ! $ move ! (8 ∷ 0 ∷ []) $ join ! $
         use1 W (raw (PassedBy 𝓤 H A at-mem run .pre (to-pass μ l₈ δ (ks .1 .1 .0)))) (goes-pass μ l₈ δ (ks .1 .1 .0) (placed g)) $
-        calls-at ! fm (PassedBy 𝓤 H A at-mem run) known-pass (to-pass μ l₈ δ (ks .1 .1 .0)) (and-then ! (load ! (from ! (stop !)) (look ! 45 refl)) (and-then ! (load ! (from ! (stop !)) (look ! 20 refl)) (and-then ! (load ! (from ! (stop !)) (look ! 16 refl)) (and-then ! (load ! (from ! (stop !)) (look ! 12 refl)) (and-then ! (load ! (from ! (stop !)) (look ! 30 refl)) (and-then ! (load ! (from ! (stop !)) (look ! 33 refl)) (no-more !))))))) (λ c₂.
-        use1 W (later (some (λ (r : Done). ((‵ (flft κ₀ q₀) ⊛ ‵ (flft (μ ∷ []) fullShare) ⊛ ‵ (flft κ₂ q₂) ⊛ ‵ (flft κ₃ q₃) ⊛ ‵ ftrue) ⊛ ‵ (S.the-row .own r (c₂ ∷ []))) ⊛ raw (ensured 𝓤 H A passed.ended (passed.clauses 𝓤 H A at-mem run) (κ₀, (μ ∷ [], (κ₂, (κ₃, tt)))) (given-to l₈ δ (ks .1 .1 .0)) tt r)))) (id⊢ 𝓤 _) $ await ! tt $
+        calls-at ! fm (PassedBy 𝓤 H A at-mem run) known-pass (to-pass μ l₈ δ (ks .1 .1 .0)) (and-then ! (load ! (from ! (stop !)) (look ! 45 refl)) (and-then ! (load ! (from ! (stop !))
+        (look ! 20 refl)) (and-then ! (load ! (from ! (stop !)) (look ! 16 refl)) (and-then ! (load ! (from ! (stop !)) (look ! 12 refl)) (and-then ! (load ! (from ! (stop !)) (look ! 30 refl))
+        (and-then ! (load ! (from ! (stop !)) (look ! 33 refl)) (no-more !))))))) (λ c₂.
+        use1 W (later (some (λ (r : Done). ((‵ (flft κ₀ q₀) ⊛ ‵ (flft (μ ∷ []) fullShare) ⊛ ‵ (flft κ₂ q₂) ⊛ ‵ (flft κ₃ q₃) ⊛ ‵ ftrue) ⊛ ‵ (S.the-row .own r (c₂
+        ∷ []))) ⊛ raw (ensured 𝓤 H A passed.ended (passed.clauses 𝓤 H A at-mem run) (κ₀, (μ ∷ [], (κ₂, (κ₃, tt)))) (given-to l₈ δ (ks .1 .1 .0)) tt r)))) (id⊢ 𝓤 _) $ await ! tt $
         pick ! (λ r. split ! $ move ! (1 ∷ []) $
-        use1 W (some (λ (zs : Unit {0} × (Unit {0} × (List ℕ × (List ℕ × (Unit {0} × (Unit {0} × Unit {0})))))). ‵ (lasts passed.ended (κ₀, (μ ∷ [], (κ₂, (κ₃, tt)))) (given-to l₈ δ (ks .1 .1 .0)) zs) ⊛ raw (fact 𝓤 (Said (take (pdoCount (x .now)) (ks .1 .1 .0)) r (zs .1 .1 .0) (zs .1 .1 .1 .0))))) (id⊢ 𝓤 _) $ pick ! (λ zs.
+        use1 W (some (λ (zs : Unit {0} × (Unit {0} × (List ℕ × (List ℕ × (Unit {0} × (Unit {0} × Unit {0})))))). ‵ (lasts passed.ended (
+          κ₀,
+          (
+            μ
+                ∷ [],
+            (κ₂, (κ₃, tt)),
+          ),
+        ) (given-to l₈ δ (ks .1 .1 .0)) zs) ⊛ raw (fact 𝓤 (Said (take (pdoCount (x .now)) (ks .1 .1 .0)) r (zs .1 .1 .0) (zs .1 .1 .1 .0))))) (id⊢ 𝓤 _) $ pick ! (λ zs.
         split ! $ move ! (1 ∷ []) $ heard ! (Said (take (pdoCount (x .now)) (ks .1 .1 .0)) r (zs .1 .1 .0) (zs .1 .1 .1 .0)) (λ said. fsplit ! $ drop ! $ fsplit ! $ drop ! $ fsplit ! $
         fsplit ! $ move ! (1 ∷ []) $ feqL ! (λ lf. move ! (1 ∷ []) $ fsplit ! $ fsplit ! $ move ! (1 ∷ []) $ feqL ! (λ lc. move ! (3 ∷ []) $ split ! $ move ! (1 ∷ []) $
         peeks ! S.the-row (Is S.the-row) (shows 𝓤 H A S.the-row) r (c₂ ∷ []) (λ is₂.
-        land ! (from ! (stop !)) (init ! 32 refl (LL.lawful S.the-type S′.the-laws 𝓤 H A W .typed r _ is₂ .0)) $ rewrite ! 32 (λ (c : Val). ‵ (fat fullShare S′.mir l₁₀ 0 c)) (ap only (LL.tells S.the-type S′.the-laws r _ is₂)) refl $
-        assigns ! (of-opd ! (load ! (from ! (fld ! refl (stop !))) (look-in ! 32 (sub ! 1 refl (whole !))))) (from ! (hop ! (look ! 41 refl) (stop !))) (store-raw ! 8 refl (LL.lawful T.the-type T′.the-laws 𝓤 H A W .typed (r .next) _ (next-is r is₂) .0)) $
-        assigns ! (of-opd ! (load ! (from ! (fld ! refl (stop !))) (look-in ! 32 (sub ! 0 refl (whole !))))) (from ! (stop !)) (init ! 51 refl (EL.lawful Q.the-type Q′.the-laws 𝓤 H A W tt .typed (r .answer) _ (answer-is r is₂) .0)) $
+        land ! (from ! (stop !)) (init ! 32 refl (LL.lawful S.the-type S′.the-laws 𝓤 H A W .typed r _ is₂ .0)) $
+        rewrite ! 32 (λ (c : Val). ‵ (fat fullShare S′.mir l₁₀ 0 c)) (ap only (LL.tells S.the-type S′.the-laws r _ is₂)) refl $
+        assigns ! (of-opd ! (load ! (from ! (fld ! refl (stop !))) (look-in ! 32 (sub ! 1 refl (whole !))))) (from ! (hop ! (look ! 41 refl) (stop !))) (store-raw ! 8 refl
+        (LL.lawful T.the-type T′.the-laws 𝓤 H A W .typed (r .next) _ (next-is r is₂) .0)) $
+        assigns ! (of-opd ! (load ! (from ! (fld ! refl (stop !))) (look-in ! 32 (sub ! 0 refl (whole !))))) (from ! (stop !)) (init ! 51 refl (EL.lawful Q.the-type Q′.the-laws 𝓤 H A W tt .typed
+        (r .answer) _ (answer-is r is₂) .0)) $
         drop ! $ move ! (0 ∷ []) $ split ! $ move ! (1 ∷ []) $ split ! $ move ! (1 ∷ []) $ split ! $ move ! (1 ∷ []) $ split ! $
         -- the array comes back
         move ! (3 ∷ []) $ lft-end ! tt $ move ! (0 ∷ 9 ∷ []) $ lent-back ! tt $
-        use1 W (‵ (cell 𝓤 H A W u8 255 l₈ (of-array (ks .1 .1 .0))) ⊛ ‵ (Array u8 255 .own (ks .1 .1 .0) (of-array (ks .1 .1 .0) ∷ []))) (lay 𝓤 H A W u8 255 (uint-vals w8) (uint-tells w8) (ks .1 .1 .0) l₈) $ split ! $
+        use1 W (‵ (cell 𝓤 H A W u8 255 l₈ (of-array (ks .1 .1 .0))) ⊛ ‵ (Array u8 255 .own (ks .1 .1 .0) (of-array (ks .1 .1 .0)
+        ∷ []))) (lay 𝓤 H A W u8 255 (uint-vals w8) (uint-tells w8) (ks .1 .1 .0) l₈) $ split ! $
         move ! (1 ∷ []) $ drop ! $
         -- the offset's borrow is shut at the new record
         owned ! R (Is R) (LL.makes T.the-type T′.the-plain 𝓤 H A) (r .next) (of-offset (r .next) ∷ []) (next-is r is₂) $ move ! (11 ∷ 0 ∷ 12 ∷ 13 ∷ 14 ∷ []) $
@@ -300,17 +350,33 @@ module _ {M : Type 1} (𝓤 : URA M) (H : Heap 𝓤) (A : Atoms 𝓤) (W : Given
         move ! (38 ∷ 39 ∷ []) $ free1 ! $ move ! (3 ∷ 37 ∷ []) $ free1 ! $ move ! (34 ∷ 35 ∷ []) $ free1 ! $ move ! (32 ∷ 33 ∷ []) $ free1 ! $ move ! (30 ∷ 31 ∷ []) $ free1 ! $
         move ! (28 ∷ 29 ∷ []) $ free1 ! $ move ! (26 ∷ 27 ∷ []) $ free1 ! $ move ! (24 ∷ 25 ∷ []) $ free1 ! $ move ! (22 ∷ 23 ∷ []) $ free1 ! $ move ! (20 ∷ 21 ∷ []) $ free1 ! $
         move ! (18 ∷ 19 ∷ []) $ free1 ! $ move ! (16 ∷ 17 ∷ []) $ free1 ! $ free0 ! $ keep ! (0 ∷ 1 ∷ 2 ∷ 3 ∷ 5 ∷ 12 ∷ 6 ∷ 9 ∷ 7 ∷ 13 ∷ 10 ∷ []) $
-        by ! (exits r (zs .1 .1 .0) (zs .1 .1 .1 .0) (subst (λ (ws : List ℕ). Said ws r (zs .1 .1 .0) (zs .1 .1 .1 .0)) (fronted (t .now) (x .now) (ks .1 .1 .0) small filled) said) lf lc (answer-is r is₂)))))))))))))))))))))))))))))))))))))))))
+        by ! (exits r (zs .1 .1 .0) (zs .1 .1 .1 .0) (subst (λ (ws : List ℕ). Said ws r (zs .1 .1 .0) (zs .1 .1 .1 .0)) (fronted (t .now) (x .now) (ks .1 .1 .0) small filled) said) lf lc
+        (answer-is r is₂)))))))))))))))))))))))))))))))))))))))))
 
 module _ {M : Type 1} (𝓤 : URA M) (H : Heap 𝓤) (A : Atoms 𝓤) (W : Given 𝓤 H A) (at-mem : Memory → SProp 𝓤) (run : Routine → Fun 𝓤) (𝓣 : Tables 𝓤 H)
-    (known-fill : Triple 𝓤 (𝓣 .C #multipliers-for) (tripleOf 𝓤 H A multipliers-for.signature (multipliers-for.spec 𝓤 H A at-mem run))) (known-pass : Triple 𝓤 (𝓣 .C #passed) (PassedBy 𝓤 H A at-mem run)) where
+    (known-fill : Triple 𝓤 (𝓣 .C #multipliers-for) (tripleOf 𝓤 H A multipliers-for.signature (multipliers-for.spec 𝓤 H A at-mem run))) (known-pass : Triple 𝓤 (𝓣 .C #passed)
+    (PassedBy 𝓤 H A at-mem run)) where
   it-walks : Walks 𝓤 H A it.ended stayed (WpFn 𝓤 H (𝓣 .C) (𝓣 .Λ) code.function) (it.clauses 𝓤 H A at-mem run)
   it-walks = walked 𝓤 H A it.ended stayed (it.clauses 𝓤 H A at-mem run) (WpFn 𝓤 H (𝓣 .C) (𝓣 .Λ) code.function)
       (λ κs. (slice-vals, (slice-vals, (slice-vals, (slice-vals, (ptr-vals, (uint-vals w32, (EL.vals D.the-type D′.the-laws, tt))))))))
-      (λ κs. (shr-slice-tells (named 0) (κs .0) u8, (shr-slice-tells (named 1) (κs .1 .0) O.the-row, (mut-slice-tells (named 2) (κs .1 .1 .0) u8, (mut-slice-tells (named 3) (κs .1 .1 .1 .0) u8, (mut-tells (named 4) (κs .1 .1 .1 .1 .0) T.the-row, (uint-tells w32, (EL.tells D.the-type D′.the-laws, tt))))))))
+      (λ κs. (
+        shr-slice-tells (named 0) (κs .0) u8,
+        (
+          shr-slice-tells (named 1) (κs .1 .0) O.the-row,
+          (
+            mut-slice-tells (named 2) (κs .1 .1 .0) u8,
+            (
+              mut-slice-tells (named 3) (κs .1 .1 .1 .0) u8,
+              (mut-tells (named 4) (κs .1 .1 .1 .1 .0) T.the-row, (uint-tells w32, (EL.tells D.the-type D′.the-laws, tt))),
+            ),
+          ),
+        ),
+      ))
       (λ κs qs bounds a g are. via 𝓤 _ (fst∗ 𝓤 _ (emp 𝓤))
-      (walk 𝓤 H A W at-mem run (κs .0) (κs .1 .0) (κs .1 .1 .0) (κs .1 .1 .1 .0) (κs .1 .1 .1 .1 .0) (qs .0) (qs .1 .0) (qs .1 .1 .0) (qs .1 .1 .1 .0) (qs .1 .1 .1 .1 .0) (a .0) (a .1 .0) (a .1 .1 .0) (a .1 .1 .1 .0)
-      (a .1 .1 .1 .1 .0 .ptr .0) (a .1 .1 .1 .1 .0 .ptr .1) (a .1 .1 .1 .1 .0 .name) (a .1 .1 .1 .1 .0 .now) (a .1 .1 .1 .1 .1 .0) (are .1 .1 .1 .1 .1 .0 .1) (a .1 .1 .1 .1 .1 .1 .0) (are .1 .1 .1 .1 .1 .1 .0)
+      (walk 𝓤 H A W at-mem run (κs .0) (κs .1 .0) (κs .1 .1 .0) (κs .1 .1 .1 .0) (κs .1 .1 .1 .1 .0) (qs .0) (qs .1 .0) (qs .1 .1 .0) (qs .1 .1 .1 .0) (qs .1 .1 .1 .1 .0) (a .0) (a .1 .0)
+      (a .1 .1 .0) (a .1 .1 .1 .0)
+      (a .1 .1 .1 .1 .0 .ptr .0) (a .1 .1 .1 .1 .0 .ptr .1) (a .1 .1 .1 .1 .0 .name) (a .1 .1 .1 .1 .0 .now) (a .1 .1 .1 .1 .1 .0) (are .1 .1 .1 .1 .1 .0 .1) (a .1 .1 .1 .1 .1 .1 .0)
+      (are .1 .1 .1 .1 .1 .1 .0)
       (𝓣 .C) (𝓣 .Λ) (fmOf 𝓤 H (W .laws) 𝓣) known-fill known-pass (are .0) (are .1 .0) (are .1 .1 .0 .0 .1) (are .1 .1 .1 .0 .0 .1)))
 
   it-meets : Meets 𝓤 H A it.signature (WpFn 𝓤 H (𝓣 .C) (𝓣 .Λ) code.function) (it.spec 𝓤 H A at-mem run)
@@ -335,5 +401,6 @@ configure-fmmus-spec 𝓤 H 𝓜 𝓖 𝓡 =
     entered 𝓤 H (tripleOf 𝓤 H (𝓖 .A) it.signature (it.spec 𝓤 H (𝓖 .A) (𝓜 .mem) (𝓡 .run)))
     (tables 𝓤 H 𝓜 𝓡 code.env .C) (tables 𝓤 H 𝓜 𝓡 code.env .Λ) #lent·configure-fmmus code.function (code.unfolded 𝓤 H 𝓜 𝓡)
     (it-meets 𝓤 H (𝓖 .A) (givenOf 𝓤 H 𝓜 𝓖) (𝓜 .mem) (𝓡 .run) (tablesOf 𝓤 H 𝓜 (tables 𝓤 H 𝓜 𝓡 code.env))
-    (cited 𝓤 H (tripleOf 𝓤 H (𝓖 .A) multipliers-for.signature (multipliers-for.spec 𝓤 H (𝓖 .A) (𝓜 .mem) (𝓡 .run))) 𝓜 𝓡 code.env #multipliers-for multipliers-for-def.routine code.calls-oversampling·multipliers-for (multipliers-for-thm.met 𝓤 H 𝓜 𝓖 𝓡))
+    (cited 𝓤 H (tripleOf 𝓤 H (𝓖 .A) multipliers-for.signature (multipliers-for.spec 𝓤 H (𝓖 .A) (𝓜 .mem)
+    (𝓡 .run))) 𝓜 𝓡 code.env #multipliers-for multipliers-for-def.routine code.calls-oversampling·multipliers-for (multipliers-for-thm.met 𝓤 H 𝓜 𝓖 𝓡))
     (cited 𝓤 H (PassedBy 𝓤 H (𝓖 .A) (𝓜 .mem) (𝓡 .run)) 𝓜 𝓡 code.env #passed passed-def.routine code.calls-lent·data-pass·passed (passed-thm.met 𝓤 H 𝓜 𝓖 𝓡)))

@@ -80,7 +80,23 @@ abbrev table-val : List Oversampling → Val
 table-val ts = only (table-vals ts)
 
 abbrev stayed : Stays (it.ended .signature .params) (it.ended .kept)
-stayed = (stay-none-slice (0 ∷ []) tt (plain (λ _. u8)) yes, (stay-dropped (plain (λ _. Table)) yes, (stay-none (λ _. usize) yes, (stay-none (λ _. P.the-row) yes, (stay-none (λ _. D.the-row) yes, (stay-none (λ _. u32) yes, tt))))))
+stayed = (
+  stay-none-slice (0 ∷ []) tt (plain (λ _. u8)) yes,
+  (
+    stay-dropped (plain (λ _. Table)) yes,
+    (
+      stay-none (λ _. usize) yes,
+      (
+        stay-none (λ _. P.the-row) yes,
+        (
+          stay-none
+              (λ _. D.the-row) yes,
+          (stay-none (λ _. u32) yes, tt),
+        ),
+      ),
+    ),
+  ),
+)
 
 module _ {M : Type 1} (𝓤 : URA M) (H : Heap 𝓤) (A : Atoms 𝓤) (at-mem : Memory → SProp 𝓤) (run : Routine → Fun 𝓤) where
   -- the contracts that the proof cites
@@ -97,8 +113,10 @@ offset-val h = LL.val P.the-type P′.the-laws h
 abbrev direction-val : PdoDirection → Val
 direction-val d = EL.val D.the-type D′.the-laws d
 
-module _ {M : Type 1} (𝓤 : URA M) (H : Heap 𝓤) (A : Atoms 𝓤) (W : Given 𝓤 H A) (at-mem : Memory → SProp 𝓤) (run : Routine → Fun 𝓤) (κ : Lft) (q : Share) (x : RefT (List ℕ)) (ts : List Oversampling) (m : ℕ)
-    (h : PdiOffset) (d : PdoDirection) (z : ℕ) (t-is : Is Table ts (table-vals ts)) (m-fits : m < 2 ^ 64) (h-is : Is P.the-row h (offset-val h ∷ [])) (d-is : Is D.the-row d (direction-val d ∷ [])) (z-fits : z < 2 ^ 32) where
+module _ {M : Type 1} (𝓤 : URA M) (H : Heap 𝓤) (A : Atoms 𝓤) (W : Given 𝓤 H A) (at-mem : Memory → SProp 𝓤) (run : Routine → Fun 𝓤) (κ : Lft) (q : Share) (x : RefT (List ℕ))
+    (ts : List Oversampling) (m : ℕ)
+    (h : PdiOffset) (d : PdoDirection) (z : ℕ) (t-is : Is Table ts (table-vals ts)) (m-fits : m < 2 ^ 64) (h-is : Is P.the-row h (offset-val h ∷ [])) (d-is : Is D.the-row d (direction-val d
+    ∷ [])) (z-fits : z < 2 ^ 32) where
   abbrev v : Val
   v = sliceVal (x .ptr) (length (x .now))
 
@@ -136,7 +154,8 @@ module _ {M : Type 1} (𝓤 : URA M) (H : Heap 𝓤) (A : Atoms 𝓤) (W : Given
 
   goes-least : ent 𝓤 (sem 𝓤 H A ftrue) (Least 𝓤 H A at-mem run .pre to-least)
   goes-least =
-      qed W (‵ ftrue ∷ []) ∵ nothing ! $ owned ! usize (Is usize) (uint-makes 𝓤 H A W w64) 256 _ (refl, lit< tt) $ fjoin ! $ owned ! usize (Is usize) (uint-makes 𝓤 H A W w64) m _ (refl, m-fits) $ fjoin ! $
+      qed W (‵ ftrue ∷ []) ∵ nothing ! $ owned ! usize (Is usize) (uint-makes 𝓤 H A W w64) 256 _ (refl, lit< tt) $ fjoin ! $
+      owned ! usize (Is usize) (uint-makes 𝓤 H A W w64) m _ (refl, m-fits) $ fjoin ! $
       move ! (1 ∷ 0 ∷ []) $ join ! $ frame ! $ done !
 
   said-least : (k : ℕ) → ent 𝓤 (ensured 𝓤 H A least.ended (least.clauses 𝓤 H A at-mem run) tt (m, (256, tt)) tt k) (fact 𝓤 (k ≡ min m 256))
@@ -158,60 +177,109 @@ module _ {M : Type 1} (𝓤 : URA M) (H : Heap 𝓤) (A : Atoms 𝓤) (W : Given
   goes-count : (ν l : ℕ) (γ : GName) → ent 𝓤 (⋆ 𝓤 H A ((‵ (flft κ q) ⊛ ‵ (flft (ν ∷ []) fullShare)) ∷ ‵ X ∷ ‵ (Y ν l γ) ∷ [])) (Count 𝓤 H A at-mem run .pre (to-count ν l γ))
   goes-count ν l γ =
       qed W ((‵ (flft κ q) ⊛ ‵ (flft (ν ∷ []) fullShare)) ∷ ‵ X ∷ ‵ (Y ν l γ) ∷ []) ∵ split ! $ nothing ! $ owned ! u32 (Is u32) (uint-makes 𝓤 H A W w32) z _ (refl, z-fits) $ fjoin ! $
-      owned ! D.the-row (Is D.the-row) (EL.makes D.the-type D′.the-plain 𝓤 H A) d _ d-is $ fjoin ! $ owned ! P.the-row (Is P.the-row) (LL.makes P.the-type P′.the-plain 𝓤 H A) h _ h-is $ fjoin ! $ move ! (4 ∷ 0 ∷ []) $ fjoin ! $
+      owned ! D.the-row (Is D.the-row) (EL.makes D.the-type D′.the-plain 𝓤 H A) d _ d-is $ fjoin ! $ owned ! P.the-row (Is P.the-row) (LL.makes P.the-type P′.the-plain 𝓤 H A) h _ h-is $
+      fjoin ! $ move ! (4 ∷ 0 ∷ []) $ fjoin ! $
       move ! (3 ∷ 0 ∷ []) $ fjoin ! $ nothing ! $ move ! (3 ∷ 0 ∷ []) $ join ! $ move ! (2 ∷ 0 ∷ []) $ join ! $ move ! (0 ∷ 1 ∷ []) $ join ! $ frame ! $ done !
 
   exits : (r : Counted) (w : Val) → ent 𝓤 (⋆ 𝓤 H A (‵ (S.the-row .own r (w ∷ [])) ∷ ‵ (flft κ q) ∷ ‵ X ∷ [])) (Post w)
   exits r w =
       qed W (‵ (S.the-row .own r (w ∷ [])) ∷ ‵ (flft κ q) ∷ ‵ X ∷ []) ∵
-      suffices ! _ (ends-at 𝓤 H A it.ended stayed (it.clauses 𝓤 H A at-mem run) W (((κ, tt), (q, tt), tt, a, vals), tt) w r (tt, (tt, (tt, (tt, (tt, (tt, tt)))))) (tt, (tt, (tt, (tt, (tt, (tt, tt))))))) $ silent ! $
-      nothing ! $ move ! (2 ∷ 0 ∷ []) $ join ! $ frame ! $ nothing ! $ owned ! u32 (Is u32) (uint-makes 𝓤 H A W w32) z _ (refl, z-fits) $ fjoin ! $ owned ! D.the-row (Is D.the-row) (EL.makes D.the-type D′.the-plain 𝓤 H A) d _ d-is $
-      fjoin ! $ owned ! P.the-row (Is P.the-row) (LL.makes P.the-type P′.the-plain 𝓤 H A) h _ h-is $ fjoin ! $ owned ! usize (Is usize) (uint-makes 𝓤 H A W w64) m _ (refl, m-fits) $ fjoin ! $ nothing ! $ fjoin ! $ move ! (2 ∷ 0 ∷ []) $
+      suffices ! _ (ends-at 𝓤 H A it.ended stayed (it.clauses 𝓤 H A at-mem run) W (((κ, tt), (q, tt), tt, a, vals), tt) w r (tt, (tt, (tt, (tt, (tt, (tt, tt)))))) (
+        tt,
+        (
+          tt,
+          (
+            tt,
+            (
+              tt,
+              (
+                tt,
+                (tt, tt),
+              ),
+            ),
+          ),
+        ),
+      )) $ silent ! $
+      nothing ! $ move ! (2 ∷ 0 ∷ []) $ join ! $ frame ! $ nothing ! $ owned ! u32 (Is u32) (uint-makes 𝓤 H A W w32) z _ (refl, z-fits) $ fjoin ! $
+      owned ! D.the-row (Is D.the-row) (EL.makes D.the-type D′.the-plain 𝓤 H A) d _ d-is $
+      fjoin ! $ owned ! P.the-row (Is P.the-row) (LL.makes P.the-type P′.the-plain 𝓤 H A) h _ h-is $ fjoin ! $ owned ! usize (Is usize) (uint-makes 𝓤 H A W w64) m _ (refl, m-fits) $ fjoin ! $
+      nothing ! $ fjoin ! $ move ! (2 ∷ 0 ∷ []) $
       fjoin ! $ move ! (0 ∷ 1 ∷ []) $ done !
 
   module _ (C : Calls 𝓤 H) (Λ : Loops 𝓤 H) (fm : FmC 𝓤 H (W .laws) C) (known₁ : Triple 𝓤 (C #least) (Least 𝓤 H A at-mem run)) (known₂ : Triple 𝓤 (C #count) (Count 𝓤 H A at-mem run)) where
     walk : Is (ShrSlice (named 0) κ u8) x (v ∷ [])
         → ent 𝓤 (onEntry 𝓤 H A it.signature (κ, tt) (q, tt) a vals) (WpFn 𝓤 H C Λ code.function (v ∷ table-val ts ∷ vint w64 m ∷ offset-val h ∷ direction-val d ∷ vint w32 z ∷ []) Post)
     walk px =
-        qed W ((‵ (flft κ q) ⊛ ‵ ftrue) ∷ ‵ (owns (ShrSlice (named 0) κ u8 ∷ Table ∷ usize ∷ P.the-row ∷ D.the-row ∷ u32 ∷ []) a vals) ∷ []) ∵ enter ! C Λ code.function (v ∷ table-val ts ∷ vint w64 m ∷ offset-val h ∷ direction-val d ∷ vint w32 z ∷ []) _ $
-        alloc1 ! (λ l₀. alloc1 ! (λ l₁. alloc1 ! (λ l₂. alloc1 ! (λ l₃. alloc1 ! (λ l₄. alloc1 ! (λ l₅. alloc1 ! (λ l₆. alloc1 ! (λ l₇. alloc1 ! (λ l₈. alloc1 ! (λ l₉. alloc1 ! (λ l₁₀. alloc0 ! $ params1 ! $
-        pass1 ! (init ! 18 refl (shr-slice-lawful 𝓤 H A W (named 0) κ u8 .typed x (v ∷ []) px .0)) $ pass1 ! (init ! 16 refl (array-lawful 𝓤 H A W O.the-row (LL.lawful O.the-type O′.the-laws 𝓤 H A W) 256 .typed ts _ t-is .0)) $
+        qed W ((‵ (flft κ q) ⊛ ‵ ftrue) ∷ ‵ (owns (ShrSlice (named 0) κ u8 ∷ Table ∷ usize ∷ P.the-row ∷ D.the-row ∷ u32 ∷ []) a vals) ∷ []) ∵ enter ! C Λ code.function (v ∷ table-val ts
+        ∷ vint w64 m ∷ offset-val h ∷ direction-val d ∷ vint w32 z ∷ []) _ $
+        alloc1 ! (λ l₀. alloc1 ! (λ l₁. alloc1 ! (λ l₂. alloc1 ! (λ l₃. alloc1 ! (λ l₄. alloc1 ! (λ l₅. alloc1 ! (λ l₆. alloc1 ! (λ l₇. alloc1 ! (λ l₈. alloc1 ! (λ l₉. alloc1 !
+        (λ l₁₀. alloc0 ! $ params1 ! $
+        pass1 ! (init ! 18 refl (shr-slice-lawful 𝓤 H A W (named 0) κ u8 .typed x (v ∷ []) px .0)) $
+        pass1 ! (init ! 16 refl (array-lawful 𝓤 H A W O.the-row (LL.lawful O.the-type O′.the-laws 𝓤 H A W) 256 .typed ts _ t-is .0)) $
         pass1 ! (init ! 14 refl (tt, record { fits = m-fits })) $ pass1 ! (init ! 12 refl (LL.lawful P.the-type P′.the-laws 𝓤 H A W .typed h _ h-is .0)) $
         pass1 ! (init ! 10 refl (EL.lawful D.the-type D′.the-laws 𝓤 H A W tt .typed d _ d-is .0)) $ pass1 ! (init ! 8 refl (tt, record { fits = z-fits })) $ pass0 ! $
-        assigns ! (of-opd ! (load ! (from ! (stop !)) (look ! 16 refl))) (from ! (stop !)) (init ! 6 refl (array-lawful 𝓤 H A W O.the-row (LL.lawful O.the-type O′.the-laws 𝓤 H A W) 256 .typed ts _ t-is .0)) $
+        assigns ! (of-opd ! (load ! (from ! (stop !)) (look ! 16 refl))) (from ! (stop !)) (init ! 6 refl (array-lawful 𝓤 H A W O.the-row
+        (LL.lawful O.the-type O′.the-laws 𝓤 H A W) 256 .typed ts _ t-is .0)) $
         -- `least`
-        nothing ! $ use1 W (raw (Least 𝓤 H A at-mem run .pre to-least)) goes-least $ calls-at ! fm (Least 𝓤 H A at-mem run) known₁ to-least (and-then ! (load ! (from ! (stop !)) (look ! 15 refl)) (and-then ! (lit ! tt) (no-more !))) (λ c₁.
-        use1 W (later (some (λ (k : ℕ). (‵ ftrue ⊛ ‵ (usize .own k (c₁ ∷ []))) ⊛ raw (ensured 𝓤 H A least.ended (least.clauses 𝓤 H A at-mem run) tt (m, (256, tt)) tt k)))) (id⊢ 𝓤 _) $ await ! tt $ pick ! (λ k. split ! $ move ! (1 ∷ []) $
+        nothing ! $ use1 W (raw (Least 𝓤 H A at-mem run .pre to-least)) goes-least $ calls-at ! fm (Least 𝓤 H A at-mem run) known₁ to-least (and-then ! (load ! (from ! (stop !))
+        (look ! 15 refl)) (and-then ! (lit ! tt) (no-more !))) (λ c₁.
+        use1 W (later (some (λ (k : ℕ). (‵ ftrue ⊛ ‵ (usize .own k (c₁ ∷ []))) ⊛ raw (ensured 𝓤 H A least.ended (least.clauses 𝓤 H A at-mem run) tt (m, (256, tt)) tt k)))) (id⊢ 𝓤 _) $
+        await ! tt $ pick ! (λ k. split ! $ move ! (1 ∷ []) $
         use1 W (raw (fact 𝓤 (k ≡ min m 256))) (said-least k) $ heard ! (k ≡ min m 256) (λ e₁. split ! $ move ! (1 ∷ []) $ peeks ! usize (Is usize) (shows 𝓤 H A usize) k (c₁ ∷ []) (λ is₁.
-        land ! (from ! (stop !)) (init ! 6 refl (uint-lawful 𝓤 H A W w64 .typed k _ is₁ .0)) $ rewrite ! 6 (λ (y : Val). ‵ (fat fullShare (tyInt w64) l₈ 0 y)) (ap only (is₁ .0) ∙ ap (vint w64) (e₁ ∙ counts)) refl $ drop ! $ drop ! $
+        land ! (from ! (stop !)) (init ! 6 refl (uint-lawful 𝓤 H A W w64 .typed k _ is₁ .0)) $
+        rewrite ! 6 (λ (y : Val). ‵ (fat fullShare (tyInt w64) l₈ 0 y)) (ap only (is₁ .0) ∙ ap (vint w64) (e₁ ∙ counts)) refl $ drop ! $ drop ! $
         -- the slice is made
         assigns ! (addr ! (from ! (stop !))) (from ! (stop !)) (init ! 2 refl (tt, tt)) $
-        assigns ! (agg ! (and-then ! (load ! (from ! (stop !)) (look ! 2 refl)) (and-then ! (load ! (from ! (stop !)) (look ! 4 refl)) (no-more !)))) (from ! (stop !)) (init ! 0 refl (tt, (tt, (record { fits = room .0 }, tt)))) $
+        assigns ! (agg ! (and-then ! (load ! (from ! (stop !)) (look ! 2 refl)) (and-then ! (load ! (from ! (stop !)) (look ! 4 refl)) (no-more !)))) (from ! (stop !)) (init ! 0 refl (
+          tt,
+          (
+            tt,
+            (record { fits = room .0 }, tt),
+          ),
+        )) $
         -- the slot is lent for a lifetime ν of the call
         owned ! Table (Is Table) (array-makes 𝓤 H A W O.the-row (LL.makes O.the-type O′.the-plain 𝓤 H A) 256) ts _ t-is $ lft-new ! tt (λ ν. move ! (8 ∷ 1 ∷ []) $
-        use2 W (later (some (λ (γ : GName). ‵ (Y ν l₇ γ) ⊛ (‵ (flent (ν ∷ []) (lent-front 𝓤 H A W O.the-row m ts l₇)) ⊛ ‵ (kept 𝓤 H A W O.the-row m ts l₇))))) (lends-front 𝓤 H A W O.the-row m ts l₇ 256 (named 1) (ν ∷ []) tt room (table-val ts)) $ await ! tt $ pick ! (λ γ.
-        split ! $ move ! (1 ∷ []) $ split ! $ move ! (26 ∷ []) $ fsplit ! $ move ! (27 ∷ []) $ split ! $ move ! (2 ∷ []) $ use1 W (‵ X ⊛ ‵ X) (shr-slice-copy 𝓤 H A W (named 0) κ u8 .twice x (v ∷ [])) $ split ! $
+        use2 W (later (some (λ (γ : GName). ‵ (Y ν l₇ γ) ⊛ (‵ (flent (ν ∷ []) (lent-front 𝓤 H A W O.the-row m ts l₇))
+        ⊛ ‵ (kept 𝓤 H A W O.the-row m ts l₇))))) (lends-front 𝓤 H A W O.the-row m ts l₇ 256 (named 1) (ν ∷ []) tt room (table-val ts)) $ await ! tt $ pick ! (λ γ.
+        split ! $ move ! (1 ∷ []) $ split ! $ move ! (26 ∷ []) $ fsplit ! $ move ! (27 ∷ []) $ split ! $ move ! (2 ∷ []) $
+        use1 W (‵ X ⊛ ‵ X) (shr-slice-copy 𝓤 H A W (named 0) κ u8 .twice x (v ∷ [])) $ split ! $
         move ! (2 ∷ 8 ∷ 0 ∷ 7 ∷ []) $ join ! $ use3 W (raw (Count 𝓤 H A at-mem run .pre (to-count ν l₇ γ))) (goes-count ν l₇ γ) $
         -- [pre; X'; tru0; o1; away; kept; _10; _9; _8; _6; _5; _4; _3; _2; _1; _0]
-        calls-at ! fm (Count 𝓤 H A at-mem run) known₂ (to-count ν l₇ γ) (and-then ! (load ! (from ! (stop !)) (look ! 23 refl)) (and-then ! (load ! (from ! (stop !)) (look ! 6 refl)) (and-then ! (load ! (from ! (stop !)) (look ! 17 refl)) (and-then ! (load ! (from ! (stop !)) (look ! 15 refl)) (and-then ! (load ! (from ! (stop !)) (look ! 13 refl)) (no-more !)))))) (λ c₂.
-        use1 W (later (some (λ (r : Counted). ((‵ (flft κ q) ⊛ ‵ (flft (ν ∷ []) fullShare) ⊛ ‵ ftrue) ⊛ ‵ (S.the-row .own r (c₂ ∷ []))) ⊛ raw (ensured 𝓤 H A count.ended (count.clauses 𝓤 H A at-mem run) (κ, (ν ∷ [], tt)) (given-to l₇ γ) tt r)))) (id⊢ 𝓤 _) $ await ! tt $ pick ! (λ r.
+        calls-at ! fm (Count 𝓤 H A at-mem run) known₂ (to-count ν l₇ γ) (and-then ! (load ! (from ! (stop !)) (look ! 23 refl)) (and-then ! (load ! (from ! (stop !)) (look ! 6 refl)) (and-then !
+        (load ! (from ! (stop !)) (look ! 17 refl)) (and-then ! (load ! (from ! (stop !)) (look ! 15 refl)) (and-then ! (load ! (from ! (stop !)) (look ! 13 refl)) (no-more !)))))) (λ c₂.
+        use1 W (later (some (λ (r : Counted). ((‵ (flft κ q) ⊛ ‵ (flft (ν ∷ []) fullShare) ⊛ ‵ ftrue) ⊛ ‵ (S.the-row .own r (c₂
+        ∷ []))) ⊛ raw (ensured 𝓤 H A count.ended (count.clauses 𝓤 H A at-mem run) (κ, (ν ∷ [], tt)) (given-to l₇ γ) tt r)))) (id⊢ 𝓤 _) $ await ! tt $ pick ! (λ r.
         split ! $ move ! (1 ∷ []) $ drop ! $ split ! $ move ! (1 ∷ []) $ peeks ! S.the-row (Is S.the-row) (shows 𝓤 H A S.the-row) r (c₂ ∷ []) (λ is₂.
         land ! (from ! (stop !)) (init ! 26 refl (EL.lawful S.the-type S′.the-laws 𝓤 H A W tt .typed r _ is₂ .0)) $
         -- ν ends, and the slot is back
         move ! (1 ∷ []) $ split ! $ move ! (1 ∷ []) $ split ! $ lft-end ! tt $ move ! (0 ∷ 7 ∷ 8 ∷ []) $
-        use3 W (later (‵ (fat fullShare (tyArray (lone (O.the-row .mir)) 256) l₇ 0 (table-val ts)) ⊛ ‵ (Table .own ts (table-vals ts)))) (front-back 𝓤 H A W O.the-row m ts l₇ 256 (named 1) (ν ∷ []) (LL.vals O.the-type O′.the-laws) (LL.tells O.the-type O′.the-laws) long) $ await ! tt $
+        use3 W (later (‵ (fat fullShare (tyArray (lone (O.the-row .mir)) 256) l₇ 0 (table-val ts)) ⊛ ‵ (Table .own ts (table-vals ts)))) (front-back 𝓤 H A W O.the-row m ts l₇ 256 (named 1) (ν
+        ∷ []) (LL.vals O.the-type O′.the-laws) (LL.tells O.the-type O′.the-laws) long) $ await ! tt $
         split ! $
         -- [_7; ownT; tru1; t0; r; X'; tru0; o1; _10; _9; _8; _6; _5; _4; _3; _2; _1; _0]
-        returns ! (look ! 27 refl) $ forget ! 8 refl $ forget ! 10 refl $ forget ! 12 refl $ forget ! 0 refl $ forget ! 15 refl $ forget ! 17 refl $ forget ! 19 refl $ forget ! 21 refl $ forget ! 23 refl $ forget ! 25 refl $
-        forget ! 27 refl $ move ! (27 ∷ 28 ∷ []) $ free1 ! $ move ! (25 ∷ 26 ∷ []) $ free1 ! $ move ! (23 ∷ 24 ∷ []) $ free1 ! $ move ! (21 ∷ 22 ∷ []) $ free1 ! $ move ! (19 ∷ 20 ∷ []) $ free1 ! $ move ! (17 ∷ 18 ∷ []) $ free1 ! $
-        move ! (15 ∷ 16 ∷ []) $ free1 ! $ move ! (0 ∷ 14 ∷ []) $ free1 ! $ move ! (11 ∷ 12 ∷ []) $ free1 ! $ move ! (9 ∷ 10 ∷ []) $ free1 ! $ move ! (7 ∷ 8 ∷ []) $ free1 ! $ free0 ! $ keep ! (3 ∷ 2 ∷ 4 ∷ []) $
+        returns ! (look ! 27 refl) $ forget ! 8 refl $ forget ! 10 refl $ forget ! 12 refl $ forget ! 0 refl $ forget ! 15 refl $ forget ! 17 refl $ forget ! 19 refl $ forget ! 21 refl $
+        forget ! 23 refl $ forget ! 25 refl $
+        forget ! 27 refl $ move ! (27 ∷ 28 ∷ []) $ free1 ! $ move ! (25 ∷ 26 ∷ []) $ free1 ! $ move ! (23 ∷ 24 ∷ []) $ free1 ! $ move ! (21 ∷ 22 ∷ []) $ free1 ! $ move ! (19 ∷ 20 ∷ []) $
+        free1 ! $ move ! (17 ∷ 18 ∷ []) $ free1 ! $
+        move ! (15 ∷ 16 ∷ []) $ free1 ! $ move ! (0 ∷ 14 ∷ []) $ free1 ! $ move ! (11 ∷ 12 ∷ []) $ free1 ! $ move ! (9 ∷ 10 ∷ []) $ free1 ! $ move ! (7 ∷ 8 ∷ []) $ free1 ! $ free0 ! $
+        keep ! (3 ∷ 2 ∷ 4 ∷ []) $
         by ! (exits r c₂)))))))))))))))))))))
 
-module _ {M : Type 1} (𝓤 : URA M) (H : Heap 𝓤) (A : Atoms 𝓤) (W : Given 𝓤 H A) (at-mem : Memory → SProp 𝓤) (run : Routine → Fun 𝓤) (𝓣 : Tables 𝓤 H) (known₁ : Triple 𝓤 (𝓣 .C #least) (Least 𝓤 H A at-mem run)) (known₂ : Triple 𝓤 (𝓣 .C #count) (Count 𝓤 H A at-mem run)) where
+module _ {M : Type 1} (𝓤 : URA M) (H : Heap 𝓤) (A : Atoms 𝓤) (W : Given 𝓤 H A) (at-mem : Memory → SProp 𝓤) (run : Routine → Fun 𝓤) (𝓣 : Tables 𝓤 H)
+    (known₁ : Triple 𝓤 (𝓣 .C #least) (Least 𝓤 H A at-mem run)) (known₂ : Triple 𝓤 (𝓣 .C #count) (Count 𝓤 H A at-mem run)) where
   it-walks : Walks 𝓤 H A it.ended stayed (WpFn 𝓤 H (𝓣 .C) (𝓣 .Λ) code.function) (it.clauses 𝓤 H A at-mem run)
   it-walks = walked 𝓤 H A it.ended stayed (it.clauses 𝓤 H A at-mem run) (WpFn 𝓤 H (𝓣 .C) (𝓣 .Λ) code.function)
       (λ κs. (slice-vals, (table-vals, (uint-vals w64, (LL.vals P.the-type P′.the-laws, (EL.vals D.the-type D′.the-laws, (uint-vals w32, tt)))))))
-      (λ κs. (shr-slice-tells (named 0) (κs .0) u8, (array-tells O.the-row (LL.vals O.the-type O′.the-laws) (LL.tells O.the-type O′.the-laws) 256, (uint-tells w64, (LL.tells P.the-type P′.the-laws, (EL.tells D.the-type D′.the-laws, (uint-tells w32, tt)))))))
+      (λ κs. (
+        shr-slice-tells (named 0) (κs .0) u8,
+        (
+          array-tells O.the-row (LL.vals O.the-type O′.the-laws) (LL.tells O.the-type O′.the-laws) 256,
+          (
+            uint-tells w64,
+            (LL.tells P.the-type P′.the-laws, (EL.tells D.the-type D′.the-laws, (uint-tells w32, tt))),
+          ),
+        ),
+      ))
       (λ κs qs bounds a g are. via 𝓤 _ (fst∗ 𝓤 _ (emp 𝓤)) (walk 𝓤 H A W at-mem run (κs .0) (qs .0) (a .0) (a .1 .0) (a .1 .1 .0) (a .1 .1 .1 .0) (a .1 .1 .1 .1 .0) (a .1 .1 .1 .1 .1 .0)
       (are .1 .0) (are .1 .1 .0 .1) (are .1 .1 .1 .0) (are .1 .1 .1 .1 .0) (are .1 .1 .1 .1 .1 .0 .1) (𝓣 .C) (𝓣 .Λ) (fmOf 𝓤 H (W .laws) 𝓣) known₁ known₂ (are .0)))
 

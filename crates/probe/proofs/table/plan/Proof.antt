@@ -1,4 +1,5 @@
--- `probe::table::plan` runs: a walk of its MIR, by hand. Two locals are lent to `configure_fmmus`, each for a lifetime that is made for the call: the front of the table, as a slice, and the offset, by `&mut`. Both come back, the offset at the record that the callee says, which is read.
+-- `probe::table::plan` runs: a walk of its MIR, by hand. Two locals are lent to `configure_fmmus`, each for a lifetime that is made for the call: the front of the table, as a slice, and the
+-- offset, by `&mut`. Both come back, the offset at the record that the callee says, which is read.
 -- All that the proof knows of the two callees is that each meets its contract.
 -- Assumes nothing.
 use mathlib.Core.Path.{_≡_, refl, sym, _∙_, ap}
@@ -18,7 +19,8 @@ use prog.Wp.{Heap, Calls, Loops, WpFn, Tables}
 use ghost.Atoms.{Atoms, sem}
 use contract.Monad.{Fun, fact}
 use contract.Running.{givenOf, tables, tablesOf}
-use types.Kit.{Given, Item, ‵, raw, some, later, _⊛_, ⋆, _$_, _∵_, !, qed, by, move, keep, drop, use1, use2, use3, split, join, pick, rewrite, fsplit, fjoin, fpick, fpack, feqL, suffices, frame, await, done}
+use types.Kit.{Given, Item, ‵, raw, some, later, _⊛_, ⋆, _$_, _∵_, !, qed, by, move, keep, drop, use1, use2, use3, split, join, pick, rewrite, fsplit, fjoin, fpick, fpack, feqL, suffices, frame}
+use types.Kit.{await, done}
 use types.Run.{look, init, forget, stop, hop, fld, from, load, lit, addr, of-opd, and-then, no-more, assigns, land, returns, enter, alloc1, alloc0, params1, pass1, pass0, free1, free0}
 use types.Part.{agg, whole, sub, look-in}
 use types.SemTy.{Body}
@@ -143,7 +145,8 @@ module _ {M : Type 1} (𝓤 : URA M) (H : Heap 𝓤) (A : Atoms 𝓤) (W : Given
   unfolding partOf
   lies h-is =
       qed W (‵ (fat fullShare T′.mir l 0 (of-offset h)) ∷ []) ∵ use1 W (‵ (cellAt fullShare (R .mir) (of-offset h ∷ []) l 0)) (W .laws .at-raw fullShare T′.mir l 0 (of-offset h)) $
-      owned ! R (Is R) (LL.makes T.the-type T′.the-plain 𝓤 H A) h _ h-is $ move ! (1 ∷ 0 ∷ []) $ fjoin ! $ fpack ! (List Val) (λ us. fsep (cellAt fullShare (R .mir) us l 0) (R .own h us)) (of-offset h ∷ []) $ done !
+      owned ! R (Is R) (LL.makes T.the-type T′.the-plain 𝓤 H A) h _ h-is $ move ! (1 ∷ 0 ∷ []) $ fjoin ! $
+      fpack ! (List Val) (λ us. fsep (cellAt fullShare (R .mir) us l 0) (R .own h us)) (of-offset h ∷ []) $ done !
 
   lay : ent 𝓤 (sem 𝓤 H A (mem R .lies h l 0)) (sep 𝓤 (sem 𝓤 H A (fat fullShare T′.mir l 0 (of-offset h))) (sem 𝓤 H A (R .own h (of-offset h ∷ []))))
   unfolding partOf
@@ -151,7 +154,8 @@ module _ {M : Type 1} (𝓤 : URA M) (H : Heap 𝓤) (A : Atoms 𝓤) (W : Given
       qed W (‵ (mem R .lies h l 0) ∷ []) ∵ fpick ! (λ vs. fsplit ! $ spelt ! R (Is R) (shows 𝓤 H A R) (LL.vals T.the-type T′.the-laws) (LL.tells T.the-type T′.the-laws) fullShare h vs l 0 $
       use1 W (‵ (fat fullShare T′.mir l 0 (of-offset h))) (W .laws .raw-at fullShare T′.mir l 0 (of-offset h)) $ frame ! $ done !)
 
-module _ {M : Type 1} (𝓤 : URA M) (H : Heap 𝓤) (A : Atoms 𝓤) (W : Given 𝓤 H A) (at-mem : Memory → SProp 𝓤) (run : Routine → Fun 𝓤) (κ₀ κ₁ κ₂ : Lft) (q₀ q₁ q₂ : Share) (x : RefT (List ℕ)) (ts : List Oversampling) (t-is : Is Table ts (table-vals ts)) (m : ℕ) (m-fits : m < 2 ^ 64)
+module _ {M : Type 1} (𝓤 : URA M) (H : Heap 𝓤) (A : Atoms 𝓤) (W : Given 𝓤 H A) (at-mem : Memory → SProp 𝓤) (run : Routine → Fun 𝓤) (κ₀ κ₁ κ₂ : Lft) (q₀ q₁ q₂ : Share) (x : RefT (List ℕ))
+    (ts : List Oversampling) (t-is : Is Table ts (table-vals ts)) (m : ℕ) (m-fits : m < 2 ^ 64)
     (y z : RefT (List ℕ)) (at : Start) (at-is : Is P.the-row at (of-place at ∷ [])) (d : PdoDirection) (d-is : Is D.the-row d (of-direction d ∷ [])) where
   -- where the pass begins
   abbrev h : PdiOffset
@@ -220,7 +224,8 @@ module _ {M : Type 1} (𝓤 : URA M) (H : Heap 𝓤) (A : Atoms 𝓤) (W : Given
 
   goes-least : ent 𝓤 (sem 𝓤 H A ftrue) (Least 𝓤 H A at-mem run .pre to-least)
   goes-least =
-      qed W (‵ ftrue ∷ []) ∵ nothing ! $ owned ! usize (Is usize) (uint-makes 𝓤 H A W w64) 256 _ (refl, lit< tt) $ fjoin ! $ owned ! usize (Is usize) (uint-makes 𝓤 H A W w64) m _ (refl, m-fits) $ fjoin ! $
+      qed W (‵ ftrue ∷ []) ∵ nothing ! $ owned ! usize (Is usize) (uint-makes 𝓤 H A W w64) 256 _ (refl, lit< tt) $ fjoin ! $
+      owned ! usize (Is usize) (uint-makes 𝓤 H A W w64) m _ (refl, m-fits) $ fjoin ! $
       move ! (1 ∷ 0 ∷ []) $ join ! $ frame ! $ done !
 
   said-least : (n : ℕ) → ent 𝓤 (ensured 𝓤 H A least.ended (least.clauses 𝓤 H A at-mem run) tt (m, (256, tt)) tt n) (fact 𝓤 (n ≡ min m 256))
@@ -235,7 +240,35 @@ module _ {M : Type 1} (𝓤 : URA M) (H : Heap 𝓤) (A : Atoms 𝓤) (W : Given
     over = (κ₀, (ν ∷ [], (κ₁, (κ₂, (μ ∷ [], tt)))))
 
     abbrev to-fmmus : Fmmus 𝓤 H A at-mem run .Ghost
-    to-fmmus = ((over, (q₀, (fullShare, (q₁, (q₂, (fullShare, tt))))), tt, given-to, (v ∷ [], (sliceVal (i, 0) (length ys) ∷ [], (s ∷ [], (w ∷ [], (vptr j 0 ∷ [], (vint w32 k ∷ [], (of-direction d ∷ [], tt)))))))), tt)
+    to-fmmus = (
+      (
+        over,
+        (q₀, (fullShare, (q₁, (q₂, (fullShare, tt))))),
+        tt,
+        given-to,
+        (
+          v ∷ [],
+          (
+            sliceVal (i, 0) (length ys) ∷ [],
+            (
+              s ∷ [],
+              (
+                w ∷ [],
+                (
+                  vptr j 0 ∷ [],
+                  (
+                    vint w32 k
+                        ∷ [],
+                    (of-direction d ∷ [], tt),
+                  ),
+                ),
+              ),
+            ),
+          ),
+        ),
+      ),
+      tt,
+    )
 
     -- what the two locals' references own
     abbrev F : Fml
@@ -249,9 +282,12 @@ module _ {M : Type 1} (𝓤 : URA M) (H : Heap 𝓤) (A : Atoms 𝓤) (W : Given
 
     goes-fmmus : ent 𝓤 (⋆ 𝓤 H A asked) (Fmmus 𝓤 H A at-mem run .pre to-fmmus)
     goes-fmmus =
-        qed W asked ∵ move ! (0 ∷ []) $ split ! $ move ! (1 ∷ []) $ split ! $ move ! (1 ∷ []) $ split ! $ move ! (1 ∷ []) $ split ! $ move ! (5 ∷ []) $ split ! $ move ! (1 ∷ []) $ split ! $ move ! (1 ∷ []) $ split ! $ move ! (1 ∷ []) $
-        split ! $ nothing ! $ owned ! D.the-row (Is D.the-row) (EL.makes D.the-type D′.the-plain 𝓤 H A) d _ d-is $ fjoin ! $ owned ! u32 (Is u32) (uint-makes 𝓤 H A W w32) k _ (refl, k-fits) $ fjoin ! $ move ! (2 ∷ 0 ∷ []) $ fjoin ! $
-        move ! (1 ∷ 0 ∷ []) $ fjoin ! $ move ! (1 ∷ 0 ∷ []) $ fjoin ! $ move ! (1 ∷ 0 ∷ []) $ fjoin ! $ move ! (1 ∷ 0 ∷ []) $ fjoin ! $ nothing ! $ move ! (3 ∷ 0 ∷ []) $ join ! $ move ! (2 ∷ 0 ∷ []) $ join ! $ move ! (2 ∷ 0 ∷ []) $
+        qed W asked ∵ move ! (0 ∷ []) $ split ! $ move ! (1 ∷ []) $ split ! $ move ! (1 ∷ []) $ split ! $ move ! (1 ∷ []) $ split ! $ move ! (5 ∷ []) $ split ! $ move ! (1 ∷ []) $ split ! $
+        move ! (1 ∷ []) $ split ! $ move ! (1 ∷ []) $
+        split ! $ nothing ! $ owned ! D.the-row (Is D.the-row) (EL.makes D.the-type D′.the-plain 𝓤 H A) d _ d-is $ fjoin ! $ owned ! u32 (Is u32) (uint-makes 𝓤 H A W w32) k _ (refl, k-fits) $
+        fjoin ! $ move ! (2 ∷ 0 ∷ []) $ fjoin ! $
+        move ! (1 ∷ 0 ∷ []) $ fjoin ! $ move ! (1 ∷ 0 ∷ []) $ fjoin ! $ move ! (1 ∷ 0 ∷ []) $ fjoin ! $ move ! (1 ∷ 0 ∷ []) $ fjoin ! $ nothing ! $ move ! (3 ∷ 0 ∷ []) $ join ! $
+        move ! (2 ∷ 0 ∷ []) $ join ! $ move ! (2 ∷ 0 ∷ []) $
         join ! $ move ! (2 ∷ 0 ∷ []) $ join ! $ move ! (2 ∷ 0 ∷ []) $ join ! $ move ! (0 ∷ 1 ∷ []) $ join ! $ frame ! $ done !
 
   -- what the callee says
@@ -265,75 +301,131 @@ module _ {M : Type 1} (𝓤 : URA M) (H : Heap 𝓤) (A : Atoms 𝓤) (W : Given
   exits : (r : Passed) (fs cs : List ℕ) → length fs ≡ length (y .now) → length cs ≡ length (z .now) → Is S.the-row r (of-passed r ∷ []) → ent 𝓤 (⋆ 𝓤 H A (left-with fs cs)) (Post (of-passed r))
   exits r fs cs lf lc r-is =
       qed W (left-with fs cs) ∵
-      suffices ! _ (ends-at 𝓤 H A it.ended stayed (it.clauses 𝓤 H A at-mem run) W (((κ₀, (κ₁, (κ₂, tt))), (q₀, (q₁, (q₂, tt))), tt, a, vals), tt) (of-passed r) r (tt, (tt, (tt, (fs, (cs, (tt, (tt, tt))))))) (tt, (tt, (tt, (lf, (lc, (tt, (tt, tt)))))))) $
+      suffices ! _ (ends-at 𝓤 H A it.ended stayed (it.clauses 𝓤 H A at-mem run) W (((κ₀, (κ₁, (κ₂, tt))), (q₀, (q₁, (q₂, tt))), tt, a, vals), tt) (of-passed r) r (
+        tt,
+        (
+          tt,
+          (
+            tt,
+            (
+              fs,
+              (
+                cs,
+                (
+                  tt,
+                  (tt, tt),
+                ),
+              ),
+            ),
+          ),
+        ),
+      ) (tt, (tt, (tt, (lf, (lc, (tt, (tt, tt)))))))) $
       silent ! $
-      nothing ! $ move ! (3 ∷ 0 ∷ []) $ join ! $ move ! (2 ∷ 0 ∷ []) $ join ! $ move ! (1 ∷ 0 ∷ []) $ join ! $ frame ! $ nothing ! $ owned ! D.the-row (Is D.the-row) (EL.makes D.the-type D′.the-plain 𝓤 H A) d _ d-is $ fjoin ! $
-      owned ! P.the-row (Is P.the-row) (LL.makes P.the-type P′.the-plain 𝓤 H A) at _ at-is $ fjoin ! $ move ! (2 ∷ 0 ∷ []) $ fjoin ! $ move ! (1 ∷ 0 ∷ []) $ fjoin ! $ owned ! usize (Is usize) (uint-makes 𝓤 H A W w64) m _ (refl, m-fits) $
+      nothing ! $ move ! (3 ∷ 0 ∷ []) $ join ! $ move ! (2 ∷ 0 ∷ []) $ join ! $ move ! (1 ∷ 0 ∷ []) $ join ! $ frame ! $ nothing ! $
+      owned ! D.the-row (Is D.the-row) (EL.makes D.the-type D′.the-plain 𝓤 H A) d _ d-is $ fjoin ! $
+      owned ! P.the-row (Is P.the-row) (LL.makes P.the-type P′.the-plain 𝓤 H A) at _ at-is $ fjoin ! $ move ! (2 ∷ 0 ∷ []) $ fjoin ! $ move ! (1 ∷ 0 ∷ []) $ fjoin ! $
+      owned ! usize (Is usize) (uint-makes 𝓤 H A W w64) m _ (refl, m-fits) $
       fjoin ! $ nothing ! $ fjoin ! $ move ! (1 ∷ 0 ∷ []) $ fjoin ! $ owned ! S.the-row (Is S.the-row) (LL.makes S.the-type S′.the-plain 𝓤 H A) r _ r-is $ move ! (1 ∷ 0 ∷ []) $ done !
 
   module _ (C : Calls 𝓤 H) (Λ : Loops 𝓤 H) (fm : FmC 𝓤 H (W .laws) C) (known-least : Triple 𝓤 (C #least) (Least 𝓤 H A at-mem run)) (known-fmmus : Triple 𝓤 (C #fmmus) (Fmmus 𝓤 H A at-mem run)) where
     walk : Is (ShrSlice (named 0) κ₀ u8) x (v ∷ []) → Room u8 (length (y .now)) → Room u8 (length (z .now))
         → ent 𝓤 (onEntry 𝓤 H A it.signature (κ₀, (κ₁, (κ₂, tt))) (q₀, (q₁, (q₂, tt))) a vals) (WpFn 𝓤 H C Λ code.function machine Post)
     walk px room-y room-z =
-        qed W ((‵ (flft κ₀ q₀) ⊛ ‵ (flft κ₁ q₁) ⊛ ‵ (flft κ₂ q₂) ⊛ ‵ ftrue) ∷ ‵ (owns (ShrSlice (named 0) κ₀ u8 ∷ Table ∷ usize ∷ MutSlice (named 1) κ₁ u8 ∷ MutSlice (named 2) κ₂ u8 ∷ P.the-row ∷ D.the-row ∷ []) a vals) ∷ []) ∵ enter ! C Λ code.function machine _ $
-        alloc1 ! (λ l₀. alloc1 ! (λ l₁. alloc1 ! (λ l₂. alloc1 ! (λ l₃. alloc1 ! (λ l₄. alloc1 ! (λ l₅. alloc1 ! (λ l₆. alloc1 ! (λ l₇. alloc1 ! (λ l₈. alloc1 ! (λ l₉. alloc1 ! (λ l₁₀. alloc1 ! (λ l₁₁. alloc1 ! (λ l₁₂. alloc1 ! (λ l₁₃.
-        alloc1 ! (λ l₁₄. alloc1 ! (λ l₁₅. alloc1 ! (λ l₁₆. alloc1 ! (λ l₁₇. alloc1 ! (λ l₁₈. alloc1 ! (λ l₁₉. alloc0 ! $ params1 ! $ pass1 ! (init ! 36 refl (shr-slice-lawful 𝓤 H A W (named 0) κ₀ u8 .typed x (v ∷ []) px .0)) $
+        qed W ((‵ (flft κ₀ q₀) ⊛ ‵ (flft κ₁ q₁) ⊛ ‵ (flft κ₂ q₂) ⊛ ‵ ftrue) ∷ ‵ (owns (ShrSlice (named 0) κ₀ u8 ∷ Table ∷ usize ∷ MutSlice (named 1) κ₁ u8 ∷ MutSlice (named 2) κ₂ u8 ∷ P.the-row
+        ∷ D.the-row ∷ []) a vals) ∷ []) ∵ enter ! C Λ code.function machine _ $
+        alloc1 ! (λ l₀. alloc1 ! (λ l₁. alloc1 ! (λ l₂. alloc1 ! (λ l₃. alloc1 ! (λ l₄. alloc1 ! (λ l₅. alloc1 ! (λ l₆. alloc1 ! (λ l₇. alloc1 ! (λ l₈. alloc1 ! (λ l₉. alloc1 ! (λ l₁₀. alloc1 !
+        (λ l₁₁. alloc1 ! (λ l₁₂. alloc1 ! (λ l₁₃.
+        alloc1 ! (λ l₁₄. alloc1 ! (λ l₁₅. alloc1 ! (λ l₁₆. alloc1 ! (λ l₁₇. alloc1 ! (λ l₁₈. alloc1 ! (λ l₁₉. alloc0 ! $ params1 ! $
+        pass1 ! (init ! 36 refl (shr-slice-lawful 𝓤 H A W (named 0) κ₀ u8 .typed x (v ∷ []) px .0)) $
         pass1 ! (init ! 34 refl (array-lawful 𝓤 H A W O.the-row (LL.lawful O.the-type O′.the-laws 𝓤 H A W) 256 .typed ts _ t-is .0)) $ pass1 ! (init ! 32 refl (tt, record { fits = m-fits })) $
         pass1 ! (init ! 30 refl (tt, (tt, (record { fits = room-y .0 }, tt)))) $ pass1 ! (init ! 28 refl (tt, (tt, (record { fits = room-z .0 }, tt)))) $
         pass1 ! (init ! 26 refl (LL.lawful P.the-type P′.the-laws 𝓤 H A W .typed at _ at-is .0)) $ pass1 ! (init ! 24 refl (EL.lawful D.the-type D′.the-laws 𝓤 H A W tt .typed d _ d-is .0)) $ pass0 ! $
-        assigns ! (of-opd ! (load ! (from ! (stop !)) (look ! 34 refl))) (from ! (stop !)) (init ! 22 refl (array-lawful 𝓤 H A W O.the-row (LL.lawful O.the-type O′.the-laws 𝓤 H A W) 256 .typed ts _ t-is .0)) $
+        assigns ! (of-opd ! (load ! (from ! (stop !)) (look ! 34 refl))) (from ! (stop !)) (init ! 22 refl (array-lawful 𝓤 H A W O.the-row
+        (LL.lawful O.the-type O′.the-laws 𝓤 H A W) 256 .typed ts _ t-is .0)) $
         -- `least`
         nothing ! $ use1 W (raw (Least 𝓤 H A at-mem run .pre to-least)) goes-least $
         calls-at ! fm (Least 𝓤 H A at-mem run) known-least to-least (and-then ! (load ! (from ! (stop !)) (look ! 33 refl)) (and-then ! (lit ! tt) (no-more !))) (λ c₁.
-        use1 W (later (some (λ (n : ℕ). (‵ ftrue ⊛ ‵ (usize .own n (c₁ ∷ []))) ⊛ raw (ensured 𝓤 H A least.ended (least.clauses 𝓤 H A at-mem run) tt (m, (256, tt)) tt n)))) (id⊢ 𝓤 _) $ await ! tt $ pick ! (λ n. split ! $ move ! (1 ∷ []) $
+        use1 W (later (some (λ (n : ℕ). (‵ ftrue ⊛ ‵ (usize .own n (c₁ ∷ []))) ⊛ raw (ensured 𝓤 H A least.ended (least.clauses 𝓤 H A at-mem run) tt (m, (256, tt)) tt n)))) (id⊢ 𝓤 _) $
+        await ! tt $ pick ! (λ n. split ! $ move ! (1 ∷ []) $
         use1 W (raw (fact 𝓤 (n ≡ min m 256))) (said-least n) $ heard ! (n ≡ min m 256) (λ e₁. split ! $ move ! (1 ∷ []) $ peeks ! usize (Is usize) (shows 𝓤 H A usize) n (c₁ ∷ []) (λ is₁.
-        land ! (from ! (stop !)) (init ! 22 refl (uint-lawful 𝓤 H A W w64 .typed n _ is₁ .0)) $ rewrite ! 22 (λ (c : Val). ‵ (fat fullShare (tyInt w64) l₉ 0 c)) (ap only (is₁ .0) ∙ ap (vint w64) (e₁ ∙ counts)) refl $ drop ! $ drop ! $
+        land ! (from ! (stop !)) (init ! 22 refl (uint-lawful 𝓤 H A W w64 .typed n _ is₁ .0)) $
+        rewrite ! 22 (λ (c : Val). ‵ (fat fullShare (tyInt w64) l₉ 0 c)) (ap only (is₁ .0) ∙ ap (vint w64) (e₁ ∙ counts)) refl $ drop ! $ drop ! $
         -- the offset's local, and what is passed on
-        assigns ! (of-opd ! (load ! (from ! (fld ! refl (stop !))) (look-in ! 26 (sub ! 0 refl (whole !))))) (from ! (stop !)) (init ! 18 refl (LL.lawful T.the-type T′.the-laws 𝓤 H A W .typed h _ h-is .0)) $
+        assigns ! (of-opd ! (load ! (from ! (fld ! refl (stop !))) (look-in ! 26 (sub ! 0 refl (whole !))))) (from ! (stop !)) (init ! 18 refl
+        (LL.lawful T.the-type T′.the-laws 𝓤 H A W .typed h _ h-is .0)) $
         assigns ! (addr ! (from ! (stop !))) (from ! (stop !)) (init ! 14 refl (tt, tt)) $
-        assigns ! (agg ! (and-then ! (load ! (from ! (stop !)) (look ! 14 refl)) (and-then ! (load ! (from ! (stop !)) (look ! 20 refl)) (no-more !)))) (from ! (stop !)) (init ! 12 refl (tt, (tt, (record { fits = room .0 }, tt)))) $
+        assigns ! (agg ! (and-then ! (load ! (from ! (stop !)) (look ! 14 refl)) (and-then ! (load ! (from ! (stop !)) (look ! 20 refl)) (no-more !)))) (from ! (stop !)) (init ! 12 refl (
+          tt,
+          (tt, (record { fits = room .0 }, tt)),
+        )) $
         assigns ! (addr ! (from ! (fld ! refl (hop ! (look-in ! 30 (sub ! 0 refl (whole !))) (stop !))))) (from ! (stop !)) (init ! 10 refl (tt, tt)) $
-        assigns ! (agg ! (and-then ! (load ! (from ! (stop !)) (look ! 10 refl)) (and-then ! (load ! (from ! (fld ! refl (stop !))) (look-in ! 30 (sub ! 1 refl (whole !)))) (no-more !)))) (from ! (stop !)) (init ! 8 refl (tt, (tt, (record { fits = room-y .0 }, tt)))) $
+        assigns ! (agg ! (and-then ! (load ! (from ! (stop !)) (look ! 10 refl)) (and-then ! (load ! (from ! (fld ! refl (stop !))) (look-in ! 30 (sub ! 1 refl (whole !)))) (no-more !))))
+        (from ! (stop !)) (init ! 8 refl (tt, (tt, (record { fits = room-y .0 }, tt)))) $
         assigns ! (addr ! (from ! (fld ! refl (hop ! (look-in ! 28 (sub ! 0 refl (whole !))) (stop !))))) (from ! (stop !)) (init ! 6 refl (tt, tt)) $
-        assigns ! (agg ! (and-then ! (load ! (from ! (stop !)) (look ! 6 refl)) (and-then ! (load ! (from ! (fld ! refl (stop !))) (look-in ! 28 (sub ! 1 refl (whole !)))) (no-more !)))) (from ! (stop !)) (init ! 4 refl (tt, (tt, (record { fits = room-z .0 }, tt)))) $
+        assigns ! (agg ! (and-then ! (load ! (from ! (stop !)) (look ! 6 refl)) (and-then ! (load ! (from ! (fld ! refl (stop !))) (look-in ! 28 (sub ! 1 refl (whole !)))) (no-more !)))) (from !
+        (stop !)) (init ! 4 refl (tt, (tt, (record { fits = room-z .0 }, tt)))) $
         assigns ! (addr ! (from ! (stop !))) (from ! (stop !)) (init ! 2 refl (tt, tt)) $
         -- what the parameters own, and the tokens, are taken apart
-        move ! (41 ∷ []) $ fsplit ! $ move ! (1 ∷ []) $ fsplit ! $ drop ! $ fsplit ! $ drop ! $ fsplit ! $ move ! (1 ∷ []) $ fsplit ! $ move ! (1 ∷ []) $ drop ! $ move ! (43 ∷ []) $ split ! $ move ! (1 ∷ []) $ split ! $ move ! (1 ∷ []) $
+        move ! (41 ∷ []) $ fsplit ! $ move ! (1 ∷ []) $ fsplit ! $ drop ! $ fsplit ! $ drop ! $ fsplit ! $ move ! (1 ∷ []) $ fsplit ! $ move ! (1 ∷ []) $ drop ! $ move ! (43 ∷ []) $ split ! $
+        move ! (1 ∷ []) $ split ! $ move ! (1 ∷ []) $
         split ! $ move ! (6 ∷ []) $ use1 W (‵ X ⊛ ‵ X) (shr-slice-copy 𝓤 H A W (named 0) κ₀ u8 .twice x (v ∷ [])) $ split ! $
         -- the table's front is lent for a lifetime ν of the call, and the offset for μ
         owned ! Table (Is Table) (array-makes 𝓤 H A W O.the-row (LL.makes O.the-type O′.the-plain 𝓤 H A) 256) ts _ t-is $ lft-new ! tt (λ ν. move ! (32 ∷ 1 ∷ []) $
-        use2 W (later (some (λ (γ : GName). ‵ (given-front 𝓤 H A W O.the-row m ts l₈ (named 1) (ν ∷ []) γ) ⊛ (‵ (flent (ν ∷ []) (lent-front 𝓤 H A W O.the-row m ts l₈)) ⊛ ‵ (kept 𝓤 H A W O.the-row m ts l₈))))) (lends-front 𝓤 H A W O.the-row m ts l₈ 256 (named 1) (ν ∷ []) tt room (of-table ts)) $ await ! tt $ pick ! (λ γ.
+        use2 W (later (some (λ (γ : GName). ‵ (given-front 𝓤 H A W O.the-row m ts l₈ (named 1) (ν ∷ []) γ) ⊛ (‵ (flent (ν
+        ∷ []) (lent-front 𝓤 H A W O.the-row m ts l₈)) ⊛ ‵ (kept 𝓤 H A W O.the-row m ts l₈))))) (lends-front 𝓤 H A W O.the-row m ts l₈ 256 (named 1) (ν ∷ []) tt room (of-table ts)) $ await ! tt $
+        pick ! (λ γ.
         move ! (0 ∷ []) $ split ! $ move ! (1 ∷ []) $ split ! $ move ! (30 ∷ []) $ use1 W (‵ (mem R .lies h l₁₀ 0)) (lies 𝓤 H A W l₁₀ h h-is) $ lft-new ! tt (λ μ. move ! (1 ∷ []) $
-        use1 W (later (some (λ (δ : GName). ‵ (MutRef (named 4) (μ ∷ []) R .own (record { ptr = (l₁₀, 0); name = δ; now = h }) (vptr l₁₀ 0 ∷ [])) ⊛ ‵ (flent (μ ∷ []) (Body (mem R) l₁₀ 0 δ))))) (lends-ref 𝓤 H A W R (named 4) (μ ∷ []) h l₁₀ 0) $ await ! tt $ pick ! (λ δ.
+        use1 W (later (some (λ (δ : GName). ‵ (MutRef (named 4) (μ ∷ []) R .own (record { ptr = (l₁₀, 0); name = δ; now = h }) (vptr l₁₀ 0 ∷ [])) ⊛ ‵ (flent (μ
+        ∷ []) (Body (mem R) l₁₀ 0 δ))))) (lends-ref 𝓤 H A W R (named 4) (μ ∷ []) h l₁₀ 0) $ await ! tt $ pick ! (λ δ.
         split ! $
         -- `configure_fmmus`
-        move ! (13 ∷ 0 ∷ []) $ join ! $ move ! (13 ∷ 0 ∷ []) $ join ! $ move ! (5 ∷ 0 ∷ []) $ join ! $ move ! (7 ∷ 0 ∷ []) $ join ! $ move ! (7 ∷ 2 ∷ []) $ join ! $ move ! (8 ∷ 0 ∷ []) $ join ! $ move ! (5 ∷ 0 ∷ []) $ join ! $
+        move ! (13 ∷ 0 ∷ []) $ join ! $ move ! (13 ∷ 0 ∷ []) $ join ! $ move ! (5 ∷ 0 ∷ []) $ join ! $ move ! (7 ∷ 0 ∷ []) $ join ! $ move ! (7 ∷ 2 ∷ []) $ join ! $ move ! (8 ∷ 0 ∷ []) $
+        join ! $ move ! (5 ∷ 0 ∷ []) $ join ! $
         move ! (7 ∷ 0 ∷ []) $ join ! $ move ! (0 ∷ 1 ∷ []) $ use2 W (raw (Fmmus 𝓤 H A at-mem run .pre (to-fmmus ν μ l₈ l₁₀ γ δ))) (goes-fmmus ν μ l₈ l₁₀ γ δ) $
-        calls-at ! fm (Fmmus 𝓤 H A at-mem run) known-fmmus (to-fmmus ν μ l₈ l₁₀ γ δ) (and-then ! (load ! (from ! (stop !)) (look ! 40 refl)) (and-then ! (load ! (from ! (stop !)) (look ! 18 refl)) (and-then ! (load ! (from ! (stop !)) (look ! 14 refl)) (and-then ! (load ! (from ! (stop !)) (look ! 10 refl)) (and-then ! (load ! (from ! (stop !)) (look ! 8 refl)) (and-then ! (load ! (from ! (fld ! refl (stop !))) (look-in ! 30 (sub ! 1 refl (whole !)))) (and-then ! (load ! (from ! (stop !)) (look ! 28 refl)) (no-more !)))))))) (λ c₂.
-        use1 W (later (some (λ (r : Placed). ((‵ (flft κ₀ q₀) ⊛ ‵ (flft (ν ∷ []) fullShare) ⊛ ‵ (flft κ₁ q₁) ⊛ ‵ (flft κ₂ q₂) ⊛ ‵ (flft (μ ∷ []) fullShare) ⊛ ‵ ftrue) ⊛ ‵ (Q.the-row .own r (c₂ ∷ []))) ⊛ raw (ensured 𝓤 H A fmmus.ended (fmmus.clauses 𝓤 H A at-mem run) (over ν μ l₈ l₁₀ γ δ) (given-to ν μ l₈ l₁₀ γ δ) tt r)))) (id⊢ 𝓤 _) $ await ! tt $ pick ! (λ r.
+        calls-at ! fm (Fmmus 𝓤 H A at-mem run) known-fmmus (to-fmmus ν μ l₈ l₁₀ γ δ) (and-then ! (load ! (from ! (stop !)) (look ! 40 refl)) (and-then ! (load ! (from ! (stop !))
+        (look ! 18 refl)) (and-then ! (load ! (from ! (stop !)) (look ! 14 refl)) (and-then ! (load ! (from ! (stop !)) (look ! 10 refl)) (and-then ! (load ! (from ! (stop !)) (look ! 8 refl))
+        (and-then ! (load ! (from ! (fld ! refl (stop !))) (look-in ! 30 (sub ! 1 refl (whole !)))) (and-then ! (load ! (from ! (stop !)) (look ! 28 refl)) (no-more !)))))))) (λ c₂.
+        use1 W (later (some (λ (r : Placed). ((‵ (flft κ₀ q₀) ⊛ ‵ (flft (ν ∷ []) fullShare) ⊛ ‵ (flft κ₁ q₁) ⊛ ‵ (flft κ₂ q₂) ⊛ ‵ (flft (μ ∷ []) fullShare) ⊛ ‵ ftrue) ⊛ ‵ (Q.the-row .own r (c₂
+        ∷ []))) ⊛ raw (ensured 𝓤 H A fmmus.ended (fmmus.clauses 𝓤 H A at-mem run) (over ν μ l₈ l₁₀ γ δ) (given-to ν μ l₈ l₁₀ γ δ) tt r)))) (id⊢ 𝓤 _) $ await ! tt $ pick ! (λ r.
         split ! $ move ! (1 ∷ []) $
-        use1 W (some (λ (zs : Unit {0} × (Unit {0} × (List ℕ × (List ℕ × (PdiOffset × (Unit {0} × (Unit {0} × Unit {0}))))))). ‵ (lasts fmmus.ended (over ν μ l₈ l₁₀ γ δ) (given-to ν μ l₈ l₁₀ γ δ) zs) ⊛ raw (fact 𝓤 (Said r (zs .1 .1 .1 .1 .0) (zs .1 .1 .0) (zs .1 .1 .1 .0))))) (id⊢ 𝓤 _) $ pick ! (λ zs.
+        use1 W (some (λ (zs : Unit {0} × (Unit {0} × (List ℕ × (List ℕ × (PdiOffset × (Unit {0} × (Unit {0} × Unit {0}))))))). ‵ (lasts fmmus.ended (over ν μ l₈ l₁₀ γ δ)
+        (given-to ν μ l₈ l₁₀ γ δ) zs) ⊛ raw (fact 𝓤 (Said r (zs .1 .1 .1 .1 .0) (zs .1 .1 .0) (zs .1 .1 .1 .0))))) (id⊢ 𝓤 _) $ pick ! (λ zs.
         split ! $ move ! (1 ∷ []) $ drop ! $ fsplit ! $ drop ! $ fsplit ! $ drop ! $ fsplit ! $ fsplit ! $ move ! (1 ∷ []) $ feqL ! (λ lf. move ! (1 ∷ []) $ fsplit ! $
-        fsplit ! $ move ! (1 ∷ []) $ feqL ! (λ lc. move ! (1 ∷ []) $ fsplit ! $ move ! (4 ∷ []) $ split ! $ move ! (1 ∷ []) $ peeks ! Q.the-row (Is Q.the-row) (shows 𝓤 H A Q.the-row) r (c₂ ∷ []) (λ is₂.
-        land ! (from ! (stop !)) (init ! 27 refl (EL.lawful Q.the-type Q′.the-laws 𝓤 H A W tt .typed r _ is₂ .0)) $ rewrite ! 27 (λ (c : Val). ‵ (fat fullShare Q′.mir l₁₁ 0 c)) (ap only (EL.tells Q.the-type Q′.the-laws r _ is₂)) refl $
+        fsplit ! $ move ! (1 ∷ []) $ feqL ! (λ lc. move ! (1 ∷ []) $ fsplit ! $ move ! (4 ∷ []) $ split ! $ move ! (1 ∷ []) $
+        peeks ! Q.the-row (Is Q.the-row) (shows 𝓤 H A Q.the-row) r (c₂ ∷ []) (λ is₂.
+        land ! (from ! (stop !)) (init ! 27 refl (EL.lawful Q.the-type Q′.the-laws 𝓤 H A W tt .typed r _ is₂ .0)) $
+        rewrite ! 27 (λ (c : Val). ‵ (fat fullShare Q′.mir l₁₁ 0 c)) (ap only (EL.tells Q.the-type Q′.the-laws r _ is₂)) refl $
         drop ! $
         -- both lifetimes end, and both locals are back
-        move ! (0 ∷ []) $ split ! $ move ! (1 ∷ []) $ split ! $ move ! (1 ∷ []) $ split ! $ move ! (1 ∷ []) $ split ! $ move ! (1 ∷ []) $ split ! $ move ! (4 ∷ []) $ lft-end ! tt $ move ! (0 ∷ 11 ∷ 12 ∷ []) $
-        use3 W (later (‵ (fat fullShare (tyArray (lone (O.the-row .mir)) 256) l₈ 0 (of-table ts)) ⊛ ‵ (Table .own ts (table-vals ts)))) (front-back 𝓤 H A W O.the-row m ts l₈ 256 (named 1) (ν ∷ []) (LL.vals O.the-type O′.the-laws) (LL.tells O.the-type O′.the-laws) long) $ await ! tt $
-        split ! $ move ! (2 ∷ []) $ lft-end ! tt $ move ! (0 ∷ 11 ∷ 7 ∷ []) $ use3 W (later (‵ (mem R .lies (zs .1 .1 .1 .1 .0) l₁₀ 0))) (ref-back 𝓤 H A W R (μ ∷ []) δ (zs .1 .1 .1 .1 .0) l₁₀ 0) $ await ! tt $
-        use1 W (‵ (fat fullShare T′.mir l₁₀ 0 (of-offset (zs .1 .1 .1 .1 .0))) ⊛ ‵ (R .own (zs .1 .1 .1 .1 .0) (of-offset (zs .1 .1 .1 .1 .0) ∷ []))) (lay 𝓤 H A W l₁₀ (zs .1 .1 .1 .1 .0)) $ split ! $ move ! (1 ∷ []) $
+        move ! (0 ∷ []) $ split ! $ move ! (1 ∷ []) $ split ! $ move ! (1 ∷ []) $ split ! $ move ! (1 ∷ []) $ split ! $ move ! (1 ∷ []) $ split ! $ move ! (4 ∷ []) $ lft-end ! tt $
+        move ! (0 ∷ 11 ∷ 12 ∷ []) $
+        use3 W (later (‵ (fat fullShare (tyArray (lone (O.the-row .mir)) 256) l₈ 0 (of-table ts)) ⊛ ‵ (Table .own ts (table-vals ts)))) (front-back 𝓤 H A W O.the-row m ts l₈ 256 (named 1) (ν
+        ∷ []) (LL.vals O.the-type O′.the-laws) (LL.tells O.the-type O′.the-laws) long) $ await ! tt $
+        split ! $ move ! (2 ∷ []) $ lft-end ! tt $ move ! (0 ∷ 11 ∷ 7 ∷ []) $ use3 W (later (‵ (mem R .lies (zs .1 .1 .1 .1 .0) l₁₀ 0))) (ref-back 𝓤 H A W R (μ
+        ∷ []) δ (zs .1 .1 .1 .1 .0) l₁₀ 0) $ await ! tt $
+        use1 W (‵ (fat fullShare T′.mir l₁₀ 0 (of-offset (zs .1 .1 .1 .1 .0))) ⊛ ‵ (R .own (zs .1 .1 .1 .1 .0) (of-offset (zs .1 .1 .1 .1 .0) ∷ []))) (lay 𝓤 H A W l₁₀ (zs .1 .1 .1 .1 .0)) $
+        split ! $ move ! (1 ∷ []) $
         peeks ! R (Is R) (shows 𝓤 H A R) (zs .1 .1 .1 .1 .0) (of-offset (zs .1 .1 .1 .1 .0) ∷ []) (λ g.
         assigns ! (of-opd ! (load ! (from ! (stop !)) (look ! 1 refl))) (from ! (stop !)) (init ! 13 refl (LL.lawful T.the-type T′.the-laws 𝓤 H A W .typed (zs .1 .1 .1 .1 .0) _ g .0)) $
-        assigns ! (agg ! (and-then ! (load ! (from ! (stop !)) (look ! 29 refl)) (and-then ! (load ! (from ! (stop !)) (look ! 13 refl)) (no-more !)))) (from ! (stop !)) (init ! 49 refl (LL.lawful S.the-type S′.the-laws 𝓤 H A W .typed (record { answer = r; next = zs .1 .1 .1 .1 .0 }) _ (LL.owes S.the-type S′.the-laws (record { answer = r; next = zs .1 .1 .1 .1 .0 }) (EL.owes Q.the-type Q′.the-laws r (EL.owed Q.the-type Q′.the-laws r _ is₂), (g, tt))) .0)) $
-        returns ! (look ! 49 refl) $ forget ! 13 refl $ forget ! 15 refl $ forget ! 17 refl $ forget ! 19 refl $ forget ! 21 refl $ forget ! 23 refl $ forget ! 25 refl $ forget ! 27 refl $ forget ! 29 refl $ forget ! 1 refl $
-        forget ! 32 refl $ forget ! 2 refl $ forget ! 35 refl $ forget ! 37 refl $ forget ! 39 refl $ forget ! 41 refl $ forget ! 43 refl $ forget ! 45 refl $ forget ! 47 refl $ forget ! 49 refl $ move ! (49 ∷ 50 ∷ []) $ free1 ! $
-        move ! (47 ∷ 48 ∷ []) $ free1 ! $ move ! (45 ∷ 46 ∷ []) $ free1 ! $ move ! (43 ∷ 44 ∷ []) $ free1 ! $ move ! (41 ∷ 42 ∷ []) $ free1 ! $ move ! (39 ∷ 40 ∷ []) $ free1 ! $ move ! (37 ∷ 38 ∷ []) $ free1 ! $ move ! (35 ∷ 36 ∷ []) $
-        free1 ! $ move ! (2 ∷ 34 ∷ []) $ free1 ! $ move ! (31 ∷ 32 ∷ []) $ free1 ! $ move ! (1 ∷ 30 ∷ []) $ free1 ! $ move ! (27 ∷ 28 ∷ []) $ free1 ! $ move ! (25 ∷ 26 ∷ []) $ free1 ! $ move ! (23 ∷ 24 ∷ []) $ free1 ! $
-        move ! (21 ∷ 22 ∷ []) $ free1 ! $ move ! (19 ∷ 20 ∷ []) $ free1 ! $ move ! (17 ∷ 18 ∷ []) $ free1 ! $ move ! (15 ∷ 16 ∷ []) $ free1 ! $ move ! (13 ∷ 14 ∷ []) $ free1 ! $ move ! (11 ∷ 12 ∷ []) $ free1 ! $ free0 ! $
+        assigns ! (agg ! (and-then ! (load ! (from ! (stop !)) (look ! 29 refl)) (and-then ! (load ! (from ! (stop !)) (look ! 13 refl)) (no-more !)))) (from ! (stop !)) (init ! 49 refl
+        (LL.lawful S.the-type S′.the-laws 𝓤 H A W .typed (record { answer = r; next = zs .1 .1 .1 .1 .0 }) _ (LL.owes S.the-type S′.the-laws (record { answer = r; next = zs .1 .1 .1 .1 .0 })
+        (EL.owes Q.the-type Q′.the-laws r (EL.owed Q.the-type Q′.the-laws r _ is₂), (g, tt))) .0)) $
+        returns ! (look ! 49 refl) $ forget ! 13 refl $ forget ! 15 refl $ forget ! 17 refl $ forget ! 19 refl $ forget ! 21 refl $ forget ! 23 refl $ forget ! 25 refl $ forget ! 27 refl $
+        forget ! 29 refl $ forget ! 1 refl $
+        forget ! 32 refl $ forget ! 2 refl $ forget ! 35 refl $ forget ! 37 refl $ forget ! 39 refl $ forget ! 41 refl $ forget ! 43 refl $ forget ! 45 refl $ forget ! 47 refl $
+        forget ! 49 refl $ move ! (49 ∷ 50 ∷ []) $ free1 ! $
+        move ! (47 ∷ 48 ∷ []) $ free1 ! $ move ! (45 ∷ 46 ∷ []) $ free1 ! $ move ! (43 ∷ 44 ∷ []) $ free1 ! $ move ! (41 ∷ 42 ∷ []) $ free1 ! $ move ! (39 ∷ 40 ∷ []) $ free1 ! $
+        move ! (37 ∷ 38 ∷ []) $ free1 ! $ move ! (35 ∷ 36 ∷ []) $
+        free1 ! $ move ! (2 ∷ 34 ∷ []) $ free1 ! $ move ! (31 ∷ 32 ∷ []) $ free1 ! $ move ! (1 ∷ 30 ∷ []) $ free1 ! $ move ! (27 ∷ 28 ∷ []) $ free1 ! $ move ! (25 ∷ 26 ∷ []) $ free1 ! $
+        move ! (23 ∷ 24 ∷ []) $ free1 ! $
+        move ! (21 ∷ 22 ∷ []) $ free1 ! $ move ! (19 ∷ 20 ∷ []) $ free1 ! $ move ! (17 ∷ 18 ∷ []) $ free1 ! $ move ! (15 ∷ 16 ∷ []) $ free1 ! $ move ! (13 ∷ 14 ∷ []) $ free1 ! $
+        move ! (11 ∷ 12 ∷ []) $ free1 ! $ free0 ! $
         keep ! (5 ∷ 4 ∷ 3 ∷ 8 ∷ 7 ∷ 9 ∷ []) $
-        by ! (exits (record { answer = r; next = zs .1 .1 .1 .1 .0 }) (zs .1 .1 .0) (zs .1 .1 .1 .0) lf lc (LL.owes S.the-type S′.the-laws (record { answer = r; next = zs .1 .1 .1 .1 .0 }) (EL.owes Q.the-type Q′.the-laws r (EL.owed Q.the-type Q′.the-laws r _ is₂), (g, tt)))))))))))))))))))))))))))))))))))))))
+        by ! (exits (record { answer = r; next = zs .1 .1 .1 .1 .0 }) (zs .1 .1 .0) (zs .1 .1 .1 .0) lf lc (LL.owes S.the-type S′.the-laws (record { answer = r; next = zs .1 .1 .1 .1 .0 })
+        (EL.owes Q.the-type Q′.the-laws r (EL.owed Q.the-type Q′.the-laws r _ is₂), (g, tt)))))))))))))))))))))))))))))))))))))))
 
-module _ {M : Type 1} (𝓤 : URA M) (H : Heap 𝓤) (A : Atoms 𝓤) (W : Given 𝓤 H A) (at-mem : Memory → SProp 𝓤) (run : Routine → Fun 𝓤) (𝓣 : Tables 𝓤 H) (known-least : Triple 𝓤 (𝓣 .C #least) (Least 𝓤 H A at-mem run)) (known-fmmus : Triple 𝓤 (𝓣 .C #fmmus) (Fmmus 𝓤 H A at-mem run)) where
+module _ {M : Type 1} (𝓤 : URA M) (H : Heap 𝓤) (A : Atoms 𝓤) (W : Given 𝓤 H A) (at-mem : Memory → SProp 𝓤) (run : Routine → Fun 𝓤) (𝓣 : Tables 𝓤 H)
+    (known-least : Triple 𝓤 (𝓣 .C #least) (Least 𝓤 H A at-mem run)) (known-fmmus : Triple 𝓤 (𝓣 .C #fmmus) (Fmmus 𝓤 H A at-mem run)) where
   it-walks : Walks 𝓤 H A it.ended stayed (WpFn 𝓤 H (𝓣 .C) (𝓣 .Λ) code.function) (it.clauses 𝓤 H A at-mem run)
   it-walks = walked 𝓤 H A it.ended stayed (it.clauses 𝓤 H A at-mem run) (WpFn 𝓤 H (𝓣 .C) (𝓣 .Λ) code.function)
       (λ κs. (slice-vals, (table-vals, (uint-vals w64, (slice-vals, (slice-vals, (LL.vals P.the-type P′.the-laws, (EL.vals D.the-type D′.the-laws, tt))))))))
