@@ -37,7 +37,7 @@ class Sheet(NamedTuple):
         return 1 if self.flags & flag else 0
 
     def coe(self):
-        """On CoE: both flags, and a read mailbox of length above 0 (readings of 'Mailbox')."""
+        """On CoE: both flags, and a read mailbox of length above 0."""
         reads = any(manager.usage == MAILBOX_READ for manager in self.managers)
         return bool(self.flags & MAILBOX and self.flags & COE and reads and self.send > 0)
 
