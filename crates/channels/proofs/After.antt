@@ -115,9 +115,6 @@ module _ (f : ℕ → SyncManager → Option ℕ) (k : ℕ) (m : SyncManager) (m
       ∙ rw add-one (ap (λ (x : Option ℕ). channelArea (λ es. channelsAfter f (suc k) rest (written k m x es)) area) (sym e))
       ∙ ap (λ (l : List SyncManager). channelArea (channelsAfter f k l) area) (sym first)
 
-  pub area-skip : (area : List ℕ) → f k m ≡ none → channelArea (channelsAfter f (k + 1) rest) area ≡ channelArea (channelsAfter f k ms) area
-  area-skip area e = ap (channelArea (channelsAfter f (k + 1) rest)) (sym (area-same area)) ∙ area-turn area none e
-
 pub area-end : (f : ℕ → SyncManager → Option ℕ) (k : ℕ) (ms : List SyncManager) (area : List ℕ) → ms ≡ [] → channelArea (channelsAfter f k ms) area ≡ area
 unfolding channelsAfter
 area-end f k ms area e = ap (λ (l : List SyncManager). channelArea (channelsAfter f k l) area) e ∙ area-same area

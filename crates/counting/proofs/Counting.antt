@@ -34,7 +34,8 @@ use Rattle.translation.specs.declared.Reached.{Reached}
 use Rattle.translation.specs.Translate.{within, named, reachedOf}
 use Rattle.counting.specs.declared.Counted.{Counted}
 use Rattle.counting.specs.declared.Counted.the-variants.{Nowhere, In, Refused}
-use Rattle.counting.specs.Count.{Spot, spotAt, spotIn, spotHere, orNext, spotOf, countedOf, earlierOf, LaysOut, count}
+use Rattle.counting.specs.Found.{spotHere, orNext, earlierOf, LaysOut}
+use Rattle.counting.specs.Count.{Spot, spotAt, spotIn, spotOf, countedOf, count}
 
 -- one sync manager: not holding the address, or holding it
 module _ (start size k address a : ℕ) where

@@ -1,6 +1,5 @@
 -- Counting through the sync managers (document 01, 'Counting').
 -- Assumes nothing.
-use mathlib.Core.Path.{_≡_}
 use mathlib.Core.Bool.{cond}
 use mathlib.Core.List.{List, [], _∷_, _++_}
 use mathlib.Core.Option.{Option, none, some}
@@ -11,7 +10,7 @@ use Rattle.pdi.specs.Offset.{pastEnd}
 use Rattle.sheet.specs.Sheet.{sheetRefusals, sheetData}
 use Rattle.pdo.specs.declared.PdoDirection.{PdoDirection}
 use Rattle.pdo.specs.Bits.{Piece, piecesOf}
-use Rattle.passes.specs.Use.{own, total, sizeOf}
+use Rattle.passes.specs.Use.{sizeOf}
 use Rattle.passes.specs.Pass.{wantedRefusals}
 use Rattle.translation.specs.Translate.{within, named, reachedOf}
 use Rattle.counting.specs.declared.Position.{Position}
@@ -33,14 +32,6 @@ unfoldable pub spotIn : ℕ → List Piece → ℕ → Option Spot
 spotIn offset [] a = none
 spotIn offset (p ∷ ps) a =
     cond (within offset (bytesOf (p .bits)) a) (some (spotAt (p .number) (p .address) (a - offset))) (spotIn (offset + bytesOf (p .bits)) ps a)
-
--- as code goes: what one sync manager says of an address, and the first of two
-abbrev pub spotHere : ℕ → ℕ → ℕ → ℕ → ℕ → Option Spot
-spotHere start size number address a = cond (within start size a) (some (spotAt number address (a - start))) none
-
-abbrev pub orNext : Option Spot → Option Spot → Option Spot
-orNext none next = next
-orNext (some s) next = some s
 
 -- the sheet's refusals, those that a pass gives too, then 9
 abbrev pub countRefusals : List ℕ → List ℕ → PdoDirection → ℕ → List Refusal
@@ -71,13 +62,3 @@ abbrev pub countedOf : Counted → Outcome (Option Spot)
 countedOf Nowhere = accepted none
 countedOf (In p) = accepted (some (spotOf p))
 countedOf (Refused n) = refused n
-
-abbrev pub earlierOf : Counted → Counted → Counted
-earlierOf Nowhere next = next
-earlierOf (In p) next = In p
-earlierOf (Refused n) next = Refused n
-
--- the promise of laying pieces out from an offset on: where the last one ends, and where the address lies
-pub record LaysOut (ps : List Piece) (offset a end : ℕ) (found : Counted) : Type 0 where
-  pub ends : end ≡ offset + total (own ps)
-  pub finds : countedOf found ≡ accepted (spotIn offset ps a)

@@ -1,2 +1,3 @@
--- What counting through the sync managers means.
+-- What counting through the sync managers means; what its code goes by.
 pub mod Count
+pub mod Found

@@ -24,6 +24,22 @@ pub fn wrong_length(sheet: &[u8]) -> bool
     16384 < follow
 }
 
+// Where the parts of a sync manager stand in it: start address (2), control, EEPROM enable, usage.
+pub const CONTROL: usize = 2;
+
+pub const ENABLE: usize = 3;
+
+pub const USAGE: usize = 4;
+
+// Where the parts of a PDO stand in it: kind, sync manager number, PDO index (2), count m; then its m bytes.
+pub const PDO_MANAGER: usize = 1;
+
+pub const PDO_INDEX: usize = 2;
+
+pub const PDO_COUNT: usize = 4;
+
+pub const PDO_BYTES: usize = 5;
+
 // 8: how many sync managers; 9: how many FMMU usages; 10: how many PDOs.
 pub fn manager_count(sheet: &[u8]) -> u8
     ensures { λ r. ⌜ r ≡ managerCount (now (sheet .entry)) ⌝ }
@@ -117,18 +133,18 @@ fn pdos_fit(sheet: &[u8], p: usize, at: usize) -> bool
     ensures { λ r. ⌜ r ≡ pdosFit (now (sheet .entry)) p at ⌝ }
 {
     // a head stands whole up to here; a record that ends past the sheet leaves none there, nor an end
-    let last = sheet.len() - 5;
+    let last = sheet.len() - PDO_BYTES;
     let mut left = p;
     let mut place = at;
     while 0 < left {
         if last < place {
             return false;
         }
-        let m = sheet[place + 4];
+        let m = sheet[place + PDO_COUNT];
         if !kind_fits(sheet[place], m) {
             return false;
         }
-        place = place + 5 + wire::wide(m);
+        place = place + PDO_BYTES + wire::wide(m);
         left -= 1;
     }
     place == sheet.len()

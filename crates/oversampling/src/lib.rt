@@ -37,7 +37,10 @@ fn index_at(sheet: &[u8], at: usize) -> u16
     requires { ⌜ at < 2 ^ 32 ⌝ }
     ensures { λ r. ⌜ r ≡ pdoAt (now (sheet .entry)) at .index ⌝ }
 {
-    wire::be16(wire::byte_at(sheet, at + 2), wire::byte_at(sheet, at + 3))
+    wire::be16(
+        wire::byte_at(sheet, at + grammar::PDO_INDEX),
+        wire::byte_at(sheet, at + grammar::PDO_INDEX + 1),
+    )
 }
 
 // Where the next one stands.
@@ -45,7 +48,7 @@ fn next_pdo(sheet: &[u8], at: usize) -> usize
     requires { ⌜ at < 2 ^ 32 ⌝ }
     ensures { λ r. ⌜ (r ≡ nextPdo (now (sheet .entry)) at) × (r ≤ at + 260) ⌝ }
 {
-    at + 5 + wire::wide(wire::byte_at(sheet, at + 4))
+    at + grammar::PDO_BYTES + wire::wide(wire::byte_at(sheet, at + grammar::PDO_COUNT))
 }
 
 // One multiplier for each PDO of a sheet, in its order, over the front of a list.

@@ -83,7 +83,7 @@ fn respond(request: &[u8]) {
     let c = parts::number4(request, 12);
     let times = parts::number4(request, 16);
     begin(c, times);
-    answer(parts::byte_at(request, 0), request, c, times);
+    answer(wire::byte_at(request, 0), request, c, times);
     say::text(b"\n");
 }
 
@@ -105,7 +105,7 @@ fn whole_record(letter: u8, fmmus: u16, channels: u16) -> bool {
 fn sound(head: &[u8]) -> bool {
     let fmmus = parts::number2(head, 24);
     let channels = parts::number2(head, 26);
-    if !whole_record(parts::byte_at(head, 0), fmmus, channels) {
+    if !whole_record(wire::byte_at(head, 0), fmmus, channels) {
         return false;
     }
     fits(

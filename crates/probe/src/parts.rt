@@ -3,27 +3,19 @@ use pdi::PdiOffset;
 use pdo::Oversampling;
 use pdo::PdoDirection;
 
-// The byte at a place, or 0 past the end.
-pub fn byte_at(bytes: &[u8], at: usize) -> u8 {
-    if at < bytes.len() {
-        return bytes[at];
-    }
-    0
-}
-
 // Big-endian numbers of two and four bytes.
 pub fn number2(bytes: &[u8], at: u16) -> u16 {
     let from = at as usize;
-    wire::be16(byte_at(bytes, from), byte_at(bytes, from + 1))
+    wire::be16(wire::byte_at(bytes, from), wire::byte_at(bytes, from + 1))
 }
 
 pub fn number4(bytes: &[u8], at: u16) -> u32 {
     let from = at as usize;
     wire::le32(
-        byte_at(bytes, from + 3),
-        byte_at(bytes, from + 2),
-        byte_at(bytes, from + 1),
-        byte_at(bytes, from),
+        wire::byte_at(bytes, from + 3),
+        wire::byte_at(bytes, from + 2),
+        wire::byte_at(bytes, from + 1),
+        wire::byte_at(bytes, from),
     )
 }
 
@@ -95,7 +87,7 @@ pub fn records(request: &[u8]) -> usize {
 fn record(bytes: &[u8]) -> Oversampling {
     Oversampling {
         pdo_index: number2(bytes, 0),
-        multiplier: byte_at(bytes, 2),
+        multiplier: wire::byte_at(bytes, 2),
     }
 }
 
@@ -116,7 +108,7 @@ pub fn table(request: &[u8]) -> [Oversampling; 256] {
 }
 
 pub fn direction(request: &[u8]) -> PdoDirection {
-    if byte_at(request, 1) == 0 {
+    if wire::byte_at(request, 1) == 0 {
         return PdoDirection::MasterRead;
     }
     PdoDirection::MasterWrite

@@ -18,7 +18,7 @@ use sync_manager_channel::SyncManagerChannel;
 use wire::Written;
 
 fn set(bytes: &[u8], at: usize) -> bool {
-    parts::byte_at(bytes, at) != 0
+    wire::byte_at(bytes, at) != 0
 }
 
 // An FMMU record of fourteen bytes.
@@ -26,10 +26,10 @@ fn fmmu_of(bytes: &[u8]) -> Fmmu {
     Fmmu {
         logical_start_address: parts::number4(bytes, 0),
         length_bytes: ByteLen(parts::number2(bytes, 4)),
-        logical_start_bit: parts::byte_at(bytes, 6),
-        logical_end_bit: parts::byte_at(bytes, 7),
+        logical_start_bit: wire::byte_at(bytes, 6),
+        logical_end_bit: wire::byte_at(bytes, 7),
         physical_start_address: parts::number2(bytes, 8),
-        physical_start_bit: parts::byte_at(bytes, 10),
+        physical_start_bit: wire::byte_at(bytes, 10),
         read_enable: set(bytes, 11),
         write_enable: set(bytes, 12),
         enable: set(bytes, 13),
@@ -63,8 +63,8 @@ fn state_of(number: u8) -> BufferState {
 // A sync manager record of twenty-one bytes, in its parts.
 fn control_of(bytes: &[u8]) -> Control {
     Control {
-        operation_mode: mode_of(parts::byte_at(bytes, 4)),
-        direction: direction_of(parts::byte_at(bytes, 5)),
+        operation_mode: mode_of(wire::byte_at(bytes, 4)),
+        direction: direction_of(wire::byte_at(bytes, 5)),
         ecat_event_enable: set(bytes, 6),
         dls_user_event_enable: set(bytes, 7),
         watchdog_enable: set(bytes, 8),
@@ -76,7 +76,7 @@ fn status_of(bytes: &[u8]) -> Status {
         has_write_event: set(bytes, 9),
         has_read_event: set(bytes, 10),
         mailbox_full: set(bytes, 11),
-        buffer_state: state_of(parts::byte_at(bytes, 12)),
+        buffer_state: state_of(wire::byte_at(bytes, 12)),
         read_buffer_open: set(bytes, 13),
         write_buffer_open: set(bytes, 14),
     }

@@ -65,9 +65,6 @@ module _ (s : List ℕ) where
   unfolding sheetData
   front-count = front-length at-number (managerCount s) 16 ∙ omega arith
 
-  pub front-number : (k : ℕ) (d : SyncManager) → k < managerCount s → k < 16 → getD (managersIn s) k d ≡ managerAt s (managerPlace k)
-  front-number k d h g = getD-take 16 (sheetData s .managers) k d g ∙ manager-number k d h
-
   pub front-manager : (k : ℕ) → k < managerCount s → k < 16 → drop k (managersIn s) ≡ managerAt s (managerPlace k) ∷ drop (k + 1) (managersIn s)
   unfolding sheetData
   front-manager k h g = front-turn at-number (managerCount s) 16 k h g
@@ -87,10 +84,6 @@ module _ (s : List ℕ) where
   pub usage-count : length (sheetData s .usages) ≡ usageCount s
   unfolding sheetData
   usage-count = length-listOf usage-at (usageCount s)
-
-  pub usage-number : (k d : ℕ) → k < usageCount s → getD (sheetData s .usages) k d ≡ getD s (usagesPlace s + k) 0
-  unfolding sheetData
-  usage-number k d h = getD-listOf usage-at (usageCount s) k d h
 
   pub usage-turn : (k : ℕ) → k < usageCount s → drop k (sheetData s .usages) ≡ getD s (usagesPlace s + k) 0 ∷ drop (k + 1) (sheetData s .usages)
   unfolding sheetData

@@ -1,16 +1,14 @@
 -- The PDO records of a sheet that keeps the rules: each lies within the bytes, and its own bits fit 16 bits.
 -- Assumes nothing.
 use mathlib.Core.Path.{_≡_, refl, ap}
-use mathlib.Core.Bool.{Bool, true, false, cond, _&&_, _||_, false≢true}
-use mathlib.Core.List.{List, [], _∷_, _++_}
-use Prim.Native.Nat.{ℕ, zero, suc, _+_, _*_, _≤_, _<_}
+use mathlib.Core.Bool.{Bool, true, false, _&&_, _||_, false≢true}
+use mathlib.Core.List.{List}
+use Prim.Native.Nat.{ℕ, zero, suc, _+_, _≤_}
 use native.Mathlib.Omega.{arith}
 use lib.ListN.{length, getD}
 use lib.Dec.{eqb, leb}
 use borrow.Author.Tests.{eqb-true, leb-true}
-use Rattle.wire.specs.Number.{bigAt}
-use Rattle.wire.specs.Lists.{listOf, sum}
-use Rattle.sheet.specs.Device.{pdoAt, nextPdo, pdosFrom}
+use Rattle.sheet.specs.Device.{nextPdo, pdosFrom}
 use Rattle.sheet.specs.Sheet.{kindFits, pdosFit}
 
 -- as many PDOs as were asked for
@@ -37,12 +35,6 @@ fits-on s left at e = go (leb (nextPdo s at) (length s)) (kindFits (getD s at 0)
     go true false c p q r h = absurd (false≢true h)
     go false b c p q r h = absurd (false≢true h)
 
--- records that fit start within the bytes
-pub fits-within : (s : List ℕ) (left at : ℕ) → pdosFit s left at ≡ true → at ≤ length s
-unfolding pdosFit
-fits-within s zero at e = let z = eqb-true at (length s) e in omega arith
-fits-within s (suc left) at e = let f = fits-on s left at e in omega (arith, f .within)
-
 -- kinds 1 and 2 have two bytes
 pub fits-two : (kind m : ℕ) → kindFits kind m ≡ true → (kind ≡ 0 → ⊥) → (kind ≤ 2) × (m ≡ 2)
 unfolding kindFits
@@ -57,31 +49,3 @@ fits-two kind m e n = go (eqb kind 0) (eqb kind 1) (eqb kind 2) (eqb m 2) (eqb-t
     go false true c false p q r t h = absurd (false≢true h)
     go false false true false p q r t h = absurd (false≢true h)
     go false false false d p q r t h = absurd (false≢true h)
-
--- a sum of bytes
-sum-append : (xs ys : List ℕ) → sum (xs ++ ys) ≡ sum xs + sum ys
-sum-append [] ys = omega arith
-sum-append (x ∷ xs) ys = let e = sum-append xs ys in omega arith
-
-sum-bytes : (f : ℕ → ℕ) (n : ℕ) → ((k : ℕ) → f k < 256) → sum (listOf f n) ≤ 255 * n
-unfolding listOf
-sum-bytes f zero h = omega arith
-sum-bytes f (suc n) h =
-    let a = sum-append (listOf f n) (f n ∷ []) in
-    let b = sum-bytes f n h in
-    let c = h n in
-    omega arith
-
--- the bits of one PDO
-pub bits-small : (s : List ℕ) (at : ℕ) → ((k : ℕ) → getD s k 0 < 256) → sum (pdoAt s at .lengths) ≤ 65535
-bits-small s at bytes = go (eqb (getD s at 0) 0)
-  where
-    go : (b : Bool) → sum (cond b (listOf (λ k. getD s (at + 5 + k) 0) (getD s (at + 4) 0)) (bigAt s (at + 5) 2 ∷ [])) ≤ 65535
-    go true =
-        let a = sum-bytes (λ k. getD s (at + 5 + k) 0) (getD s (at + 4) 0) (λ k. bytes (at + 5 + k)) in
-        let m = bytes (at + 4) in
-        omega arith
-    go false =
-        let high = bytes (at + 5) in
-        let low = bytes (at + 5 + 1) in
-        omega arith

@@ -70,7 +70,7 @@ fn some_unnamed(sheet: &[u8]) -> bool
     let n = grammar::manager_count(sheet);
     let mut k = 0;
     while k < n {
-        if Control::unnamed(sheet[grammar::manager_place(k) + 2]) {
+        if Control::unnamed(sheet[grammar::manager_place(k) + grammar::CONTROL]) {
             return true;
         }
         k += 1;
@@ -144,7 +144,7 @@ pub fn front_count(sheet: &[u8]) -> u8
 pub fn usage_of(sheet: &[u8], k: u8) -> u8
     ensures { λ r. ⌜ r ≡ managerAt (now (sheet .entry)) (managerPlace k) .«usage_type» ⌝ }
 {
-    wire::byte_at(sheet, grammar::manager_place(k) + 4)
+    wire::byte_at(sheet, grammar::manager_place(k) + grammar::USAGE)
 }
 
 // Its start address.
@@ -162,9 +162,9 @@ pub fn manager(sheet: &[u8], k: u8) -> SyncManager
     let at = grammar::manager_place(k);
     SyncManager {
         start_addr: wire::be16(wire::byte_at(sheet, at), wire::byte_at(sheet, at + 1)),
-        control: Control::named(wire::byte_at(sheet, at + 2)),
-        enable: wire::flag(wire::byte_at(sheet, at + 3), 0),
-        usage_type: wire::byte_at(sheet, at + 4),
+        control: Control::named(wire::byte_at(sheet, at + grammar::CONTROL)),
+        enable: wire::flag(wire::byte_at(sheet, at + grammar::ENABLE), 0),
+        usage_type: wire::byte_at(sheet, at + grammar::USAGE),
     }
 }
 

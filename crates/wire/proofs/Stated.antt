@@ -1,4 +1,5 @@
--- A function that is proved by a walk has no generated reading of its contract. `Post` is one where, in every model, the `ensures` that the
+-- A function whose parameters the borrow checker doesn't cover (a reference to a struct, a slice of structs) is proved by a walk, and has no
+-- generated reading of its contract. `Post` is one where, in every model, the `ensures` that the
 -- source states is the fact of `Post`: said once, for the uniqueness of each such function.
 -- Assumes nothing.
 use mathlib.Core.Path.{_≡_}

@@ -3,7 +3,7 @@
 use mathlib.Core.Path.{sym, ap}
 use borrow.Author.Needs.{needs}
 use Rattle.counting.specs.declared.Counted.{Counted}
-use Rattle.counting.specs.Count.{earlierOf}
+use Rattle.counting.specs.Found.{earlierOf}
 use Rattle.counting.proofs.earlier.Statement.{statement}
 use Rattle.counting.proofs.earlier.Tie as tie
 
