@@ -23,7 +23,8 @@ use Rattle.sheet.specs.declared.Answer.the-variants.{Accepted}
 use Rattle.channels.specs.Channels.{sizeAt}
 use Rattle.pdo.specs.Bits.{bitsOf}
 use Rattle.wanted.specs.declared.Wanted.{Wanted}
-use Rattle.wanted.specs.Wanted.{noSizes, wantedAfter, bitsAt, bitsIn, someTooWide, sizesIn, someSize, routedOf}
+use Rattle.wanted.specs.ByKind.{bitsAt, bitsIn, someTooWide, sizesIn, someSize, routedOf}
+use Rattle.wanted.specs.Wanted.{noSizes, wantedAfter}
 use Rattle.wanted.proofs.Managers.{usage-nowhere}
 
 abbrev noSize : ByteLen

@@ -32,7 +32,8 @@ use Rattle.passes.specs.Pass.{someTooMany, noEntry, wantedRefusals}
 use Rattle.passes.specs.Handed.{hasUsage, exactBits, sizesOf}
 use Rattle.passes.proofs.Pieces.{some-bytes, size-handed}
 use Rattle.wanted.specs.declared.Wanted.{Wanted}
-use Rattle.wanted.specs.Wanted.{wantedFrom, noSizes, wantedAfter, Wants, someTooWide, sizesIn, someSize, routedOf}
+use Rattle.wanted.specs.ByKind.{someTooWide, sizesIn, someSize, routedOf}
+use Rattle.wanted.specs.Wanted.{wantedFrom, noSizes, wantedAfter, Wants}
 use Rattle.wanted.proofs.Sized.{was-refused, no-bits}
 
 -- a question by number: its first part, and numbers of which it doesn't hold

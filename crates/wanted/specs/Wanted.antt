@@ -1,24 +1,18 @@
 -- What a data pass wants of a sheet: the size of each wanted sync manager, and the path; or the first of its refusals.
 -- Assumes nothing.
 use mathlib.Core.Path.{_≡_}
-use mathlib.Core.Bool.{Bool, false, cond, _&&_}
-use mathlib.Core.List.{List, [], _∷_, _++_}
+use mathlib.Core.Bool.{false}
+use mathlib.Core.List.{List, _++_}
 use Prim.Native.Nat.{ℕ}
 use lib.ListN.{replicate}
-use lib.Dec.{ltb}
-use Rattle.wire.specs.Lists.{listOf, someBelow}
-use Rattle.wire.specs.Outcome.{Outcome, refused, accepted, when, decide}
-use Rattle.pdi.specs.Unit.{bytesOf, tooManyBits}
-use Rattle.pdi.specs.declared.BitLen.{BitLen}
+use Rattle.wire.specs.Outcome.{Outcome, refused, accepted, decide}
 use Rattle.pdi.specs.declared.ByteLen.{ByteLen}
 use Rattle.sheet.specs.Device.{Data}
-use Rattle.sheet.specs.Sheet.{managerCount, sheetRefusals, sheetData}
+use Rattle.sheet.specs.Sheet.{sheetRefusals, sheetData}
 use Rattle.sheet.specs.declared.Answer.the-variants.{Accepted, Refused}
-use Rattle.channels.specs.Channels.{sizeAt}
 use Rattle.pdo.specs.declared.PdoDirection.{PdoDirection}
-use Rattle.pdo.specs.Bits.{bitsOf}
 use Rattle.passes.specs.Pass.{wantedRefusals}
-use Rattle.passes.specs.Handed.{hasUsage, sizesOf, routeOf}
+use Rattle.passes.specs.Handed.{sizesOf, routeOf}
 use Rattle.wanted.specs.declared.Wanted.{Wanted}
 
 abbrev pub wantedFrom : Data → List ℕ → PdoDirection → Wanted
@@ -35,25 +29,3 @@ wantedAfter (accepted w) = w
 -- the promise
 abbrev pub Wants : List ℕ → List ℕ → PdoDirection → Wanted → Type 0
 Wants sheet ws r x = x ≡ wantedAfter (decide (sheetRefusals sheet ++ wantedRefusals (sheetData sheet) ws r) (wantedFrom (sheetData sheet) ws r))
-
--- the same by kind and usage, as code goes: the exact bits of a number, of all sixteen, 6, and the sizes
-abbrev pub bitsAt : List ℕ → ℕ → ℕ → List ℕ → ℕ → ℕ
-bitsAt sheet kind usage ws k = cond (hasUsage usage (sheetData sheet .managers) k) (bitsOf kind k (sheetData sheet .pdos) ws) 0
-
-abbrev pub bitsIn : List ℕ → ℕ → ℕ → List ℕ → List BitLen
-bitsIn sheet kind usage ws = listOf (λ k. record { 0 = bitsAt sheet kind usage ws k }) 16
-
-unfoldable pub someTooWide : List ℕ → ℕ → ℕ → List ℕ → Bool
-someTooWide sheet kind usage ws = someBelow (λ k. tooManyBits (bitsAt sheet kind usage ws k)) (managerCount sheet)
-
-abbrev pub sizesIn : List ℕ → ℕ → ℕ → List ℕ → List ByteLen
-sizesIn sheet kind usage ws = listOf (λ k. record { 0 = bytesOf (bitsAt sheet kind usage ws k) }) 16
-
--- some size is above 0
-unfoldable pub someSize : List ByteLen → Bool
-someSize sizes = someBelow (λ k. ltb 0 (sizeAt sizes k)) 16
-
--- the path, where 6 doesn't hold: 7 on the CoE path where no entry has the usage though some size is above 0
-abbrev pub routedOf : Bool → Bool → ℕ → List ByteLen → Wanted
-routedOf path none entry sizes =
-    wantedAfter (decide (when 7 (path && none) ∷ []) (record { answer = Accepted; sizes = sizes; route = record { «coe» = path; entry = cond path entry 0 } }))

@@ -13,7 +13,8 @@ ghost use Rattle.sheet.specs.Device.{pdoAt};
 ghost use Rattle.sheet.specs.Sheet.{sheetData, answerOf};
 ghost use Rattle.passes.specs.Use.{firstWith};
 ghost use Rattle.passes.specs.Handed.{hasUsage};
-ghost use Rattle.wanted.specs.Wanted.{noSizes, wantedAfter, Wants, bitsIn, someTooWide, sizesIn, someSize, routedOf};
+ghost use Rattle.wanted.specs.ByKind.{bitsIn, someTooWide, sizesIn, someSize, routedOf};
+ghost use Rattle.wanted.specs.Wanted.{noSizes, wantedAfter, Wants};
 use passes::Route;
 use pdi::BitLen;
 use pdi::ByteLen;
@@ -48,10 +49,13 @@ fn pdo_bits(sheet: &[u8], at: usize, kind: u8) -> u64
     ensures { λ r. ⌜ (r ≡ sum (pdoAt (now (sheet .entry)) at .lengths)) × (r ≤ 65535) ⌝ }
 {
     if kind == 0 {
-        let end = at + 5 + wire::wide(sheet[at + 4]);
-        return sum_bytes(&sheet[at + 5..end]);
+        let end = at + grammar::PDO_BYTES + wire::wide(sheet[at + grammar::PDO_COUNT]);
+        return sum_bytes(&sheet[at + grammar::PDO_BYTES..end]);
     }
-    wire::be16(sheet[at + 5], sheet[at + 6]) as u64
+    wire::be16(
+        sheet[at + grammar::PDO_BYTES],
+        sheet[at + grammar::PDO_BYTES + 1],
+    ) as u64
 }
 
 // Whether the PDO at a place counts: it is of the kind, and names a sync manager of the usage.
@@ -62,11 +66,11 @@ fn counts(sheet: &[u8], at: usize, kind: u8, usage: u8) -> bool
     if sheet[at] != kind {
         return false;
     }
-    let manager = sheet[at + 1];
+    let manager = sheet[at + grammar::PDO_MANAGER];
     if grammar::manager_count(sheet) <= manager {
         return false;
     }
-    sheet[grammar::manager_place(manager) + 4] == usage
+    sheet[grammar::manager_place(manager) + grammar::USAGE] == usage
 }
 
 // The exact bits of each sync manager of the usage: over the PDOs that are of the kind, bits times multiplier.
@@ -80,13 +84,13 @@ fn tally(sheet: &[u8], kind: u8, usage: u8, multipliers: &[u8]) -> [BitLen; 16]
     let count = wire::wide(grammar::pdo_count(sheet));
     while i < count {
         if counts(sheet, place, kind, usage) {
-            let slot = wire::wide(sheet[place + 1]);
+            let slot = wire::wide(sheet[place + grammar::PDO_MANAGER]);
             let before = sums[slot].0;
             sums[slot] = BitLen(
                 before + pdo_bits(sheet, place, kind) * wire::wide(multipliers[i]) as u64,
             );
         }
-        place = place + 5 + wire::wide(sheet[place + 4]);
+        place = place + grammar::PDO_BYTES + wire::wide(sheet[place + grammar::PDO_COUNT]);
         i += 1;
     }
     sums

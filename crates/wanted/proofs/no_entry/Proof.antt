@@ -4,7 +4,7 @@ use mathlib.Core.Path.{sym, _∙_}
 use denote.Ref.{now}
 use borrow.Author.Needs.{needs}
 use Rattle.grammar.specs.Grammar.{usageCount}
-use Rattle.wanted.specs.Wanted.{someSize}
+use Rattle.wanted.specs.ByKind.{someSize}
 use Rattle.wanted.proofs.Sized.{entry-found, entry-missing}
 use Rattle.wanted.proofs.no_entry.Statement.{statement}
 use Rattle.wanted.proofs.no_entry.Tie as tie

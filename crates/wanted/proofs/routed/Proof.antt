@@ -9,7 +9,7 @@ use borrow.Author.Tests.{not-true, not-false}
 use Rattle.grammar.specs.Grammar.{usageCount}
 use Rattle.sheet.specs.Sheet.{sheetData}
 use Rattle.passes.specs.Use.{firstWith}
-use Rattle.wanted.specs.Wanted.{someSize}
+use Rattle.wanted.specs.ByKind.{someSize}
 use Rattle.wanted.proofs.Sized.{by-eeprom, by-none, by-coe}
 use borrow.Author.Needs.{needs}
 use Rattle.wanted.proofs.routed.Statement.{statement}

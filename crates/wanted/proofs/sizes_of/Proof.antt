@@ -10,7 +10,7 @@ use borrow.Author.Needs.{needs}
 use Rattle.pdi.specs.Unit.{roundedOf}
 use Rattle.grammar.specs.Grammar.{managerCount, pdoCount}
 use Rattle.grammar.proofs.Broken.{kept}
-use Rattle.wanted.specs.Wanted.{bitsAt, bitsIn}
+use Rattle.wanted.specs.ByKind.{bitsAt, bitsIn}
 use Rattle.wanted.proofs.Sums.{sumAt}
 use Rattle.wanted.proofs.Sized.{Rounding, rounding-start, bits-read, rounding-turn, rounding-refused, rounding-end}
 use Rattle.wanted.proofs.sizes_of.Statement.{statement}
