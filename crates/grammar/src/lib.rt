@@ -31,14 +31,18 @@ pub const ENABLE: usize = 3;
 
 pub const USAGE: usize = 4;
 
-// Where the parts of a PDO stand in it: kind, sync manager number, PDO index (2), count m; then its m bytes.
+// Where the parts of a PDO stand in it: kind, sync manager number, PDO index (2, the high byte first), count m; then its m bytes.
 pub const PDO_MANAGER: usize = 1;
 
 pub const PDO_INDEX: usize = 2;
 
+pub const PDO_INDEX_LOW: usize = 3;
+
 pub const PDO_COUNT: usize = 4;
 
 pub const PDO_BYTES: usize = 5;
+
+pub const PDO_SECOND_BYTE: usize = 6;
 
 // 8: how many sync managers; 9: how many FMMU usages; 10: how many PDOs.
 pub fn manager_count(sheet: &[u8]) -> u8

@@ -39,7 +39,7 @@ fn index_at(sheet: &[u8], at: usize) -> u16
 {
     wire::be16(
         wire::byte_at(sheet, at + grammar::PDO_INDEX),
-        wire::byte_at(sheet, at + grammar::PDO_INDEX + 1),
+        wire::byte_at(sheet, at + grammar::PDO_INDEX_LOW),
     )
 }
 

@@ -54,7 +54,7 @@ fn pdo_bits(sheet: &[u8], at: usize, kind: u8) -> u64
     }
     wire::be16(
         sheet[at + grammar::PDO_BYTES],
-        sheet[at + grammar::PDO_BYTES + 1],
+        sheet[at + grammar::PDO_SECOND_BYTE],
     ) as u64
 }
 
