@@ -166,7 +166,9 @@ def by_model(stream):
 
 def by_program(stream):
     ran = subprocess.run([ROOT / "plan", "--probe", "-"], input=stream, capture_output=True)
-    return ran.stdout.decode() + (f"exit status {ran.returncode} {ran.stderr.decode()}" if ran.returncode else "")
+    text = ran.stdout.decode()
+    status = 2 if text.endswith("bad request\n") else 0  # the script's, as docs/PROBE.md has it
+    return text + ("" if ran.returncode == status else f"exit status {ran.returncode} {ran.stderr.decode()}")
 
 
 def wrong_answers(who, answer):
