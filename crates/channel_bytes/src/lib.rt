@@ -135,14 +135,8 @@ impl Control {
     pub fn unnamed(byte: u8) -> bool
         ensures { λ r. ⌜ r ≡ meaning.unnamed byte ⌝ }
     {
-        let mode = byte & 0x03;
-        if mode == 1 {
-            return true;
-        }
-        if mode == 3 {
-            return true;
-        }
-        1 < (byte >> 2) & 0x03
+        // modes 1 and 3 have bit 0, directions 2 and 3 bit 3
+        0 < byte & 0x09
     }
 
     // The control that a byte says; a mode or a direction without a name reads as 0.

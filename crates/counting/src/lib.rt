@@ -1,9 +1,9 @@
 // Counting through the sync managers: from a logical address to a sync manager's byte. Added by design; the crate has none.
 ghost use mathlib.Core.Path.{_≡_};
-ghost use lib.ListN.{take};
 ghost use Rattle.wire.specs.Outcome as Outcome;
 ghost use Rattle.grammar.specs.Grammar.{managerPlace, pdoCount};
 ghost use Rattle.sheet.specs.Sheet.{managerAt, managersIn};
+ghost use Rattle.pdo.specs.Bits.{perPdo};
 ghost use Rattle.passes.specs.Handed.{piecesBy};
 ghost use Rattle.counting.specs.Count as meaning;
 ghost use Rattle.counting.specs.Found.{spotHere, earlierOf, LaysOut};
@@ -80,15 +80,15 @@ fn lay_out(sheet: &[u8], usage: u8, sizes: [ByteLen; 16], offset: PdiOffset, add
     Laid { end, found }
 }
 
-// Counting with a multiplier for each PDO lent: 2 to 7, then 9, then where the address lies.
+// Counting, lent a multiplier for each PDO, of which one that is lacking is 1: 2 to 7, then 9, then where the address lies.
 pub fn count(
     sheet: &[u8],
-    multipliers: &[u8; 255],
+    multipliers: &[u8],
     offset: PdiOffset,
     direction: PdoDirection,
     address: u32,
 ) -> Counted
-    ensures { λ r. ⌜ countedOf r ≡ meaning.count direction address (now (sheet .entry)) (take (pdoCount (now (sheet .entry))) (now (multipliers .entry))) (offset .«start_address») ⌝ }
+    ensures { λ r. ⌜ countedOf r ≡ meaning.count direction address (now (sheet .entry)) (perPdo (pdoCount (now (sheet .entry))) (now (multipliers .entry))) (offset .«start_address») ⌝ }
 {
     let wanted = wanted::wanted_of(sheet, multipliers, direction);
     let answer = wanted.answer;

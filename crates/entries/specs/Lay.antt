@@ -1,4 +1,4 @@
--- What the parts of writing the entries promise one another: an entry, a use, all uses, the segment.
+-- What the parts of writing the entries promise one another: a use, all uses, the segment.
 -- Assumes nothing.
 use mathlib.Core.Path.{_≡_}
 use mathlib.Core.Bool.{Bool, true, cond, _&&_}
@@ -9,28 +9,12 @@ use lib.Dec.{ltb}
 use Rattle.wire.specs.Outcome.{Outcome, refused, accepted, when, decide}
 use Rattle.pdi.specs.Offset.{pastEnd}
 use Rattle.pdi.specs.Segment.{segment, belowGroup}
-use Rattle.fmmu.specs.declared.Fmmu.{Fmmu}
 use Rattle.pdo.specs.declared.PdoDirection.{PdoDirection}
 use Rattle.passes.specs.declared.Route.{Route}
 use Rattle.passes.specs.Use.{Use, total}
-use Rattle.passes.specs.Entries.{mapped, grown, withUse, plan, lengthOf, lengthNow, tooLong, Planned}
-use Rattle.entries.specs.declared.Became.{Became}
-use Rattle.entries.specs.declared.Became.the-variants as entry
+use Rattle.passes.specs.Entries.{withUse, plan, lengthNow, tooLong, Planned}
 use Rattle.entries.specs.declared.Laid.{Laid}
 use Rattle.entries.specs.declared.Laid.the-variants as laid
-
--- what the cases of `Became` say
-abbrev pub becameOf : Became → Outcome Fmmu
-becameOf (entry.To f) = accepted f
-becameOf (entry.Refused n) = refused n
-
--- a size added to an entry, or 8
-abbrev pub grows : Fmmu → ℕ → Outcome Fmmu
-grows f size = decide (when 8 (ltb 65535 (f .«length_bytes» .0 + size)) ∷ []) (grown f size)
-
--- what an entry becomes, or 8
-abbrev pub becomes : PdoDirection → ℕ → ℕ → ℕ → Fmmu → Outcome Fmmu
-becomes r start size at f = decide (when 8 (ltb 65535 (lengthOf f + size)) ∷ []) (cond (f .enable) (grown f size) (mapped r start size at))
 
 -- whether a sync manager of a size uses an entry by a route, and which one
 abbrev pub takesEntry : Route → ℕ → Bool

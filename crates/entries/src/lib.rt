@@ -1,13 +1,13 @@
 // The FMMU entries of a pass: `write_fmmu_config` of configuration.rs, over a whole area.
 ghost use mathlib.Core.Path.{_≡_};
+ghost use Prim.Native.Nat.{_+_, _≤_};
 ghost use lib.ListN.{length};
-ghost use Rattle.fmmu.specs.Image.{fieldsOf};
 ghost use Rattle.pdo.specs.Direction.{isRead};
 ghost use Rattle.sheet.specs.Sheet.{managersIn, answerOf};
 ghost use Rattle.passes.specs.Handed.{usesBy};
 ghost use Rattle.passes.specs.Entries as Entries;
 ghost use Rattle.passes.specs.Entries.{configuredOf, WritesEntries};
-ghost use Rattle.entries.specs.Lay.{becameOf, grows, becomes, takesEntry, entryBy, useAt, laidOne, Short, laidAll, laidOf, segmentTo};
+ghost use Rattle.entries.specs.Lay.{takesEntry, entryBy, useAt, laidOne, Short, laidAll, laidOf, segmentTo};
 use fmmu::Fmmu;
 use passes::Configured;
 use passes::Place;
@@ -29,24 +29,15 @@ fn reads(direction: PdoDirection) -> bool
     }
 }
 
-// An entry with a size laid on it, or 8 where it would grow past 65,535 bytes.
-enum Became {
-    To(Fmmu),
-    Refused(u8),
-}
-
 // An enabled entry only has the size added.
-fn grown(before: Fmmu, size: ByteLen) -> Became
-    ensures { λ r. ⌜ becameOf r ≡ grows before (size .0) ⌝ }
+fn grown(before: Fmmu, size: ByteLen) -> Fmmu
+    requires { ⌜ before .«length_bytes» .0 + size .0 ≤ 65535 ⌝ }
+    ensures { λ r. ⌜ r ≡ Entries.grown before (size .0) ⌝ }
 {
-    let length = (before.length_bytes.0 as u32) + (size.0 as u32);
-    if 65535 < length {
-        return Became::Refused(8);
-    }
-    let sum = ByteLen(length as u16);
+    let sum = ByteLen(before.length_bytes.0 + size.0);
     let mut after = before;
     after.length_bytes = sum;
-    Became::To(after)
+    after
 }
 
 // A disabled entry is made new.
@@ -65,22 +56,6 @@ fn mapped(start: u32, size: ByteLen, at: u16, direction: PdoDirection) -> Fmmu
         write_enable: !read,
         enable: true,
     }
-}
-
-fn laid_entry(
-    image: [u8; 16],
-    start: u32,
-    size: ByteLen,
-    at: u16,
-    direction: PdoDirection,
-) -> Became
-    ensures { λ r. ⌜ becameOf r ≡ becomes direction start (size .0) at (fieldsOf image) ⌝ }
-{
-    let before = Fmmu::unpack(image);
-    if before.enable {
-        return grown(before, size);
-    }
-    Became::To(mapped(start, size, at, direction))
 }
 
 // Whether a sync manager of this size uses an entry: by EEPROM even at 0 bits, on the CoE path only with bits.
@@ -124,14 +99,16 @@ fn lay_one(
     if 15 < e {
         return Answer::Accepted;
     }
-    let image = entries[e];
-    match laid_entry(image, start, size, at, direction) {
-        Became::To(entry) => {
-            entries[e] = entry.pack();
-            Answer::Accepted
+    let before = Fmmu::unpack(entries[e]);
+    if before.enable {
+        if 65535 < (before.length_bytes.0 as u32) + (size.0 as u32) {
+            return Answer::Refused(8);
         }
-        Became::Refused(number) => Answer::Refused(number),
+        entries[e] = grown(before, size).pack();
+        return Answer::Accepted;
     }
+    entries[e] = mapped(start, size, at, direction).pack();
+    Answer::Accepted
 }
 
 // Lays the sync managers of the direction one after another into the entries, from the offset on.
@@ -208,7 +185,7 @@ pub fn write_entries(
         Laid::End(end) => {
             let answer = segment_to(end, place);
             if let Configured::Mapped(_, _) = answer {
-                area::store_all(entries, area);
+                area::store_all(&entries, area);
             }
             answer
         }

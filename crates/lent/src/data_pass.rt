@@ -1,8 +1,8 @@
 // The data pass, lent its offset and its oversampling table. Proved by walks.
-ghost use lib.ListN.{take};
+ghost use mathlib.Core.List.{[]};
 ghost use Rattle.grammar.specs.Grammar.{pdoCount};
 ghost use Rattle.sheet.specs.Sheet.{sheetData};
-ghost use Rattle.pdo.specs.Bits.{multipliersOf};
+ghost use Rattle.pdo.specs.Bits.{perPdo, multipliersOf};
 ghost use Rattle.passes.specs.Pass.{Passes};
 use passes::Configured;
 use passes::Place;
@@ -20,13 +20,13 @@ struct Done {
 // A pass by value, as the lent one answers it.
 fn passed(
     sheet: &[u8],
-    multipliers: &[u8; 255],
+    multipliers: &[u8],
     fmmus: &mut [u8],
     channels: &mut [u8],
     place: Place,
     direction: PdoDirection,
 ) -> Done
-    ensures { λ r. ⌜ Passes (now (sheet .entry)) (take (pdoCount (now (sheet .entry))) (now (multipliers .entry))) direction (place .offset) (place .group) (now (fmmus .entry)) (now (channels .entry)) (r .answer) (r .next) (now (fmmus .exit)) (now (channels .exit)) ⌝ }
+    ensures { λ r. ⌜ Passes (now (sheet .entry)) (perPdo (pdoCount (now (sheet .entry))) (now (multipliers .entry))) direction (place .offset) (place .group) (now (fmmus .entry)) (now (channels .entry)) (r .answer) (r .next) (now (fmmus .exit)) (now (channels .exit)) ⌝ }
 {
     let start = place.offset;
     match subdevice::pass(sheet, multipliers, fmmus, channels, place, direction) {
@@ -41,6 +41,35 @@ fn passed(
     }
 }
 
+// Without a table nothing is prepared.
+fn bare(
+    sheet: &[u8],
+    fmmus: &mut [u8],
+    channels: &mut [u8],
+    place: Place,
+    direction: PdoDirection,
+) -> Done
+    ensures { λ r. ⌜ Passes (now (sheet .entry)) (multipliersOf [] (sheetData (now (sheet .entry)) .pdos)) direction (place .offset) (place .group) (now (fmmus .entry)) (now (channels .entry)) (r .answer) (r .next) (now (fmmus .exit)) (now (channels .exit)) ⌝ }
+{
+    passed(sheet, &[], fmmus, channels, place, direction)
+}
+
+// With one, each PDO's multiplier is looked up first.
+fn sampled(
+    sheet: &[u8],
+    table: &[Oversampling],
+    fmmus: &mut [u8],
+    channels: &mut [u8],
+    place: Place,
+    direction: PdoDirection,
+) -> Done
+    ensures { λ r. ⌜ Passes (now (sheet .entry)) (multipliersOf (now (table .entry)) (sheetData (now (sheet .entry)) .pdos)) direction (place .offset) (place .group) (now (fmmus .entry)) (now (channels .entry)) (r .answer) (r .next) (now (fmmus .exit)) (now (channels .exit)) ⌝ }
+{
+    let mut multipliers = [1u8; 255];
+    oversampling::multipliers_for(table, sheet, &mut multipliers);
+    passed(sheet, &multipliers, fmmus, channels, place, direction)
+}
+
 // Second stage: one direction's process data. An accepted pass moves the lent offset on.
 pub fn configure_fmmus(
     sheet: &[u8],
@@ -53,13 +82,15 @@ pub fn configure_fmmus(
 ) -> Placed
     ensures { λ r. ⌜ Passes (now (sheet .entry)) (multipliersOf (now (table .entry)) (sheetData (now (sheet .entry)) .pdos)) direction (now (offset .entry)) «group_start_address» (now (fmmus .entry)) (now (channels .entry)) r (now (offset .exit)) (now (fmmus .exit)) (now (channels .exit)) ⌝ }
 {
-    let mut multipliers = [1u8; 255];
-    oversampling::multipliers_for(table, sheet, &mut multipliers);
     let place = Place {
         offset: *offset,
         group: group_start_address,
     };
-    let done = passed(sheet, &multipliers, fmmus, channels, place, direction);
+    let done = if table.len() == 0 {
+        bare(sheet, fmmus, channels, place, direction)
+    } else {
+        sampled(sheet, table, fmmus, channels, place, direction)
+    };
     *offset = done.next;
     done.answer
 }

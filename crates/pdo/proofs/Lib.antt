@@ -4,5 +4,6 @@ pub mod Records
 pub mod Some
 pub mod Bits
 pub mod Ones
+pub mod PerPdo
 pub mod Sums
 pub mod Unique

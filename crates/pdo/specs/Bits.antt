@@ -2,7 +2,7 @@
 -- Assumes nothing.
 use mathlib.Core.Bool.{Bool, cond, _&&_}
 use mathlib.Core.List.{List, [], _∷_, map}
-use Prim.Native.Nat.{ℕ, suc, _+_, _*_}
+use Prim.Native.Nat.{ℕ, zero, suc, _+_, _*_}
 use lib.Dec.{eqb, ltb}
 use Rattle.sheet.specs.Device.{Pdo, Data}
 use Rattle.wire.specs.Lists.{someOf, sum}
@@ -28,6 +28,11 @@ firstOf (w ∷ ws) = w
 abbrev pub othersOf : List ℕ → List ℕ
 othersOf [] = []
 othersOf (w ∷ ws) = ws
+
+-- one for each of n PDOs: those of a list, then 1
+unfoldable pub perPdo : ℕ → List ℕ → List ℕ
+perPdo zero ws = []
+perPdo (suc n) ws = firstOf ws ∷ perPdo n (othersOf ws)
 
 -- some sync manager has the usage
 abbrev pub someUsage : ℕ → List SyncManager → Bool

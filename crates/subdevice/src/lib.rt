@@ -1,22 +1,22 @@
 // src/subdevice/configuration.rs: a data pass of either direction, with the offset by value.
-ghost use lib.ListN.{take};
 ghost use Rattle.grammar.specs.Grammar.{pdoCount};
+ghost use Rattle.pdo.specs.Bits.{perPdo};
 ghost use Rattle.passes.specs.Pass.{Configures};
 use passes::Configured;
 use passes::Place;
 use pdo::PdoDirection;
 use sheet::Answer;
 
-// Second stage: one direction's process data, with the offset by value. Lent a multiplier for each PDO.
+// Second stage: one direction's process data, with the offset by value. Lent a multiplier for each PDO; one that is lacking is 1.
 pub fn pass(
     sheet: &[u8],
-    multipliers: &[u8; 255],
+    multipliers: &[u8],
     fmmus: &mut [u8],
     channels: &mut [u8],
     place: Place,
     direction: PdoDirection,
 ) -> Configured
-    ensures { λ r. ⌜ Configures (now (sheet .entry)) (take (pdoCount (now (sheet .entry))) (now (multipliers .entry))) direction (place .offset .«start_address») (place .group) (now (fmmus .entry)) (now (channels .entry)) r (now (fmmus .exit)) (now (channels .exit)) ⌝ }
+    ensures { λ r. ⌜ Configures (now (sheet .entry)) (perPdo (pdoCount (now (sheet .entry))) (now (multipliers .entry))) direction (place .offset .«start_address») (place .group) (now (fmmus .entry)) (now (channels .entry)) r (now (fmmus .exit)) (now (channels .exit)) ⌝ }
 {
     if fmmus.len() != 256 {
         return Configured::Refused(1);

@@ -3,7 +3,7 @@ ghost use mathlib.Core.Path.{_≡_};
 ghost use mathlib.Core.Bool.{true, false, cond, _&&_};
 ghost use mathlib.Core.List.{[], _∷_};
 ghost use Prim.Native.Nat.{_+_, _≤_};
-ghost use lib.ListN.{length, getD, take};
+ghost use lib.ListN.{length, getD, replicate};
 ghost use lib.Dec.{eqb};
 ghost use Rattle.wire.specs.Lists.{sum};
 ghost use Rattle.wire.specs.Outcome as Outcome;
@@ -11,6 +11,7 @@ ghost use Rattle.wire.specs.Outcome.{when, decide};
 ghost use Rattle.grammar.specs.Grammar.{usageCount, pdoCount, usagesPlace, nextPdo, kindFits, broken};
 ghost use Rattle.sheet.specs.Device.{pdoAt};
 ghost use Rattle.sheet.specs.Sheet.{sheetData, answerOf};
+ghost use Rattle.pdo.specs.Bits.{perPdo};
 ghost use Rattle.passes.specs.Use.{firstWith};
 ghost use Rattle.passes.specs.Handed.{hasUsage};
 ghost use Rattle.wanted.specs.ByKind.{bitsIn, someTooWide, sizesIn, someSize, routedOf};
@@ -73,27 +74,34 @@ fn counts(sheet: &[u8], at: usize, kind: u8, usage: u8) -> bool
     sheet[grammar::manager_place(manager) + grammar::USAGE] == usage
 }
 
-// The exact bits of each sync manager of the usage: over the PDOs that are of the kind, bits times multiplier.
-fn tally(sheet: &[u8], kind: u8, usage: u8, multipliers: &[u8]) -> [BitLen; 16]
-    requires { ⌜ (length (now sheet) ≤ 16386) × (broken (now sheet) ≡ false) × (length (now multipliers) ≡ 255) ⌝ }
-    ensures { λ r. ⌜ r ≡ bitsIn (now (sheet .entry)) kind usage (take (pdoCount (now (sheet .entry))) (now (multipliers .entry))) ⌝ }
+// The multiplier of a PDO; 1 where none is lent.
+fn multiplier_at(multipliers: &[u8], i: usize) -> u8
+    ensures { λ r. ⌜ r ≡ getD (now (multipliers .entry)) i 1 ⌝ }
 {
-    let mut sums = [BitLen(0); 16];
+    if i < multipliers.len() {
+        return multipliers[i];
+    }
+    1
+}
+
+// The exact bits of each sync manager of the usage, into zeros: over the PDOs that are of the kind, bits times multiplier.
+fn tally(sheet: &[u8], kind: u8, usage: u8, multipliers: &[u8], sums: &mut [u64; 16])
+    requires { ⌜ (length (now sheet) ≤ 16386) × (broken (now sheet) ≡ false) × (now sums ≡ replicate 16 0) ⌝ }
+    ensures { λ r. ⌜ now (sums .exit) ≡ bitsIn (now (sheet .entry)) kind usage (perPdo (pdoCount (now (sheet .entry))) (now (multipliers .entry))) ⌝ }
+{
     let mut place = grammar::pdos_place(sheet);
     let mut i = 0;
     let count = wire::wide(grammar::pdo_count(sheet));
     while i < count {
         if counts(sheet, place, kind, usage) {
             let slot = wire::wide(sheet[place + grammar::PDO_MANAGER]);
-            let before = sums[slot].0;
-            sums[slot] = BitLen(
-                before + pdo_bits(sheet, place, kind) * wire::wide(multipliers[i]) as u64,
-            );
+            let before = sums[slot];
+            sums[slot] = before
+                + pdo_bits(sheet, place, kind) * wire::wide(multiplier_at(multipliers, i)) as u64;
         }
         place = place + grammar::PDO_BYTES + wire::wide(sheet[place + grammar::PDO_COUNT]);
         i += 1;
     }
-    sums
 }
 
 // The place of the first FMMU entry with the usage; the count where there is none.
@@ -119,15 +127,16 @@ struct Sizes {
 }
 
 fn sizes_of(sheet: &[u8], kind: u8, usage: u8, multipliers: &[u8]) -> Sizes
-    requires { ⌜ (length (now sheet) ≤ 16386) × (broken (now sheet) ≡ false) × (length (now multipliers) ≡ 255) ⌝ }
-    ensures { λ r. ⌜ (answerOf {A = Unit {0}} (r .answer) tt ≡ decide (when 6 (someTooWide (now (sheet .entry)) kind usage (take (pdoCount (now (sheet .entry))) (now (multipliers .entry)))) ∷ []) tt) × (r .list ≡ cond (someTooWide (now (sheet .entry)) kind usage (take (pdoCount (now (sheet .entry))) (now (multipliers .entry)))) noSizes (sizesIn (now (sheet .entry)) kind usage (take (pdoCount (now (sheet .entry))) (now (multipliers .entry))))) ⌝ }
+    requires { ⌜ (length (now sheet) ≤ 16386) × (broken (now sheet) ≡ false) ⌝ }
+    ensures { λ r. ⌜ (answerOf {A = Unit {0}} (r .answer) tt ≡ decide (when 6 (someTooWide (now (sheet .entry)) kind usage (perPdo (pdoCount (now (sheet .entry))) (now (multipliers .entry)))) ∷ []) tt) × (r .list ≡ cond (someTooWide (now (sheet .entry)) kind usage (perPdo (pdoCount (now (sheet .entry))) (now (multipliers .entry)))) noSizes (sizesIn (now (sheet .entry)) kind usage (perPdo (pdoCount (now (sheet .entry))) (now (multipliers .entry))))) ⌝ }
 {
-    let bits = tally(sheet, kind, usage, multipliers);
+    let mut bits = [0u64; 16];
+    tally(sheet, kind, usage, multipliers, &mut bits);
     let mut list = [ByteLen(0); 16];
     let n = wire::wide(grammar::manager_count(sheet));
     let mut k = 0;
     while k < n {
-        match bits[k].round_up() {
+        match BitLen(bits[k]).round_up() {
             Rounded::Bytes(size) => {
                 list[k] = size;
             }
@@ -216,9 +225,9 @@ fn routed(sheet: &[u8], coe: bool, usage: u8, sizes: [ByteLen; 16]) -> Wanted
     }
 }
 
-// What a direction's pass of a sheet wants. Lent a multiplier for each PDO.
-pub fn wanted_of(sheet: &[u8], multipliers: &[u8; 255], direction: PdoDirection) -> Wanted
-    ensures { λ r. ⌜ Wants (now (sheet .entry)) (take (pdoCount (now (sheet .entry))) (now (multipliers .entry))) direction r ⌝ }
+// What a direction's pass of a sheet wants. Lent a multiplier for each PDO; one that is lacking is 1.
+pub fn wanted_of(sheet: &[u8], multipliers: &[u8], direction: PdoDirection) -> Wanted
+    ensures { λ r. ⌜ Wants (now (sheet .entry)) (perPdo (pdoCount (now (sheet .entry))) (now (multipliers .entry))) direction r ⌝ }
 {
     let sound = sheet::check(sheet);
     if let Answer::Refused(number) = sound {

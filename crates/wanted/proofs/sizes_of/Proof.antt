@@ -1,15 +1,15 @@
 -- `wanted::sizes_of`: after k turns k sizes stand there, and none of them is too wide.
 -- Assumes nothing.
-use mathlib.Core.Path.{_≡_, sym, _∙_, ap}
+use mathlib.Core.Path.{_≡_, refl, sym, _∙_, ap}
 use mathlib.Core.List.{List}
 use Prim.Native.Nat.{ℕ, _-_, _≤_}
 use native.Mathlib.Omega.{arith}
 use denote.Ref.{now}
-use lib.ListN.{take}
 use borrow.Author.Needs.{needs}
 use Rattle.pdi.specs.Unit.{roundedOf}
 use Rattle.grammar.specs.Grammar.{managerCount, pdoCount}
 use Rattle.grammar.proofs.Broken.{kept}
+use Rattle.pdo.specs.Bits.{perPdo}
 use Rattle.wanted.specs.ByKind.{bitsAt, bitsIn}
 use Rattle.wanted.proofs.Sums.{sumAt}
 use Rattle.wanted.proofs.Sized.{Rounding, rounding-start, bits-read, rounding-turn, rounding-refused, rounding-end}
@@ -18,28 +18,34 @@ use Rattle.wanted.proofs.sizes_of.Tie as tie
 
 abbrev Inv-loop : tie.InvT-loop
 Inv-loop sheet kind usage multipliers bits list₀ n k₀ list k =
-    (k ≤ n) × (n ≡ managerCount sheet) × (n ≤ 16) × (bits ≡ bitsIn sheet kind usage (take (pdoCount sheet) multipliers))
-    × Rounding sheet kind usage (take (pdoCount sheet) multipliers) list k
+    (k ≤ n) × (n ≡ managerCount sheet) × (n ≤ 16) × (bits ≡ bitsIn sheet kind usage (perPdo (pdoCount sheet) multipliers))
+    × Rounding sheet kind usage (perPdo (pdoCount sheet) multipliers) list k
 
 abbrev μ-loop : tie.MeasureT-loop
 μ-loop sheet kind usage multipliers bits list₀ n k₀ list k = n - k
 
 -- the multipliers that count
 abbrev multipliersOf : tie.Start Inv-loop μ-loop → List ℕ
-multipliersOf c = take (pdoCount (now (c .args .sheet))) (now (c .args .multipliers))
+multipliersOf c = perPdo (pdoCount (now (c .args .sheet))) (now (c .args .multipliers))
 
--- the bits that are rounded up are those of the number
+-- where the call began, and the bits as they are summed up
+abbrev start : tie.At-loop Inv-loop μ-loop → tie.Start Inv-loop μ-loop
+start c = c .before .before .before .before .before .before .before
+
+abbrev summed : tie.At-loop Inv-loop μ-loop → List ℕ
+summed c = c .before .before .before .tally .last .1 .1 .1 .1 .0
+
+-- those that are rounded up are those of the number
 of-number :
     (c : tie.In-loop Inv-loop μ-loop)
-    → sumAt (c .before .before .before .before .tally .result) (c .before .loop .k)
-    ≡ bitsAt (now (c .before .before .before .before .before .before .before .args .sheet)) (c .before .before .before .before .before .before .before .args .kind)
-    (c .before .before .before .before .before .before .before .args .usage) (multipliersOf (c .before .before .before .before .before .before .before)) (c .before .loop .k)
+    → sumAt (summed (c .before)) (c .before .loop .k)
+    ≡ bitsAt (now (start (c .before) .args .sheet)) (start (c .before) .args .kind) (start (c .before) .args .usage) (multipliersOf (start (c .before))) (c .before .loop .k)
 of-number c =
-    let b = c .before .before .before .before .before .before .before in
+    let b = start (c .before) in
     bits-read (now (b .args .sheet)) (b .args .kind) (b .args .usage) (multipliersOf b) _ (c .before .loop .k) (c .before .loop .inv .3) (omega arith)
 
 tally-requires : tie.Need-tally-requires Inv-loop μ-loop
-tally-requires c κs = c .before .before .pre
+tally-requires c κs = let b = c .before .before .before in (b .pre .0, b .pre .1, refl)
 
 manager-count-requires : tie.Need-manager-count-requires Inv-loop μ-loop
 manager-count-requires c κs = tt
@@ -49,16 +55,16 @@ wide-requires c κs = tt
 
 loop-holds : tie.Need-loop-holds Inv-loop μ-loop
 loop-holds c =
-    let b = c .before .before .before .before .before in
+    let b = c .before .before .before .before .before .before in
     let k = kept (now (b .args .sheet)) (b .pre .1) in
     let e = c .wide .ensures .0 ∙ c .before .manager-count .ensures in
     (omega arith, e, omega (arith, k .managers), c .before .before .tally .ensures, rounding-start _ _ _ _)
 
-mul-round-up : tie.Need-mul-round-up Inv-loop μ-loop
-mul-round-up c = omega arith
+mul-t17 : tie.Need-mul-t17 Inv-loop μ-loop
+mul-t17 c = omega arith
 
-array-copy-out-round-up : tie.Need-array-copy-out-round-up Inv-loop μ-loop
-array-copy-out-round-up c = omega arith
+array-read-t20 : tie.Need-array-read-t20 Inv-loop μ-loop
+array-read-t20 c = omega arith
 
 round-up-requires : tie.Need-round-up-requires Inv-loop μ-loop
 round-up-requires c κs = tt
@@ -78,10 +84,10 @@ enum-known-number c = search needs
 returns : tie.Need-returns Inv-loop μ-loop
 returns c =
     let u = c .before .before .before in
-    let l = u .before .before .before .loop in
-    let b = u .before .before .before .before .before .before .before .before .before in
+    let l = u .before .before .loop in
+    let b = start (u .before .before) in
     let n = c .before .number .given in
-    rounding-refused (now (b .args .sheet)) (b .args .kind) (b .args .usage) (multipliersOf b) (l .k) _ (n .0 .0) (omega arith) (of-number (u .before .before))
+    rounding-refused (now (b .args .sheet)) (b .args .kind) (b .args .usage) (multipliersOf b) (l .k) _ (n .0 .0) (omega arith) (of-number (u .before))
     (sym (ap roundedOf (n .1)) ∙ u .round-up .ensures)
 
 add-k : tie.Need-add-k Inv-loop μ-loop
@@ -93,17 +99,17 @@ loop-less c = omega arith
 loop-again : tie.Need-loop-again Inv-loop μ-loop
 loop-again c =
     let u = c .before .before .before in
-    let l = u .before .before .before .loop in
-    let b = u .before .before .before .before .before .before .before .before .before in
+    let l = u .before .before .loop in
+    let b = start (u .before .before) in
     let w = c .before .size .given in
-    let t = rounding-turn (now (b .args .sheet)) (b .args .kind) (b .args .usage) (multipliersOf b) (l .list) (l .k) _ (w .0 .0) (omega arith) (of-number (u .before .before))
+    let t = rounding-turn (now (b .args .sheet)) (b .args .kind) (b .args .usage) (multipliersOf b) (l .list) (l .k) _ (w .0 .0) (omega arith) (of-number (u .before))
     (sym (ap roundedOf (w .1)) ∙ u .round-up .ensures) (l .inv .4) in
     (omega arith, l .inv .1, l .inv .2, l .inv .3, t)
 
 returns-2 : tie.Need-returns-2 Inv-loop μ-loop
 returns-2 c =
     let l = c .before .loop in
-    let b = c .before .before .before .before .before .before .before in
+    let b = start (c .before) in
     rounding-end (now (b .args .sheet)) (b .args .kind) (b .args .usage) (multipliersOf b) (l .list) (l .k) (omega arith) (omega arith) (l .inv .4)
 
 pub sizes-of-spec : {M : Type 1} → statement M
@@ -116,8 +122,8 @@ sizes-of-spec =
     manager-count-requires
     wide-requires
     loop-holds
-    mul-round-up
-    array-copy-out-round-up
+    mul-t17
+    array-read-t20
     round-up-requires
     enum-known-size
     mul-list

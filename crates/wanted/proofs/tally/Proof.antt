@@ -5,22 +5,24 @@ use mathlib.Core.Logic.{⊎-elim}
 use Prim.Native.Nat.{_+_, _-_, _*_, _≤_, _<_}
 use native.Mathlib.Omega.{arith}
 use denote.Ref.{now}
-use lib.ListN.{length, getD, take}
+use lib.ListN.{length, getD}
 use Rattle.grammar.specs.Grammar.{managerCount, pdoCount, usagesPlace, pdosPlace}
 use Rattle.grammar.proofs.Broken.{kept}
 use Rattle.sheet.specs.Sheet.{sheetData}
 use Rattle.sheet.proofs.Sound.{Fits}
 use Rattle.pdo.proofs.Records.{product-bounded}
+use Rattle.pdo.specs.Bits.{perPdo}
 use Rattle.passes.specs.Handed.{hasUsage}
 use Rattle.wanted.proofs.Managers.{counts-kind, counts-there}
-use Rattle.wanted.proofs.Sums.{Tallied, multiplier-at, fits-as, tallied-start, next-fits, tallied-here, tallied-on, tallied-end}
+use Rattle.pdo.proofs.PerPdo.{perPdo-at}
+use Rattle.wanted.proofs.Sums.{Tallied, fits-as, tallied-start, next-fits, tallied-here, tallied-on, tallied-end}
 use Rattle.wanted.proofs.tally.Statement.{statement}
 use Rattle.wanted.proofs.tally.Tie as tie
 
 abbrev Inv-loop : tie.InvT-loop
 Inv-loop sheet kind usage multipliers sums₀ place₀ i₀ count sums place i =
-    (length sheet ≤ 16386) × (managerCount sheet ≤ 16) × (usagesPlace sheet ≤ length sheet) × (count ≡ pdoCount sheet) × (count ≤ 255) × (length multipliers ≡ 255)
-    × Tallied sheet (take (pdoCount sheet) multipliers) kind (hasUsage usage (sheetData sheet .managers)) (pdoCount sheet) (pdosPlace sheet) sums place i
+    (length sheet ≤ 16386) × (managerCount sheet ≤ 16) × (usagesPlace sheet ≤ length sheet) × (count ≡ pdoCount sheet) × (count ≤ 255)
+    × Tallied sheet (perPdo (pdoCount sheet) multipliers) kind (hasUsage usage (sheetData sheet .managers)) (pdoCount sheet) (pdosPlace sheet) sums place i
 
 abbrev μ-loop : tie.MeasureT-loop
 μ-loop sheet kind usage multipliers sums₀ place₀ i₀ count sums place i = count - i
@@ -31,7 +33,7 @@ start c = c .before .before .before .before .before .before
 
 -- the next record stands within the bytes; one that counts is of the kind, and names one of sixteen
 fit : (c : tie.In-loop Inv-loop μ-loop) → Fits (now (start (c .before) .args .sheet)) (pdoCount (now (start (c .before) .args .sheet)) - (c .before .loop .i + 1)) (c .before .loop .place)
-fit c = next-fits _ _ _ _ (c .before .loop .inv .6) (omega arith)
+fit c = next-fits _ _ _ _ (c .before .loop .inv .5) (omega arith)
 
 of-kind : (c : tie.Then1 Inv-loop μ-loop) → getD (now (start (c .before .before .before) .args .sheet)) (c .before .before .before .loop .place) 0 ≡ start (c .before .before .before) .args .kind
 of-kind c =
@@ -62,7 +64,7 @@ loop-holds c =
     let s = now (b .args .sheet) in
     let k = kept s (b .pre .1) in
     let e : c .wide .result ≡ pdoCount s = c .wide .ensures .0 ∙ c .before .pdo-count .ensures in
-    (b .pre .0, k .managers, omega arith, e, omega arith, b .pre .2, tallied-start _ _ _ _ (pdoCount s) (pdosPlace s) _ (c .before .before .pdos-place .ensures .0) (k .walk))
+    (b .pre .0, k .managers, omega arith, e, omega arith, tallied-start _ _ _ _ (pdoCount s) (pdosPlace s) _ _ (b .pre .2) (c .before .before .pdos-place .ensures .0) (k .walk))
 
 counts-requires : tie.Need-counts-requires Inv-loop μ-loop
 counts-requires c κs = let i = c .before .loop .inv in (omega (arith, fit c .within), i .2, i .0)
@@ -84,30 +86,30 @@ element-copy-out-before c = omega (arith, low (c .before .before))
 
 pdo-bits-requires : tie.Need-pdo-bits-requires Inv-loop μ-loop
 pdo-bits-requires c κs =
-    let t = c .before .before in
+    let t = c .before .before .before in
     let f = fit (t .before .before) in
     (of-kind t, f .within, fits-as _ _ _ _ (of-kind t) f, t .before .before .before .loop .inv .0)
 
-shared-slice-read-wide-2 : tie.Need-shared-slice-read-wide-2 Inv-loop μ-loop
-shared-slice-read-wide-2 c = omega arith
+multiplier-at-requires : tie.Need-multiplier-at-requires Inv-loop μ-loop
+multiplier-at-requires c κs = tt
 
 wide-requires-3 : tie.Need-wide-requires-3 Inv-loop μ-loop
 wide-requires-3 c κs = tt
 
-mul-t23 : tie.Need-mul-t23 Inv-loop μ-loop
-mul-t23 c = omega (arith, product c)
-
-add-t24 : tie.Need-add-t24 Inv-loop μ-loop
-add-t24 c =
-    let t = c .before .before .before .before .before in
-    let l = t .before .before .before .loop in
-    omega (arith, product c, l .inv .6 .small (c .before .before .before .wide2 .result) (omega (arith, low t)))
-
 mul-sums : tie.Need-mul-sums Inv-loop μ-loop
-mul-sums c = omega (arith, low (c .before .before .before .before .before))
+mul-sums c = omega (arith, product c)
 
-array-set-from-sums : tie.Need-array-set-from-sums Inv-loop μ-loop
-array-set-from-sums c = omega (arith, low (c .before .before .before .before .before))
+add-sums : tie.Need-add-sums Inv-loop μ-loop
+add-sums c =
+    let t = c .before .before .before .before .before .before in
+    let l = t .before .before .before .loop in
+    omega (arith, product c, l .inv .5 .small (c .before .before .before .before .wide2 .result) (omega (arith, low t)))
+
+mul-sums-2 : tie.Need-mul-sums-2 Inv-loop μ-loop
+mul-sums-2 c = omega (arith, low (c .before .before .before .before .before .before))
+
+element-write-sums : tie.Need-element-write-sums Inv-loop μ-loop
+element-write-sums c = omega (arith, low (c .before .before .before .before .before .before))
 
 add-place : tie.Need-add-place Inv-loop μ-loop
 add-place c = omega (arith, fit (c .before .before) .within)
@@ -115,8 +117,8 @@ add-place c = omega (arith, fit (c .before .before) .within)
 add-wide-2 : tie.Need-add-wide-2 Inv-loop μ-loop
 add-wide-2 c = omega (arith, fit (c .before .before) .within)
 
-shared-slice-read-wide-3 : tie.Need-shared-slice-read-wide-3 Inv-loop μ-loop
-shared-slice-read-wide-3 c = omega (arith, fit (c .before .before .before) .within)
+shared-slice-read-wide-2 : tie.Need-shared-slice-read-wide-2 Inv-loop μ-loop
+shared-slice-read-wide-2 c = omega (arith, fit (c .before .before .before) .within)
 
 wide-requires-4 : tie.Need-wide-requires-4 Inv-loop μ-loop
 wide-requires-4 c κs = tt
@@ -138,18 +140,18 @@ loop-again c =
     let i = l .inv in
     let next = l .place + 5 + c .wide4 .result in
     let e = sym (j .before .counts .ensures) in
-    let w = sym (multiplier-at (now (a .multipliers)) (pdoCount (now (a .sheet))) (l .i) (omega arith) (omega arith)) in
+    let w = sym (perPdo-at (pdoCount (now (a .sheet))) (now (a .multipliers)) (l .i) (omega arith)) in
     let t =
     ⊎-elim
     (λ h.
-    tallied-here _ _ _ _ (i .6) next (omega arith) (omega arith) (h .2 .result) (h .3 .result) (h .5 .result) _ (e ∙ h .0 .taken) (h .2 .ensures .0)
-    (let z = low (record { before = j .before; if1 = h .0 }) in omega arith) (h .3 .ensures .0) (h .5 .ensures .0 ∙ w) (h .3 .ensures .1) (h .5 .ensures .1) (h .6))
-    (λ h. tallied-on _ _ _ _ (i .6) next (omega arith) (omega arith) _ (e ∙ h .0 .left) (h .1)) (j .if1 .came) in
-    (i .0, i .1, i .2, i .3, i .4, i .5, t)
+    tallied-here _ _ _ _ (i .5) next (omega arith) (omega arith) (h .2 .result) (h .4 .result) (h .6 .result) _ (e ∙ h .0 .taken) (h .2 .ensures .0)
+    (let z = low (record { before = j .before; if1 = h .0 }) in omega arith) (h .4 .ensures .0) (h .6 .ensures .0 ∙ h .5 .ensures ∙ w) (h .4 .ensures .1) (h .6 .ensures .1) (h .7))
+    (λ h. tallied-on _ _ _ _ (i .5) next (omega arith) (omega arith) _ (e ∙ h .0 .left) (h .1)) (j .if1 .came) in
+    (i .0, i .1, i .2, i .3, i .4, t)
 
 returns : tie.Need-returns Inv-loop μ-loop
 unfolding sheetData
-returns c = tallied-end _ _ _ _ (c .before .loop .inv .6) (omega arith)
+returns c = tallied-end _ _ _ _ (c .before .loop .inv .5) (omega arith)
 
 pub tally-spec : {M : Type 1} → statement M
 tally-spec =
@@ -168,15 +170,15 @@ tally-spec =
     mul-before
     element-copy-out-before
     pdo-bits-requires
-    shared-slice-read-wide-2
+    multiplier-at-requires
     wide-requires-3
-    mul-t23
-    add-t24
     mul-sums
-    array-set-from-sums
+    add-sums
+    mul-sums-2
+    element-write-sums
     add-place
     add-wide-2
-    shared-slice-read-wide-3
+    shared-slice-read-wide-2
     wide-requires-4
     add-place-2
     add-i

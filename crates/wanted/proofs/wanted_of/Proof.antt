@@ -4,23 +4,23 @@ use mathlib.Core.Path.{sym, _∙_, ap}
 use mathlib.Core.List.{List}
 use Prim.Native.Nat.{ℕ}
 use denote.Ref.{now}
-use lib.ListN.{take}
 use borrow.Author.Needs.{needs}
 use Rattle.grammar.specs.Grammar.{pdoCount}
 use Rattle.sheet.specs.Sheet.{answerOf}
 use Rattle.sheet.specs.declared.Answer.{Answer}
 use Rattle.sheet.specs.declared.Answer.the-variants.{Accepted}
 use Rattle.sheet.proofs.Reading.{Checked, checked-case, checked-accepts}
+use Rattle.pdo.specs.Bits.{perPdo}
 use Rattle.wanted.proofs.Wanting.{sheet-wants, six-wants, routed-wants}
 use Rattle.wanted.proofs.wanted_of.Statement.{statement}
 use Rattle.wanted.proofs.wanted_of.Tie as tie
 
 -- the multipliers that count
 abbrev multipliersOf : tie.Start → List ℕ
-multipliersOf c = take (pdoCount (now (c .args .sheet))) (now (c .args .multipliers))
+multipliersOf c = perPdo (pdoCount (now (c .args .sheet))) (now (c .args .multipliers))
 
 -- from here on the sheet keeps every rule
-keeps : (c : tie.After-enum-told) → Checked (now (c .before .before .before .before .args .sheet)) Accepted
+keeps : (c : tie.After-enum-told) → Checked (now (c .before .before .before .before .before .args .sheet)) Accepted
 keeps c = checked-case _ (c .before .before .check .ensures) (c .enum-told .given .1)
 
 check-requires : tie.Need-check-requires
@@ -35,7 +35,7 @@ refused-requires c κs = search needs
 returns : tie.Need-returns
 returns c =
     let k = c .before .before .before .before in
-    let b = k .before .before in
+    let b = k .before .before .before in
     let n = c .before .before .sound .given in
     sheet-wants (now (b .args .sheet)) (multipliersOf b) (b .args .direction) (n .0 .0) (c .refused .result) (checked-case _ (k .check .ensures) (n .1)) (c .refused .ensures)
 
@@ -53,8 +53,8 @@ path-kind-requires c κs = search needs
 
 sizes-of-requires : tie.Need-sizes-of-requires
 sizes-of-requires c κs =
-    let k = checked-accepts _ (keeps (c .before .before .before .before)) in
-    (k .high, k .whole, c .sizes-of-arg .given .0)
+    let k = checked-accepts _ (keeps (c .before .before .before)) in
+    (k .high, k .whole)
 
 enum-known-answer : tie.Need-enum-known-answer
 enum-known-answer c = search needs
@@ -65,9 +65,9 @@ refused-requires-2 c κs = search needs
 returns-2 : tie.Need-returns-2
 returns-2 c =
     let z = c .before .before .before .before in
-    let p = z .before .before in
+    let p = z .before in
     let e = p .before .before .before in
-    let b = e .before .before .before .before in
+    let b = e .before .before .before .before .before in
     let n = c .before .before .answer .given in
     six-wants (now (b .args .sheet)) (multipliersOf b) (b .args .direction) (keeps e) (p .before .coe-on .result) (p .before .before .filter-terms .result) (p .path-kind .result)
     (p .before .coe-on .ensures) (p .before .before .filter-terms .ensures) (p .path-kind .ensures) (n .0 .0) (c .refused2 .result)
@@ -83,9 +83,9 @@ returns-3 : tie.Need-returns-3
 returns-3 c =
     let t = c .before .before in
     let z = t .before .before in
-    let p = z .before .before in
+    let p = z .before in
     let e = p .before .before .before in
-    let b = e .before .before .before .before in
+    let b = e .before .before .before .before .before in
     routed-wants (now (b .args .sheet)) (multipliersOf b) (b .args .direction) (keeps e) (p .before .coe-on .result) (p .before .before .filter-terms .result) (p .path-kind .result)
     (p .before .coe-on .ensures) (p .before .before .filter-terms .ensures) (p .path-kind .ensures) (z .sizes-of .result .list) (c .routed .result)
     (sym (ap (λ (x : Answer). answerOf {A = Unit {0}} x tt) (t .enum-told2 .given .1)) ∙ z .sizes-of .ensures .0) (z .sizes-of .ensures .1) (c .routed .ensures)
