@@ -18,9 +18,6 @@ enum Plan {
     Refused(u8),
 }
 
-// No oversampling: the bits of each PDO count once.
-const ONCE: [u8; 255] = [1; 255];
-
 // A data pass in group 0, with no oversampling.
 fn data_pass(
     sheet: &[u8],
@@ -33,7 +30,7 @@ fn data_pass(
 {
     subdevice::pass(
         sheet,
-        &ONCE,
+        &[],
         fmmus,
         channels,
         Place { offset, group: 0 },

@@ -4,9 +4,9 @@ use mathlib.Core.Path.{ap}
 use mathlib.Core.List.{List}
 use Prim.Native.Nat.{ℕ}
 use denote.Ref.{now}
-use lib.ListN.{take}
 use borrow.Author.Needs.{needs}
 use Rattle.grammar.specs.Grammar.{pdoCount}
+use Rattle.pdo.specs.Bits.{perPdo}
 use Rattle.pdo.specs.declared.Terms.{Terms}
 use Rattle.subdevice.proofs.Passing.{entries-wrong, channels-wrong, one-configures, unwanted-configures, mapped-configures, refused-configures}
 use Rattle.subdevice.proofs.pass.Statement.{statement}
@@ -17,7 +17,7 @@ abbrev start : tie.After-wanted-of → tie.Start
 start c = c .before .before .before .before .before .before
 
 abbrev times : tie.Start → List ℕ
-times c = take (pdoCount (now (c .args .sheet))) (now (c .args .multipliers))
+times c = perPdo (pdoCount (now (c .args .sheet))) (now (c .args .multipliers))
 
 returns : tie.Need-returns
 returns c =
