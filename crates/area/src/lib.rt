@@ -61,16 +61,17 @@ pub fn load(area: &[u8]) -> [[u8; 16]; 16]
 }
 
 // Writes sixteen FMMU entries over an area; one that isn't 256 bytes stays.
-pub fn store_all(entries: [[u8; 16]; 16], area: &mut [u8])
-    ensures { λ r. ⌜ now (area .exit) ≡ cond (notEntries (now (area .entry))) (now (area .entry)) (flat entries) ⌝ }
+pub fn store_all(entries: &[[u8; 16]; 16], area: &mut [u8])
+    ensures { λ r. ⌜ now (area .exit) ≡ cond (notEntries (now (area .entry))) (now (area .entry)) (flat (now (entries .entry))) ⌝ }
 {
     if area.len() != 256 {
         return;
     }
+    // as a slice: a proof knows its length, but not that of a lent array
+    let all = &entries[..];
     let mut k = 0;
     while k < 16 {
-        let e = entries[k];
-        store(&e, area, 16 * k);
+        store(&all[k], area, 16 * k);
         k += 1;
     }
 }

@@ -1,6 +1,6 @@
 -- `area::store_all`: an area of another length stays; after k turns the first k entries of the area are the given ones.
 -- Assumes nothing.
-use mathlib.Core.Path.{_≡_, refl, sym, _∙_, ap}
+use mathlib.Core.Path.{_≡_, refl, _∙_, ap}
 use mathlib.Core.List.{[], _++_}
 use Prim.Native.Nat.{_*_, _-_, _≤_}
 use native.Mathlib.Omega.{arith}
@@ -10,37 +10,30 @@ use Rattle.wire.proofs.Copied.{copied, copied-whole}
 use Rattle.area.specs.Area.{chunks}
 use Rattle.area.proofs.Flat.{length-chunks}
 use Rattle.area.proofs.Entry.{length-stored, stored-entry, all-stored, none-stored}
-use Rattle.area.proofs.Rows.{rows, rows-at}
 use Rattle.area.proofs.store_all.Statement.{statement}
 use Rattle.area.proofs.store_all.Tie as tie
 
 abbrev Inv-loop : tie.InvT-loop
-Inv-loop area₀ entries k₀ area k =
+Inv-loop entries area₀ all k₀ area k =
     (k ≤ 16) × (length area₀ ≡ 256) × (length area ≡ 256) × (chunks 16 16 area ≡ take k entries ++ drop k (chunks 16 16 area₀))
 
 abbrev μ-loop : tie.MeasureT-loop
-μ-loop area₀ entries k₀ area k = 16 - k
+μ-loop entries area₀ all k₀ area k = 16 - k
 
 returns : tie.Need-returns Inv-loop μ-loop
-returns c = let a = c .before .before .args in none-stored (a .t1) (now (a .area)) (λ e. omega arith)
+returns c = let a = c .before .before .args in none-stored (now (a .entries)) (now (a .area)) (λ e. omega arith)
 
 loop-holds : tie.Need-loop-holds Inv-loop μ-loop
 loop-holds c = (omega arith, omega arith, omega arith, refl)
 
-mul-e : tie.Need-mul-e Inv-loop μ-loop
-mul-e c = omega arith
-
-array-copy-out-e : tie.Need-array-copy-out-e Inv-loop μ-loop
-array-copy-out-e c = omega arith
-
-slice-aggregate-store : tie.Need-slice-aggregate-store Inv-loop μ-loop
-slice-aggregate-store c =
-    let s = c .before .before .before .before .before .before in
-    let g = rows 16 16 (s .args .t1) (s .good .0) in
-    sym (rows-at 16 (s .args .t1) (c .before .before .before .loop .k) (g .1) (omega arith))
-
 mul-store : tie.Need-mul-store Inv-loop μ-loop
 mul-store c = omega arith
+
+shared-slice-element-store : tie.Need-shared-slice-element-store Inv-loop μ-loop
+shared-slice-element-store c = omega arith
+
+mul-store-2 : tie.Need-mul-store-2 Inv-loop μ-loop
+mul-store-2 c = omega arith
 
 store-requires : tie.Need-store-requires Inv-loop μ-loop
 store-requires c κs = tt
@@ -54,18 +47,18 @@ loop-less c = omega arith
 loop-again : tie.Need-loop-again Inv-loop μ-loop
 loop-again c =
     let l = c .before .before .before .before .before .before .before .loop in
-    let s = c .before .before .before .before .before .before .before .before .before .before in
-    let xs = s .args .t1 in
-    let g = rows 16 16 xs (s .good .0) in
+    let d = c .before .before .before .before .before .before .before .before in
+    let xs = now (d .before .before .before .args .entries) in
+    let b = now (d .before .before .before .args .area) in
     let e = getD xs (l .k) [] in
     let stored = c .before .before .store .ensures in
-    let many = length-chunks 16 16 (now (s .args .area)) in (
+    let many = length-chunks 16 16 b in (
       omega arith,
       l .inv .1,
       ap length stored ∙ length-stored (16 * l .k) e (l .area) ∙ l .inv .2,
       ap (chunks 16 16) stored
-          ∙ stored-entry 16 16 (l .area) e (l .k) (16 * l .k) (l .inv .2) (rows-at 16 xs (l .k) (g .1) (omega arith)) (omega arith) (omega arith) (omega arith)
-          ∙ copied [] xs (chunks 16 16 (now (s .args .area))) (chunks 16 16 (l .area)) (l .k) (omega arith) (omega arith) (l .inv .3),
+          ∙ stored-entry 16 16 (l .area) e (l .k) (16 * l .k) (l .inv .2) (omega arith) (omega arith) (omega arith) (omega arith)
+          ∙ copied [] xs (chunks 16 16 b) (chunks 16 16 (l .area)) (l .k) (omega arith) (omega arith) (l .inv .3),
     )
 
 same-length : tie.Need-same-length Inv-loop μ-loop
@@ -74,11 +67,11 @@ same-length c = omega arith
 returns-2 : tie.Need-returns-2 Inv-loop μ-loop
 returns-2 c =
     let l = c .before .loop in
-    let s = c .before .before .before .before in
-    let b = now (s .args .area) in
-    let g = rows 16 16 (s .args .t1) (s .good .0) in
+    let d = c .before .before in
+    let xs = now (d .before .before .before .args .entries) in
+    let b = now (d .before .before .before .args .area) in
     let many = length-chunks 16 16 b in
-    all-stored (s .args .t1) b (l .area) (l .inv .1) (l .inv .2) (copied-whole (s .args .t1) (chunks 16 16 b) (chunks 16 16 (l .area)) (l .k) (omega arith) (omega arith) (l .inv .3))
+    all-stored xs b (l .area) (l .inv .1) (l .inv .2) (copied-whole xs (chunks 16 16 b) (chunks 16 16 (l .area)) (l .k) (omega arith) (omega arith) (l .inv .3))
 
 pub store-all-spec : {M : Type 1} → statement M
 store-all-spec =
@@ -88,10 +81,9 @@ store-all-spec =
     μ-loop
     returns
     loop-holds
-    mul-e
-    array-copy-out-e
-    slice-aggregate-store
     mul-store
+    shared-slice-element-store
+    mul-store-2
     store-requires
     add-k
     loop-less

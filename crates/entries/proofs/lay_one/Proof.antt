@@ -1,68 +1,101 @@
--- `entries::lay_one`: past the last entry nothing; else what the entry becomes stands in its place, or 8.
+-- `entries::lay_one`: past the last entry nothing; else an enabled entry grows or is refused with 8, a disabled one is made new.
 -- Assumes nothing.
-use mathlib.Core.Path.{sym, _∙_, ap}
 use native.Mathlib.Omega.{arith}
 use denote.Ref.{now}
 use borrow.Author.Needs.{needs}
-use Rattle.entries.specs.Lay.{becameOf, useAt}
-use Rattle.entries.proofs.Entry.{laid-nowhere, laid-written, laid-refused}
+use Rattle.entries.specs.Lay.{useAt}
+use Rattle.entries.proofs.Entry.{laid-nowhere, laid-refused, laid-grown, laid-new}
 use Rattle.entries.proofs.lay_one.Statement.{statement}
 use Rattle.entries.proofs.lay_one.Tie as tie
 
 returns : tie.Need-returns
 returns c = let a = c .before .args in laid-nowhere (a .direction) (a .start) (useAt (a .e) (a .size .0) (a .at)) (now (a .entries)) (c .before .pre) (c .if1 .taken)
 
-mul-image : tie.Need-mul-image
-mul-image c = search needs
+mul-unpack : tie.Need-mul-unpack
+mul-unpack c = search needs
 
-element-copy-out-image : tie.Need-element-copy-out-image
-element-copy-out-image c = search needs
+element-copy-out-unpack : tie.Need-element-copy-out-unpack
+element-copy-out-unpack c = search needs
 
-laid-entry-requires : tie.Need-laid-entry-requires
-laid-entry-requires c κs = search needs
+unpack-requires : tie.Need-unpack-requires
+unpack-requires c κs = search needs
 
-enum-known-entry : tie.Need-enum-known-entry
-enum-known-entry c = search needs
+cast-if3 : tie.Need-cast-if3
+cast-if3 c = search needs
+
+cast-if3-2 : tie.Need-cast-if3-2
+cast-if3-2 c = search needs
+
+add-if3 : tie.Need-add-if3
+add-if3 c = search needs
+
+returns-2 : tie.Need-returns-2
+returns-2 c =
+    let t = c .before .before .before in
+    let a = t .before .before .before .before .args in
+    laid-refused (a .direction) (a .start) (a .e) (a .size .0) (a .at) (now (a .entries)) (omega arith) _ (t .before .unpack .ensures) (t .if2 .taken) (c .if3 .taken)
+
+grown-requires : tie.Need-grown-requires
+grown-requires c κs = search needs
 
 pack-requires : tie.Need-pack-requires
 pack-requires c κs = search needs
 
-mul-t18 : tie.Need-mul-t18
-mul-t18 c = search needs
+mul-t19 : tie.Need-mul-t19
+mul-t19 c = search needs
 
 element-set-from-entries : tie.Need-element-set-from-entries
 element-set-from-entries c = search needs
 
-enum-known-number : tie.Need-enum-known-number
-enum-known-number c = search needs
-
-returns-2 : tie.Need-returns-2
-returns-2 c =
-    let n = c .before .before in
-    let l = n .before .before in
-    let a = l .before .before .before .args in
-    let q = sym (ap becameOf (n .entry .given .1)) ∙ l .laid-entry .ensures in
-    laid-written (a .direction) (a .start) (a .e) (a .size .0) (a .at) (now (a .entries)) (omega arith) _ _ q (c .pack .ensures)
-
 returns-3 : tie.Need-returns-3
 returns-3 c =
-    let n = c .before .number .given in
-    let l = c .before .before .before in
-    let a = l .before .before .before .args in
-    laid-refused (a .direction) (a .start) (a .e) (a .size .0) (a .at) (now (a .entries)) (omega arith) (n .0 .0) (sym (ap becameOf (n .1)) ∙ l .laid-entry .ensures)
+    let g = c .before in
+    let t = g .before .before .before .before in
+    let a = t .before .before .before .before .args in
+    laid-grown (a .direction) (a .start) (a .e) (a .size .0) (a .at) (now (a .entries)) (omega arith) _ (t .before .unpack .ensures)
+    (t .if2 .taken) (g .before .if3 .left) (c .pack .ensures) (g .grown .ensures)
+
+mapped-requires : tie.Need-mapped-requires
+mapped-requires c κs = search needs
+
+pack-requires-2 : tie.Need-pack-requires-2
+pack-requires-2 c κs = search needs
+
+mul-t9 : tie.Need-mul-t9
+mul-t9 c = search needs
+
+element-set-from-entries-2 : tie.Need-element-set-from-entries-2
+element-set-from-entries-2 c = search needs
+
+returns-4 : tie.Need-returns-4
+returns-4 c =
+    let m = c .before in
+    let t = m .before in
+    let s = t .before .before .before .before in
+    let a = s .args in
+    let fits = s .good .1 .1 .1 .0 in
+    laid-new (a .direction) (a .start) (a .e) (a .size .0) (a .at) (now (a .entries)) (omega arith) _ (t .before .unpack .ensures)
+    (t .if2 .left) (omega arith) (c .pack2 .ensures) (m .mapped .ensures)
 
 pub lay-one-spec : {M : Type 1} → statement M
 lay-one-spec =
     tie.close
     (tie.spec
     returns
-    mul-image
-    element-copy-out-image
-    laid-entry-requires
-    enum-known-entry
-    pack-requires
-    mul-t18
-    element-set-from-entries
-    enum-known-number
+    mul-unpack
+    element-copy-out-unpack
+    unpack-requires
+    cast-if3
+    cast-if3-2
+    add-if3
     returns-2
-    returns-3)
+    grown-requires
+    pack-requires
+    mul-t19
+    element-set-from-entries
+    returns-3
+    mapped-requires
+    pack-requires-2
+    mul-t9
+    element-set-from-entries-2
+    returns-4)

@@ -2,7 +2,7 @@
 -- Assumes nothing.
 use native.Mathlib.Omega.{arith}
 use borrow.Author.Needs.{needs}
-use Rattle.area.proofs.Rows.{rows, rows-bytes}
+use Rattle.area.proofs.Rows.{rows-bytes}
 use Rattle.entries.proofs.Lengths.{short-bytes}
 use Rattle.entries.proofs.Decided.{wrong-area-refused, too-long-refused, end-refuses, entries-written}
 use Rattle.entries.proofs.write_entries.Statement.{statement}
@@ -15,7 +15,7 @@ load-requires : tie.Need-load-requires
 load-requires c κs = search needs
 
 lay-requires : tie.Need-lay-requires
-lay-requires c κs = let g = c .before .load .ok in short-bytes (c .before .load .result) (rows 16 16 (c .before .load .result) g .0) (rows-bytes 16 16 (c .before .load .result) g)
+lay-requires c κs = let l = c .before .load in short-bytes (l .result) (omega arith) (rows-bytes 16 16 (l .result) (l .ok))
 
 enum-known-end : tie.Need-enum-known-end
 enum-known-end c = search needs
@@ -41,7 +41,7 @@ same-length c = search needs
 returns-2 : tie.Need-returns-2
 returns-2 c =
     let y = c .before .before in
-    let e = y .before .before in
+    let e = y .before .before .before in
     let g = e .before .before in
     let n = g .before .before in
     let t = n .before .before in

@@ -14,21 +14,21 @@ use Rattle.subdevice.proofs.pass.Tie as tie
 
 -- where the call began, and the multipliers that count
 abbrev start : tie.After-wanted-of → tie.Start
-start c = c .before .before .before .before .before .before
+start c = c .before .before .before .before .before .before .before
 
 abbrev times : tie.Start → List ℕ
 times c = perPdo (pdoCount (now (c .args .sheet))) (now (c .args .multipliers))
 
 returns : tie.Need-returns
 returns c =
-    let s = c .before .before .before .before in
+    let s = c .before .before .before .before .before in
     let a = s .args in
     one-configures (now (a .sheet)) (times s) (a .direction) (a .place .offset .«start_address») (a .place .group) (now (a .fmmus)) (now (a .channels))
     (entries-wrong (now (a .fmmus)) (now (a .channels)) (c .if1 .taken))
 
 returns-2 : tie.Need-returns-2
 returns-2 c =
-    let s = c .before .before .before .before .before in
+    let s = c .before .before .before .before .before .before in
     let a = s .args in
     one-configures (now (a .sheet)) (times s) (a .direction) (a .place .offset .«start_address») (a .place .group) (now (a .fmmus)) (now (a .channels))
     (channels-wrong (now (a .fmmus)) (now (a .channels)) (c .before .if1 .left) (c .if2 .taken))
