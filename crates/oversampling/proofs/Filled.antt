@@ -5,19 +5,17 @@ use mathlib.Core.List.{List, [], _∷_, _++_}
 use Prim.Native.Nat.{ℕ, suc, _+_, _*_, _-_, _<_, _≤_}
 use native.Mathlib.Nat.{sub-zero}
 use native.Mathlib.Omega.{arith}
-use lib.Dec.{eqb·suc-zero}
 use lib.ListN.{length, getD, take, drop, set, length-map, length-append, length-drop}
 use lib.Seq.{length-take-le, drop-drop, getD-drop}
 use Rattle.wire.specs.Number.{bigAt}
 use Rattle.wire.specs.Room.{over}
 use Rattle.wire.proofs.Copied.{copied, copied-all}
-use Rattle.grammar.specs.Grammar.{pdosPlace}
+use Rattle.grammar.specs.Grammar.{pdoCount, pdosPlace}
 use Rattle.sheet.specs.Device.{Pdo, pdoAt, nextPdo, pdosFrom}
 use Rattle.sheet.specs.Sheet.{sheetData}
 use Rattle.sheet.proofs.Sound.{length-pdos}
 use Rattle.pdo.specs.declared.Oversampling.{Oversampling}
 use Rattle.pdo.specs.Bits.{multiplierOf, multipliersOf}
-use Rattle.oversampling.specs.Multipliers.{lookedUp, asked}
 
 -- a record's index as code reads it
 pub index-here : (s : List ℕ) (at a b y : ℕ) → a ≡ getD s (at + 2) 0 → b ≡ getD s (at + 3) 0 → y ≡ bigAt (a ∷ b ∷ []) 0 2 → y ≡ bigAt s (at + 2) 2
@@ -40,11 +38,10 @@ module _ (t : List Oversampling) (s : List ℕ) where
   unfolding pdosFrom
   others n m at e = rw e
 
--- those that a table is asked for
-pub asked-all : (t : List Oversampling) (s : List ℕ) → those t s (asked (length t) s) (pdosPlace s) ≡ lookedUp t (sheetData s .pdos)
-unfolding pdosFrom sheetData
-asked-all [] s = refl
-asked-all (r ∷ t) s = rw (eqb·suc-zero (length t))
+-- all of them
+pub all-those : (t : List Oversampling) (s : List ℕ) → those t s (pdoCount s) (pdosPlace s) ≡ multipliersOf t (sheetData s .pdos)
+unfolding sheetData
+all-those t s = refl
 
 module _ (t : List Oversampling) (s : List ℕ) (n at : ℕ) where
   -- k are filled, and the records ahead stand from `place` on

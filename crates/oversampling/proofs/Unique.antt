@@ -6,8 +6,7 @@ use Rattle.wire.specs.Room.{over}
 use Rattle.wire.proofs.Pins.{Pins, same}
 use Rattle.wire.proofs.Stated.{Saying, States}
 use Rattle.sheet.specs.Sheet.{sheetData}
-use Rattle.pdo.specs.Bits.{multiplierOf}
-use Rattle.oversampling.specs.Multipliers.{lookedUp}
+use Rattle.pdo.specs.Bits.{multiplierOf, multipliersOf}
 use Rattle.oversampling.proofs.multiplier_of as multiplier-of
 use Rattle.oversampling.proofs.multipliers_for as multipliers-for
 
@@ -21,7 +20,7 @@ pub multiplier-of-pins : Pins First (λ κs r s. r)
 multiplier-of-pins κs a x y s t p q = same p q
 
 abbrev Each : Saying multipliers-for.ended
-Each κs a r s = now (s .1 .1 .0) ≡ over (lookedUp (now (a .0)) (sheetData (now (a .1 .0)) .pdos)) (now (a .1 .1 .0))
+Each κs a r s = now (s .1 .1 .0) ≡ over (multipliersOf (now (a .0)) (sheetData (now (a .1 .0)) .pdos)) (now (a .1 .1 .0))
 
 pub multipliers-for-states : States multipliers-for.ended (λ M 𝓤 H. multipliers-for.clauses 𝓤 H) Each
 multipliers-for-states M 𝓤 H A mem run κs a r s g = refl

@@ -2,10 +2,10 @@
 ghost use mathlib.Core.Path.{_≡_};
 ghost use Prim.Native.Nat.{_+_, _≤_, _<_, _^_};
 ghost use Rattle.wire.specs.Room.{over};
+ghost use Rattle.grammar.specs.Grammar.{pdoCount};
 ghost use Rattle.sheet.specs.Device.{pdoAt, nextPdo};
 ghost use Rattle.sheet.specs.Sheet.{sheetData};
-ghost use Rattle.pdo.specs.Bits.{multiplierOf};
-ghost use Rattle.oversampling.specs.Multipliers.{lookedUp, asked};
+ghost use Rattle.pdo.specs.Bits.{multiplierOf, multipliersOf};
 use pdo::Oversampling;
 
 // The multiplier of the first record with the index, 1 where there is none.
@@ -22,13 +22,10 @@ pub fn multiplier_of(table: &[Oversampling], index: u16) -> u8
     1
 }
 
-// How many PDOs are looked up: those of the sheet, none where the table has no record.
-fn looked_up(sheet: &[u8], records: usize) -> usize
-    ensures { λ r. ⌜ (r ≡ asked records (now (sheet .entry))) × (r ≤ 255) ⌝ }
+// How many PDOs a sheet has.
+fn pdos_of(sheet: &[u8]) -> usize
+    ensures { λ r. ⌜ (r ≡ pdoCount (now (sheet .entry))) × (r ≤ 255) ⌝ }
 {
-    if records == 0 {
-        return 0;
-    }
     wire::wide(grammar::pdo_count(sheet))
 }
 
@@ -53,9 +50,9 @@ fn next_pdo(sheet: &[u8], at: usize) -> usize
 
 // One multiplier for each PDO of a sheet, in its order, over the front of a list.
 pub fn multipliers_for(table: &[Oversampling], sheet: &[u8], out: &mut [u8; 255])
-    ensures { λ r. ⌜ now (out .exit) ≡ over (lookedUp (now (table .entry)) (sheetData (now (sheet .entry)) .pdos)) (now (out .entry)) ⌝ }
+    ensures { λ r. ⌜ now (out .exit) ≡ over (multipliersOf (now (table .entry)) (sheetData (now (sheet .entry)) .pdos)) (now (out .entry)) ⌝ }
 {
-    let count = looked_up(sheet, table.len());
+    let count = pdos_of(sheet);
     let mut place = grammar::pdos_place(sheet);
     let mut k = 0;
     while k < count {

@@ -3,7 +3,6 @@ pub mod Part
 pub mod Records
 pub mod Some
 pub mod Bits
-pub mod Ones
 pub mod PerPdo
 pub mod Sums
 pub mod Unique

@@ -1,2 +1,0 @@
--- One multiplier for each PDO of a sheet, as code holds them.
-pub mod Multipliers
