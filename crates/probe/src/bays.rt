@@ -3,13 +3,12 @@ use crate::parts;
 use crate::say;
 use crate::say::Line;
 use crate::table;
+use crate::table::Passed;
 use crate::table::Start;
 use counting::Counted;
 use mailboxes::MailboxAnswer;
 use mailboxes::MailboxConfig;
 use mailboxes::Slot;
-use passes::Configured;
-use passes::Place;
 use pdi::PdiOffset;
 use pdi::PdiSegment;
 use pdi::Placed;
@@ -253,93 +252,70 @@ pub fn plan(request: &[u8]) {
     say::text(parts::front(&text, without_end(answer)));
 }
 
-// No oversampling: the bits of each PDO count once.
-const ONCE: [u8; 255] = [1; 255];
-
-// A pass of a plan: where it begins, and which way it goes.
-struct Leg {
-    offset: PdiOffset,
-    direction: PdoDirection,
-}
-
-// A data pass of a plan; without a table it needs none, as lockerplan's.
+// A data pass of a plan, in group 0.
 fn plan_pass(
     sheet: &[u8],
-    once: &[u8; 255],
     table: [Oversampling; 256],
     records: usize,
     fmmus: &mut [u8],
     channels: &mut [u8],
-    leg: Leg,
-) -> Configured {
-    let offset = leg.offset;
-    let direction = leg.direction;
-    if records == 0 {
-        let place = Place { offset, group: 0 };
-        return subdevice::pass(sheet, once, fmmus, channels, place, direction);
-    }
+    offset: PdiOffset,
+    direction: PdoDirection,
+) -> Passed {
     let start = Start { offset, group: 0 };
-    let done = table::plan(sheet, table, records, fmmus, channels, start, direction);
-    let answer = done.answer;
-    let next = done.next;
-    match answer {
-        Placed::Segment(segment) => Configured::Mapped(segment, next),
-        Placed::Refused(number) => Configured::Refused(number),
+    if records == 0 {
+        return table::bare(sheet, fmmus, channels, start, direction);
     }
+    table::plan(sheet, table, records, fmmus, channels, start, direction)
 }
 
 // Both segments, or the second pass's refusal.
-fn both(inputs: PdiSegment, second: Configured) -> Line {
+fn both(inputs: PdiSegment, second: Placed) -> Line {
     match second {
-        Configured::Mapped(outputs, _) => say::row(
+        Placed::Segment(outputs) => say::row(
             inputs.start as u64,
             inputs.end as u64,
             outputs.start as u64,
             outputs.end as u64,
         ),
-        Configured::Refused(number) => say::refused(number),
+        Placed::Refused(number) => say::refused(number),
     }
 }
 
 // Mailbox, input and output pass over areas of zeros, from offset 0 in group 0, up to the first refusal.
-fn plan_once(sheet: &[u8], once: &[u8; 255], table: [Oversampling; 256], records: usize) -> Line {
+fn plan_once(sheet: &[u8], table: [Oversampling; 256], records: usize) -> Line {
     let mut fmmus = [0u8; 256];
     let mut channels = [0u8; 128];
     if let MailboxAnswer::Refused(number) = mailboxes::configure_mailboxes(sheet, &mut channels) {
         return say::refused(number);
     }
-    let first = Leg {
-        offset: PdiOffset { start_address: 0 },
-        direction: PdoDirection::MasterRead,
-    };
-    match plan_pass(
+    let start = PdiOffset { start_address: 0 };
+    let first = plan_pass(
         sheet,
-        once,
         table,
         records,
         &mut fmmus,
         &mut channels,
-        first,
-    ) {
-        Configured::Mapped(inputs, next) => {
-            let second = Leg {
-                offset: next,
-                direction: PdoDirection::MasterWrite,
-            };
-            both(
-                inputs,
-                plan_pass(
-                    sheet,
-                    once,
-                    table,
-                    records,
-                    &mut fmmus,
-                    &mut channels,
-                    second,
-                ),
-            )
+        start,
+        PdoDirection::MasterRead,
+    );
+    let answer = first.answer;
+    let next = first.next;
+    match answer {
+        Placed::Segment(inputs) => {
+            let second = plan_pass(
+                sheet,
+                table,
+                records,
+                &mut fmmus,
+                &mut channels,
+                next,
+                PdoDirection::MasterWrite,
+            );
+            let outputs = second.answer;
+            both(inputs, outputs)
         }
-        Configured::Refused(number) => say::refused(number),
+        Placed::Refused(number) => say::refused(number),
     }
 }
 
@@ -348,11 +324,10 @@ pub fn again(request: &[u8]) {
     let sheet = parts::sheet(request);
     let table = parts::table(request);
     let records = parts::records(request);
-    let once = ONCE;
     let mut last = say::one(say::NONE);
     let mut left = parts::number4(request, 4);
     while 0 < left {
-        last = plan_once(sheet, &once, table, records);
+        last = plan_once(sheet, table, records);
         left -= 1;
     }
     say::line(last);

@@ -54,3 +54,28 @@ pub fn locate(
     let k = wire::least(records, 256);
     lent::count(sheet, &table[..k], offset, direction, address)
 }
+
+// Without a table.
+pub fn bare(
+    sheet: &[u8],
+    fmmus: &mut [u8],
+    channels: &mut [u8],
+    start: Start,
+    direction: PdoDirection,
+) -> Passed {
+    let none: [Oversampling; 0] = [];
+    let mut offset = start.offset;
+    let answer = lent::configure_fmmus(
+        sheet,
+        &none,
+        fmmus,
+        channels,
+        &mut offset,
+        start.group,
+        direction,
+    );
+    Passed {
+        answer,
+        next: offset,
+    }
+}

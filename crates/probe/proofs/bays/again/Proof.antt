@@ -6,10 +6,10 @@ use Rattle.probe.proofs.bays.again.Statement.{statement}
 use Rattle.probe.proofs.bays.again.Tie as tie
 
 abbrev Inv-loop : tie.InvT-loop
-Inv-loop request sheet table records once last₀ left₀ last left = Unit {0}
+Inv-loop request sheet table records last₀ left₀ last left = Unit {0}
 
 abbrev μ-loop : tie.MeasureT-loop
-μ-loop request sheet table records once last₀ left₀ last left = left
+μ-loop request sheet table records last₀ left₀ last left = left
 
 sheet-requires : tie.Need-sheet-requires Inv-loop μ-loop
 sheet-requires c κs = search needs
