@@ -28,7 +28,7 @@ returns : tie.Need-returns
 returns c =
     let p = called (c .before .before .before) in
     let s = c .before .segment .given in
-    mapped (p .before .before .before .before .before .before .before .args .place .offset) (p .pass .ensures) (s .0 .0) (s .0 .1 .0) (s .1)
+    mapped (p .before .before .before .before .before .before .before .before .args .place .offset) (p .pass .ensures) (s .0 .0) (s .0 .1 .0) (s .1)
 
 same-length-3 : tie.Need-same-length-3
 same-length-3 c = search needs
@@ -40,7 +40,7 @@ returns-2 : tie.Need-returns-2
 returns-2 c =
     let p = called (c .before .before .before) in
     let n = c .before .number .given in
-    stopped (p .before .before .before .before .before .before .before .args .place .offset) (p .pass .ensures) (n .0 .0) (n .1)
+    stopped (p .before .before .before .before .before .before .before .before .args .place .offset) (p .pass .ensures) (n .0 .0) (n .1)
 
 pub passed-spec : {M : Type 1} → statement M
 passed-spec = tie.close (tie.spec pass-requires enum-known-segment enum-known-number same-length same-length-2 returns same-length-3 same-length-4 returns-2)

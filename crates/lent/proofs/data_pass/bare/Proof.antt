@@ -1,0 +1,24 @@
+-- `bare`: a pass that is lent no multiplier.
+-- Assumes nothing.
+use borrow.Author.Needs.{needs}
+use Rattle.lent.proofs.Passing.{without-table}
+use Rattle.lent.proofs.data_pass.bare.Statement.{statement}
+use Rattle.lent.proofs.data_pass.bare.Tie as tie
+
+slice-aggregate-passed : tie.Need-slice-aggregate-passed
+slice-aggregate-passed c = search needs
+
+passed-requires : tie.Need-passed-requires
+passed-requires c κs = search needs
+
+same-length : tie.Need-same-length
+same-length c = search needs
+
+same-length-2 : tie.Need-same-length-2
+same-length-2 c = search needs
+
+returns : tie.Need-returns
+returns c = without-table (c .before .before .before .before .passed .ensures)
+
+pub bare-spec : {M : Type 1} → statement M
+bare-spec = tie.close (tie.spec slice-aggregate-passed passed-requires same-length same-length-2 returns)
