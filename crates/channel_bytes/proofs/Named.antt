@@ -5,7 +5,7 @@ use mathlib.Core.Bool.{Bool, true, false, not, cond}
 use Prim.Native.Nat.{ℕ, _<_}
 use lib.Dec.{T, ltb}
 use lib.Bits.{bitAnd}
-use Rattle.wire.proofs.Below.{all, below}
+use Rattle.wire.proofs.Below.{below}
 use Rattle.channel_bytes.specs.Bytes.{unnamed}
 
 same-truth : (x y : Bool) → T (cond x y (not y)) → x ≡ y

@@ -8,7 +8,7 @@ use mir.Syntax.{Place, Opd as Operand, Body, seq, cond, skip}
 use mir.Val.{Val, vbool}
 use prog.Wp.{Heap, Env, Spot, Calls, Loops, Wp, afterSeq}
 use ghost.Atoms.{Atoms}
-use types.Kit.{Given, Item, Post, anyQ, post, Goal, runs, settles, Seq, Step, step, _$_}
+use types.Kit.{Given, Item, Post, anyQ, post, runs, settles, Seq, Step, step, _$_}
 use types.Run.{Opd, Finds, Writes, first, skips, branches, land-last}
 
 -- what is to hold where code ends that `rest` follows

@@ -72,7 +72,8 @@ module _ {M : Type 1} (𝓤 : URA M) (H : Heap 𝓤) (A : Atoms 𝓤) (W : Given
 
   pub lends-array : (κ : Lft) → ent 𝓤 (sem 𝓤 H A (mem (Array u8 255) .lies ws l 0)) (H .⇛ (ex 𝓤 (λ (γ : GName). sep 𝓤 (sem 𝓤 H A (as-slice κ γ)) (A .lent κ elements))))
   lends-array κ =
-      qed W (‵ (mem (Array u8 255) .lies ws l 0) ∷ []) ∵ updating ! $ use1 W (‵ elements) (apart 𝓤 H A W u8 255 tt ws l 0) $ fsplit ! $ feqL ! (λ long. feqI ! ℕ (length ws) (length ws) refl $ fjoin ! $
+      qed W (‵ (mem (Array u8 255) .lies ws l 0) ∷ []) ∵ updating ! $ use1 W (‵ elements) (apart 𝓤 H A W u8 255 tt ws l 0) $ fsplit ! $ feqL ! (λ long. feqI ! ℕ (length ws) (length ws) refl $
+      fjoin ! $
       use1 W (later (some (λ (γ : GName). ‵ (ShrSlice (named 1) κ u8 .own (array-at l γ ws) (sliceVal (l, 0) (length ws) ∷ [])) ⊛ ‵ (flent κ (arr-parts (shares u8)
       (length ws) .part fullShare ws l 0))))) (lends-shr-slice 𝓤 H A W u8 (named 1) κ fullShare ws l 0 (subst (Room u8) (sym long) (lit< tt, lit< tt))) $ await ! tt $ pick ! (λ γ. split ! $
       rewrite ! 0 (λ (n : ℕ). ‵ (ShrSlice (named 1) κ u8 .own (array-at l γ ws) (sliceVal (l, 0) n ∷ []))) long refl $
@@ -81,7 +82,8 @@ module _ {M : Type 1} (𝓤 : URA M) (H : Heap 𝓤) (A : Atoms 𝓤) (W : Given
 
   pub array-back : ent 𝓤 (sem 𝓤 H A elements) (sep 𝓤 (sem 𝓤 H A (cell 𝓤 H A W u8 255 l (of-array ws))) (sem 𝓤 H A (Array u8 255 .own ws (of-array ws ∷ []))))
   array-back =
-      qed W (‵ elements ∷ []) ∵ fsplit ! $ feqL ! (λ long. use1 W (‵ (mem (Array u8 255) .lies ws l 0)) (together 𝓤 H A W u8 255 ws l 0 long) $ by ! (lay 𝓤 H A W u8 255 (uint-vals w8) (uint-tells w8) ws l))
+      qed W (‵ elements ∷ []) ∵ fsplit ! $ feqL ! (λ long. use1 W (‵ (mem (Array u8 255) .lies ws l 0)) (together 𝓤 H A W u8 255 ws l 0 long) $
+      by ! (lay 𝓤 H A W u8 255 (uint-vals w8) (uint-tells w8) ws l))
 
 module _ {M : Type 1} (𝓤 : URA M) (H : Heap 𝓤) (A : Atoms 𝓤) (W : Given 𝓤 H A) (at-mem : Memory → SProp 𝓤) (run : Routine → Fun 𝓤) (κ₀ κ₁ : Lft) (q₀ q₁ : Share) (x : RefT (List ℕ))
     (t : RefT (List Oversampling)) where

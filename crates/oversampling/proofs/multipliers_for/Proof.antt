@@ -28,10 +28,9 @@ use contract.Monad.{Fun, fact}
 use contract.Running.{givenOf, tables, tablesOf}
 use types.Kit.{Given, Item, Sq, runs, anyQ, atRet, ‵, raw, some, later, _⊛_, ⋆, _$_, _∵_, !, qed, by, move, keep, drop, use1, use2, split, join, pick, rewrite, fsplit, fsplit3, fjoin, fjoin3}
 use types.Kit.{feqL, feqI, suffices, frame, await, done}
-use types.Run.{look, init, store, forget, stop, hop, fld, from, load, lit, unit-lit, addr, of-opd, bin, and-then, no-more, assigns, assigns-last, land, first, blocks, stays, leaves-loop, returns}
+use types.Run.{look, init, store, forget, stop, hop, from, load, lit, unit-lit, addr, of-opd, bin, and-then, no-more, assigns, assigns-last, land, first, blocks, stays, leaves-loop, returns}
 use types.Run.{exec, enter, alloc1, alloc0, params1, pass1, pass0, free1, free0, Below, again, loops}
 use types.Mut.{open-ref, close-ref}
-use types.Part.{whole, sub, look-in}
 use types.SemTy.{Body}
 use types.Share.{arr-parts}
 use sound.WpLaws.{fmOf, WpFn-mono}

@@ -206,7 +206,8 @@ module _ {M : Type 1} (𝓤 : URA M) (H : Heap 𝓤) (A : Atoms 𝓤) (W : Given
         → ent 𝓤 (onEntry 𝓤 H A it.signature (κ₀, (κ₁, tt)) (q₀, (q₁, tt)) a vals) (WpFn 𝓤 H C Λ code.function machine Post)
     walk px pt =
         qed W ((‵ (flft κ₀ q₀) ⊛ ‵ (flft κ₁ q₁) ⊛ ‵ ftrue) ∷ ‵ (owns (ShrSlice (named 0) κ₀ u8 ∷ ShrSlice (named 1) κ₁ O.the-row ∷ P.the-row ∷ D.the-row ∷ u32 ∷ []) a vals) ∷ []) ∵
-        enter ! C Λ code.function machine _ $ alloc1 ! (λ l₀. alloc1 ! (λ l₁. alloc1 ! (λ l₂. alloc1 ! (λ l₃. alloc1 ! (λ l₄. alloc1 ! (λ l₅. alloc1 ! (λ l₆. alloc1 ! (λ l₇. alloc1 ! (λ l₈. alloc1 ! (λ l₉. alloc1 ! (λ l₁₀. alloc1 ! (λ l₁₁. alloc1 ! (λ l₁₂. alloc0 ! $
+        enter ! C Λ code.function machine _ $ alloc1 ! (λ l₀. alloc1 ! (λ l₁. alloc1 ! (λ l₂. alloc1 ! (λ l₃. alloc1 ! (λ l₄. alloc1 ! (λ l₅. alloc1 ! (λ l₆. alloc1 ! (λ l₇. alloc1 ! (λ l₈. alloc1 !
+        (λ l₉. alloc1 ! (λ l₁₀. alloc1 ! (λ l₁₁. alloc1 ! (λ l₁₂. alloc0 ! $
         params1 ! $ pass1 ! (init ! 22 refl (shr-slice-lawful 𝓤 H A W (named 0) κ₀ u8 .typed x (v ∷ []) px .0)) $
         pass1 ! (init ! 20 refl (shr-slice-lawful 𝓤 H A W (named 1) κ₁ O.the-row .typed t (u ∷ []) pt .0)) $ pass1 ! (init ! 18 refl (LL.lawful P.the-type P′.the-laws 𝓤 H A W .typed h _ h-is .0)) $
         pass1 ! (init ! 16 refl (EL.lawful D.the-type D′.the-laws 𝓤 H A W tt .typed d _ d-is .0)) $ pass1 ! (init ! 14 refl (tt, record { fits = z-fits })) $ pass0 ! $
@@ -218,8 +219,18 @@ module _ {M : Type 1} (𝓤 : URA M) (H : Heap 𝓤) (A : Atoms 𝓤) (W : Given
         -- it has none: `bare`
         (λ none. move ! (5 ∷ []) $ use1 W (‵ X ⊛ ‵ X) (shr-slice-copy 𝓤 H A W (named 0) κ₀ u8 .twice x (v ∷ [])) $ split ! $ move ! (4 ∷ 0 ∷ []) $ join ! $
         use1 W (raw (Bare 𝓤 H A at-mem run .pre to-bare)) goes-bare $
-        calls-at ! fm (Bare 𝓤 H A at-mem run) known-bare to-bare (and-then ! (load ! (from ! (stop !)) (look ! 28 refl)) (and-then ! (load ! (from ! (stop !)) (look ! 24 refl)) (and-then ! (load ! (from ! (stop !)) (look ! 22 refl)) (and-then ! (load ! (from ! (stop !)) (look ! 20 refl)) (no-more !))))) (λ c.
-        use1 W (later (some (λ (r : Counted). ((‵ (flft κ₀ q₀) ⊛ ‵ ftrue) ⊛ ‵ (S.the-row .own r (c ∷ []))) ⊛ raw (ensured 𝓤 H A bare.ended (bare.clauses 𝓤 H A at-mem run) (κ₀, tt) (x, (h, (d, (z, tt)))) tt r)))) (id⊢ 𝓤 _) $ await ! tt $
+        calls-at ! fm (Bare 𝓤 H A at-mem run) known-bare to-bare (and-then ! (load ! (from ! (stop !)) (look ! 28 refl)) (and-then ! (load ! (from ! (stop !)) (look ! 24 refl)) (and-then ! (load !
+        (from ! (stop !)) (look ! 22 refl)) (and-then ! (load ! (from ! (stop !)) (look ! 20 refl)) (no-more !))))) (λ c.
+        use1 W (later (some (λ (r : Counted). ((‵ (flft κ₀ q₀) ⊛ ‵ ftrue) ⊛ ‵ (S.the-row .own r (c ∷ []))) ⊛ raw (ensured 𝓤 H A bare.ended (bare.clauses 𝓤 H A at-mem run) (κ₀, tt) (
+          x,
+          (
+            h,
+            (
+              d,
+              (z, tt),
+            ),
+          ),
+        ) tt r)))) (id⊢ 𝓤 _) $ await ! tt $
         pick ! (λ r. split ! $ move ! (1 ∷ []) $ use1 W (raw (fact 𝓤 (Counts (multipliersOf [] pdos) r))) (said-bare r) $ heard ! (Counts (multipliersOf [] pdos) r) (λ counted. split ! $
         move ! (1 ∷ []) $ peeks ! S.the-row (Is S.the-row) (shows 𝓤 H A S.the-row) r (c ∷ []) (λ is.
         land ! (from ! (stop !)) (init ! 31 refl (EL.lawful S.the-type S′.the-laws 𝓤 H A W tt .typed r _ is .0)) $ move ! (1 ∷ []) $ split ! $ returns-within ! Post refl (look ! 32 refl) $
@@ -240,12 +251,14 @@ module _ {M : Type 1} (𝓤 : URA M) (H : Heap 𝓤) (A : Atoms 𝓤) (W : Given
         assigns ! (addr ! (from ! (stop !))) (from ! (stop !)) (init ! 11 refl (tt, tt)) $
         -- it is lent to `multipliers_for`, for a lifetime of the call
         move ! (19 ∷ 0 ∷ []) $ use2 W (‵ (mem (Array u8 255) .lies Ones l₆ 0)) (lies 𝓤 H A W u8 255 Ones (arrayVal (replicate 255 (vint w8 1))) l₆) $ lft-new ! tt (λ ν. move ! (1 ∷ []) $
-        use1 W (later (some (λ (γ′ : GName). ‵ (MutRef (named 0) (ν ∷ []) (Array u8 255) .own (array-at l₆ γ′ Ones) (vptr l₆ 0 ∷ [])) ⊛ ‵ (flent (ν ∷ []) (Body (mem (Array u8 255)) l₆ 0 γ′))))) (lends-ref 𝓤 H A W (Array u8 255) (named 0) (ν ∷ []) Ones l₆ 0) $ await ! tt $
+        use1 W (later (some (λ (γ′ : GName). ‵ (MutRef (named 0) (ν ∷ []) (Array u8 255) .own (array-at l₆ γ′ Ones) (vptr l₆ 0 ∷ [])) ⊛ ‵ (flent (ν ∷ []) (Body (mem (Array u8 255)) l₆ 0 γ′)))))
+        (lends-ref 𝓤 H A W (Array u8 255) (named 0) (ν ∷ []) Ones l₆ 0) $ await ! tt $
         pick ! (λ γ′. split ! $ move ! (4 ∷ []) $ use1 W (‵ X ⊛ ‵ X) (shr-slice-copy 𝓤 H A W (named 0) κ₀ u8 .twice x (v ∷ [])) $ split ! $ move ! (8 ∷ []) $
         use1 W (‵ TT ⊛ ‵ TT) (shr-slice-copy 𝓤 H A W (named 1) κ₁ O.the-row .twice t (u ∷ [])) $ split ! $ move ! (2 ∷ 4 ∷ []) $ join ! $ move ! (1 ∷ 0 ∷ []) $ join ! $ move ! (4 ∷ 0 ∷ []) $ join ! $
         move ! (4 ∷ 0 ∷ []) $ join ! $ move ! (4 ∷ 0 ∷ []) $ join ! $
         use1 W (raw (MultipliersFor 𝓤 H A W at-mem run κ₀ κ₁ q₀ q₁ x t .pre (to-fill 𝓤 H A W at-mem run κ₀ κ₁ q₀ q₁ x t ν l₆ γ′))) (goes-fill 𝓤 H A W at-mem run κ₀ κ₁ q₀ q₁ x t ν l₆ γ′) $
-        calls-at ! fm (MultipliersFor 𝓤 H A W at-mem run κ₀ κ₁ q₀ q₁ x t) known-fill (to-fill 𝓤 H A W at-mem run κ₀ κ₁ q₀ q₁ x t ν l₆ γ′) (and-then ! (load ! (from ! (stop !)) (look ! 25 refl)) (and-then ! (load ! (from ! (stop !)) (look ! 27 refl)) (and-then ! (load ! (from ! (stop !)) (look ! 10 refl)) (no-more !)))) (λ c₁.
+        calls-at ! fm (MultipliersFor 𝓤 H A W at-mem run κ₀ κ₁ q₀ q₁ x t) known-fill (to-fill 𝓤 H A W at-mem run κ₀ κ₁ q₀ q₁ x t ν l₆ γ′) (and-then ! (load ! (from ! (stop !)) (look ! 25 refl))
+        (and-then ! (load ! (from ! (stop !)) (look ! 27 refl)) (and-then ! (load ! (from ! (stop !)) (look ! 10 refl)) (no-more !)))) (λ c₁.
         use1 W (back-fill 𝓤 H A W at-mem run κ₀ κ₁ q₀ q₁ x t ν l₆ γ′ c₁) (id⊢ 𝓤 _) $ await ! tt $ pick ! (λ n. split ! $ move ! (1 ∷ []) $
         use1 W (said-fill 𝓤 H A W at-mem run κ₀ κ₁ q₀ q₁ x t ν l₆ γ′) (id⊢ 𝓤 _) $ pick ! (λ ks. split ! $ move ! (1 ∷ []) $ heard ! (Filled (t .now) (x .now) (ks .1 .1 .0)) (λ filled. fsplit ! $
         drop ! $ fsplit ! $ drop ! $ fsplit ! $ move ! (1 ∷ []) $ drop ! $ move ! (1 ∷ []) $ split ! $ move ! (1 ∷ []) $ peeks ! unit (Is unit) (shows 𝓤 H A unit) n (c₁ ∷ []) (λ is₁.
@@ -258,13 +271,17 @@ module _ {M : Type 1} (𝓤 : URA M) (H : Heap 𝓤) (A : Atoms 𝓤) (W : Given
         assigns ! (agg ! (and-then ! (load ! (from ! (stop !)) (look ! 9 refl)) (and-then ! (lit ! tt) (no-more !)))) (from ! (stop !)) (init ! 7 refl (tt, (tt, (record { fits = lit< tt }, tt)))) $
         -- the array is lent again, shared
         lft-new ! tt (λ μ. move ! (1 ∷ []) $
-        use1 W (later (some (λ (δ : GName). ‵ (as-slice 𝓤 H A W l₆ (ks .1 .1 .0) (μ ∷ []) δ) ⊛ ‵ (flent (μ ∷ []) (elements 𝓤 H A W l₆ (ks .1 .1 .0)))))) (lends-array 𝓤 H A W l₆ (ks .1 .1 .0) (μ ∷ [])) $ await ! tt $
+        use1 W (later (some (λ (δ : GName). ‵ (as-slice 𝓤 H A W l₆ (ks .1 .1 .0) (μ ∷ []) δ) ⊛ ‵ (flent (μ ∷ []) (elements 𝓤 H A W l₆ (ks .1 .1 .0)))))) (lends-array 𝓤 H A W l₆ (ks .1 .1 .0)
+        (μ ∷ [])) $ await ! tt $
         pick ! (λ δ. split ! $
         -- counting by value
         move ! (6 ∷ []) $ use1 W (‵ X ⊛ ‵ X) (shr-slice-copy 𝓤 H A W (named 0) κ₀ u8 .twice x (v ∷ [])) $ split ! $ move ! (0 ∷ 2 ∷ []) $ join ! $ move ! (3 ∷ 0 ∷ []) $ join ! $ move ! (3 ∷ 0 ∷ []) $
         join ! $ use1 W (raw (ByValue 𝓤 H A at-mem run .pre (to-count μ l₆ δ (ks .1 .1 .0)))) (goes-count μ l₆ δ (ks .1 .1 .0)) $
-        calls-at ! fm (ByValue 𝓤 H A at-mem run) known-count (to-count μ l₆ δ (ks .1 .1 .0)) (and-then ! (load ! (from ! (stop !)) (look ! 28 refl)) (and-then ! (load ! (from ! (stop !)) (look ! 7 refl)) (and-then ! (load ! (from ! (stop !)) (look ! 24 refl)) (and-then ! (load ! (from ! (stop !)) (look ! 22 refl)) (and-then ! (load ! (from ! (stop !)) (look ! 20 refl)) (no-more !)))))) (λ c₂.
-        use1 W (later (some (λ (r : Counted). ((‵ (flft κ₀ q₀) ⊛ ‵ (flft (μ ∷ []) fullShare) ⊛ ‵ ftrue) ⊛ ‵ (S.the-row .own r (c₂ ∷ []))) ⊛ raw (ensured 𝓤 H A by-value.ended (by-value.clauses 𝓤 H A at-mem run) (over-count μ) (given-to l₆ δ (ks .1 .1 .0)) tt r)))) (id⊢ 𝓤 _) $ await ! tt $
+        calls-at ! fm (ByValue 𝓤 H A at-mem run) known-count (to-count μ l₆ δ (ks .1 .1 .0)) (and-then ! (load ! (from ! (stop !)) (look ! 28 refl)) (and-then ! (load ! (from ! (stop !))
+        (look ! 7 refl)) (and-then ! (load ! (from ! (stop !)) (look ! 24 refl)) (and-then ! (load ! (from ! (stop !)) (look ! 22 refl)) (and-then ! (load ! (from ! (stop !)) (look ! 20 refl))
+        (no-more !)))))) (λ c₂.
+        use1 W (later (some (λ (r : Counted). ((‵ (flft κ₀ q₀) ⊛ ‵ (flft (μ ∷ []) fullShare) ⊛ ‵ ftrue) ⊛ ‵ (S.the-row .own r (c₂ ∷ []))) ⊛ raw (ensured 𝓤 H A by-value.ended
+        (by-value.clauses 𝓤 H A at-mem run) (over-count μ) (given-to l₆ δ (ks .1 .1 .0)) tt r)))) (id⊢ 𝓤 _) $ await ! tt $
         pick ! (λ r. split ! $ move ! (1 ∷ []) $ use1 W (raw (fact 𝓤 (Counts (perPdo (pdoCount (x .now)) (ks .1 .1 .0)) r))) (said-count μ l₆ δ (ks .1 .1 .0) r) $
         heard ! (Counts (perPdo (pdoCount (x .now)) (ks .1 .1 .0)) r) (λ counted. split ! $ move ! (1 ∷ []) $ peeks ! S.the-row (Is S.the-row) (shows 𝓤 H A S.the-row) r (c₂ ∷ []) (λ is₂.
         land ! (from ! (stop !)) (init ! 31 refl (EL.lawful S.the-type S′.the-laws 𝓤 H A W tt .typed r _ is₂ .0)) $ move ! (1 ∷ []) $ split ! $ move ! (1 ∷ []) $ split ! $

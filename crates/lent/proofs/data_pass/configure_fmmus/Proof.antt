@@ -18,9 +18,11 @@ use prog.Wp.{Heap, Env, Calls, Loops, WpFn, Tables}
 use ghost.Atoms.{Atoms}
 use contract.Monad.{Fun, fact}
 use contract.Running.{givenOf, tables, tablesOf}
-use types.Kit.{Given, Item, Sq, runs, atRet, ‵, raw, some, later, _⊛_, ⋆, _$_, _∵_, !, qed, by, move, keep, drop, use1, split, join, pick, rewrite, fsplit, fsplit3, fjoin, fjoin3, feqL, feqI, suffices}
+use types.Kit.{Given, Item, Sq, runs, atRet, ‵, raw, some, later, _⊛_, ⋆, _$_, _∵_, !, qed, by, move, keep, drop, use1, split, join, pick, rewrite, fsplit, fsplit3, fjoin, fjoin3, feqL, feqI}
+use types.Kit.{suffices}
 use types.Kit.{frame, await, done}
-use types.Run.{look, look-raw, init, store-raw, forget, stop, hop, fld, from, load, lit, addr, of-opd, bin, assigns, first, branches, and-then, no-more, returns, enter, alloc1, alloc0, params1, pass1, pass0}
+use types.Run.{look, look-raw, init, store-raw, forget, stop, hop, fld, from, load, lit, addr, of-opd, bin, assigns, first, branches, and-then, no-more, returns, enter, alloc1, alloc0, params1}
+use types.Run.{pass1, pass0}
 use types.Run.{free1, free0}
 use types.Part.{agg, whole, sub, look-in}
 use types.SemTy.{Body}
@@ -120,7 +122,30 @@ Bare 𝓤 H A at-mem run = tripleOf 𝓤 H A bare.signature (bare.spec 𝓤 H A 
 abbrev Sampled : {M : Type 1} (𝓤 : URA M) (H : Heap 𝓤) (A : Atoms 𝓤) (at-mem : Memory → SProp 𝓤) (run : Routine → Fun 𝓤) → Contract 𝓤
 Sampled 𝓤 H A at-mem run = tripleOf 𝓤 H A sampled.signature (sampled.spec 𝓤 H A at-mem run)
 
--- locals that hold nothing
+-- the types of the locals
+abbrev sheet-ty : Ty
+sheet-ty = sliceTy (tyRef (named 0) imm (tyInt w8))
+
+abbrev table-ty : Ty
+table-ty = sliceTy (tyRef (named 1) imm (pointee (O.the-row .written)))
+
+abbrev fmmus-ty : Ty
+fmmus-ty = sliceTy (tyRef (named 2) mut (tyInt w8))
+
+abbrev channels-ty : Ty
+channels-ty = sliceTy (tyRef (named 3) mut (tyInt w8))
+
+abbrev offset-ty : Ty
+offset-ty = tyRef (named 4) mut (pointee (T.the-row .written))
+
+abbrev byte-ty : Ty
+byte-ty = tyRef erased mut (tyInt w8)
+
+-- locals that hold a value, and locals that hold none
+abbrev holding : {M : Type 1} {𝓤 : URA M} → List (Ty × ℕ × Val) → List (Item 𝓤)
+holding [] = []
+holding ((τ, l, c) ∷ vs) = ‵ (fat fullShare τ l 0 c) ∷ ‵ (fdies τ l) ∷ holding vs
+
 abbrev rooms : {M : Type 1} (𝓤 : URA M) (H : Heap 𝓤) → Env 𝓤 H → List (Item 𝓤)
 rooms 𝓤 H [] = []
 rooms 𝓤 H ((τ, l) ∷ E) = ‵ (froom τ l 0) ∷ ‵ (fdies τ l) ∷ rooms 𝓤 H E
@@ -251,25 +276,13 @@ module _ {M : Type 1} (𝓤 : URA M) (H : Heap 𝓤) (A : Atoms 𝓤) (W : Given
       move ! (1 ∷ 0 ∷ []) $ fjoin ! $
       move ! (1 ∷ 0 ∷ []) $ fjoin ! $ owned ! Q.the-row (Is Q.the-row) (EL.makes Q.the-type Q′.the-plain 𝓤 H A) (r .answer) _ an-answer $ move ! (1 ∷ 0 ∷ []) $ done !
 
+  -- the offset's cell and its open borrow, and the other tokens
+  abbrev open-with : List (Item 𝓤) → List (Item 𝓤)
+  open-with Γ =
+      ‵ (cellAt fullShare (R .mir) (of-offset h ∷ []) b o) ∷ ‵ (fobor κ₄ q₄ (Body (mem R) b o γ)) ∷ ‵ (fobs γ (R .coded .code h)) ∷ ‵ (fauth γ (R .coded .code h)) ∷ ‵ (flft κ₃ q₃)
+      ∷ ‵ (flft κ₂ q₂) ∷ ‵ (flft κ₁ q₁) ∷ ‵ (flft κ₀ q₀) ∷ Γ
+
   module _ (C : Calls 𝓤 H) (Λ : Loops 𝓤 H) (l₀ l₁ l₂ l₃ l₄ l₅ l₆ l₇ l₈ l₉ l₁₀ l₁₁ l₁₂ l₁₃ l₁₄ l₁₅ l₁₆ l₁₇ l₁₈ l₁₉ l₂₀ l₂₁ : ℕ) where
-    abbrev ref : Ty
-    ref = tyRef (named 4) mut (pointee (T.the-row .written))
-
-    abbrev lent-byte : Ty
-    lent-byte = tyRef erased mut (tyInt w8)
-
-    abbrev sheet-ty : Ty
-    sheet-ty = sliceTy (tyRef (named 0) imm (tyInt w8))
-
-    abbrev table-ty : Ty
-    table-ty = sliceTy (tyRef (named 1) imm (pointee (O.the-row .written)))
-
-    abbrev fmmus-ty : Ty
-    fmmus-ty = sliceTy (tyRef (named 2) mut (tyInt w8))
-
-    abbrev channels-ty : Ty
-    channels-ty = sliceTy (tyRef (named 3) mut (tyInt w8))
-
     -- the locals, but for the offset's reference and the pass's answer
     abbrev E₁ : Env 𝓤 H
     E₁ = (Q′.mir, l₀) ∷ (sheet-ty, l₁) ∷ (table-ty, l₂) ∷ (fmmus-ty, l₃) ∷ (channels-ty, l₄) ∷ []
@@ -278,34 +291,24 @@ module _ {M : Type 1} (𝓤 : URA M) (H : Heap 𝓤) (A : Atoms 𝓤) (W : Given
     E₂ = (tyInt w32, l₆) ∷ (D′.mir, l₇) ∷ (P′.mir, l₈) ∷ (S′.mir, l₉) ∷ (T′.mir, l₁₀) ∷ (tyInt w64, l₁₁) ∷ (tyBool, l₁₂) ∷ []
 
     abbrev E₃ : Env 𝓤 H
-    E₃ = (lent-byte, l₁₄) ∷ (sliceTy lent-byte, l₁₅) ∷ (lent-byte, l₁₆) ∷ (sliceTy lent-byte, l₁₇) ∷ (lent-byte, l₁₈) ∷ (sliceTy lent-byte, l₁₉) ∷ (lent-byte, l₂₀) ∷ (sliceTy lent-byte, l₂₁) ∷ []
+    E₃ = (byte-ty, l₁₄) ∷ (sliceTy byte-ty, l₁₅) ∷ (byte-ty, l₁₆) ∷ (sliceTy byte-ty, l₁₇) ∷ (byte-ty, l₁₈) ∷ (sliceTy byte-ty, l₁₉) ∷ (byte-ty, l₂₀) ∷ (sliceTy byte-ty, l₂₁) ∷ []
 
     abbrev En : Env 𝓤 H
-    En = E₁ ++ ((ref, l₅) ∷ (E₂ ++ ((S′.mir, l₁₃) ∷ E₃)))
+    En = E₁ ++ ((offset-ty, l₅) ∷ (E₂ ++ ((S′.mir, l₁₃) ∷ E₃)))
 
-    -- before the branch: the offset's cell and its open borrow, the tokens, what the slices own, and the locals
-    abbrev Before : List (Item 𝓤)
-    Before =
-        ‵ (cellAt fullShare (R .mir) (of-offset h ∷ []) b o) ∷ ‵ (fobor κ₄ q₄ (Body (mem R) b o γ)) ∷ ‵ (fobs γ (R .coded .code h)) ∷ ‵ (fauth γ (R .coded .code h)) ∷ ‵ (flft κ₃ q₃)
-        ∷ ‵ (flft κ₂ q₂) ∷ ‵ (flft κ₁ q₁) ∷ ‵ (flft κ₀ q₀) ∷ ‵ Z ∷ ‵ Y ∷ ‵ TT ∷ ‵ X ∷ ‵ (fat fullShare sheet-ty l₁ 0 v) ∷ ‵ (fdies sheet-ty l₁) ∷ ‵ (fat fullShare table-ty l₂ 0 u)
-        ∷ ‵ (fdies table-ty l₂) ∷ ‵ (fat fullShare fmmus-ty l₃ 0 s) ∷ ‵ (fdies fmmus-ty l₃) ∷ ‵ (fat fullShare channels-ty l₄ 0 w) ∷ ‵ (fdies channels-ty l₄)
-        ∷ ‵ (fat fullShare ref l₅ 0 (vptr b o)) ∷ ‵ (fdies ref l₅) ∷ ‵ (fat fullShare D′.mir l₇ 0 (of-direction d)) ∷ ‵ (fdies D′.mir l₇) ∷ ‵ (fat fullShare P′.mir l₈ 0 (of-place at))
-        ∷ ‵ (fdies P′.mir l₈) ∷ ‵ (fat fullShare tyBool l₁₂ 0 (vbool (eqb (length (t .now)) 0))) ∷ ‵ (fdies tyBool l₁₂)
-        ∷ rooms 𝓤 H ((Q′.mir, l₀) ∷ (tyInt w32, l₆) ∷ (S′.mir, l₉) ∷ (T′.mir, l₁₀) ∷ (tyInt w64, l₁₁) ∷ (S′.mir, l₁₃) ∷ E₃)
-
-    -- after the branch: the offset's cell and its open borrow, the tokens, what the slices are left with, and the locals
+    -- after the branch
     abbrev After : Done → List ℕ → List ℕ → List (Item 𝓤)
     After r fs cs =
-        ‵ (cellAt fullShare (R .mir) (of-offset h ∷ []) b o) ∷ ‵ (fobor κ₄ q₄ (Body (mem R) b o γ)) ∷ ‵ (fobs γ (R .coded .code h)) ∷ ‵ (fauth γ (R .coded .code h)) ∷ ‵ (flft κ₃ q₃)
-        ∷ ‵ (flft κ₂ q₂) ∷ ‵ (flft κ₁ q₁) ∷ ‵ (flft κ₀ q₀) ∷ ‵ (finally u8 (y .name) fs) ∷ ‵ (finally u8 (z .name) cs) ∷ ‵ TT ∷ ‵ X ∷ ‵ (fat fullShare S′.mir l₁₃ 0 (of-done r))
-        ∷ ‵ (fdies S′.mir l₁₃) ∷ ‵ (fat fullShare ref l₅ 0 (vptr b o)) ∷ ‵ (fdies ref l₅) ∷ rooms 𝓤 H (E₁ ++ (E₂ ++ E₃))
+        open-with (‵ (finally u8 (y .name) fs) ∷ ‵ (finally u8 (z .name) cs) ∷ ‵ TT ∷ ‵ X ∷ (holding ((S′.mir, l₁₃, of-done r) ∷ (offset-ty, l₅, vptr b o) ∷ []) ++ rooms 𝓤 H (E₁ ++ (E₂ ++ E₃))))
 
     ends : (r : Done) (fs cs : List ℕ) → Said (multipliersOf (t .now) pdos) r fs cs → length fs ≡ length (y .now) → length cs ≡ length (z .now) → Is S.the-row r (of-done r ∷ [])
         → Sq W (After r fs cs) (runs C Λ En mir.t-6 (atRet En Post))
     ends r fs cs said lf lc is =
         assigns ! (of-opd ! (load ! (from ! (stop !)) (look ! 12 refl))) (from ! (stop !)) (init ! 32 refl (LL.lawful S.the-type S′.the-laws 𝓤 H A W .typed r _ is .0)) $
-        assigns ! (of-opd ! (load ! (from ! (fld ! refl (stop !))) (look-in ! 32 (sub ! 1 refl (whole !))))) (from ! (hop ! (look ! 14 refl) (stop !))) (store-raw ! 0 refl (LL.lawful T.the-type T′.the-laws 𝓤 H A W .typed (r .next) _ (next-is r is) .0)) $
-        assigns ! (of-opd ! (load ! (from ! (fld ! refl (stop !))) (look-in ! 32 (sub ! 0 refl (whole !))))) (from ! (stop !)) (init ! 16 refl (EL.lawful Q.the-type Q′.the-laws 𝓤 H A W tt .typed (r .answer) _ (answer-is r is) .0)) $
+        assigns ! (of-opd ! (load ! (from ! (fld ! refl (stop !))) (look-in ! 32 (sub ! 1 refl (whole !))))) (from ! (hop ! (look ! 14 refl) (stop !))) (store-raw ! 0 refl
+        (LL.lawful T.the-type T′.the-laws 𝓤 H A W .typed (r .next) _ (next-is r is) .0)) $
+        assigns ! (of-opd ! (load ! (from ! (fld ! refl (stop !))) (look-in ! 32 (sub ! 0 refl (whole !))))) (from ! (stop !)) (init ! 16 refl (EL.lawful Q.the-type Q′.the-laws 𝓤 H A W tt .typed
+        (r .answer) _ (answer-is r is) .0)) $
         owned ! R (Is R) (LL.makes T.the-type T′.the-plain 𝓤 H A) (r .next) (of-offset (r .next) ∷ []) (next-is r is) $ move ! (1 ∷ 0 ∷ 2 ∷ 3 ∷ 4 ∷ []) $
         closes ! tt R (r .next) (of-offset (r .next) ∷ []) b o $ returns ! (look ! 15 refl) $ forget ! 11 refl $ forget ! 31 refl $ forget ! 13 refl $ forget ! 15 refl $ move ! (15 ∷ 16 ∷ []) $
         free1 ! $ move ! (15 ∷ 16 ∷ []) $ free1 ! $ move ! (15 ∷ 16 ∷ []) $ free1 ! $ move ! (15 ∷ 16 ∷ []) $ free1 ! $ move ! (15 ∷ 16 ∷ []) $ free1 ! $ move ! (13 ∷ 14 ∷ []) $ free1 ! $
@@ -314,59 +317,82 @@ module _ {M : Type 1} (𝓤 : URA M) (H : Heap 𝓤) (A : Atoms 𝓤) (W : Given
         move ! (11 ∷ 12 ∷ []) $ free1 ! $ move ! (11 ∷ 12 ∷ []) $ free1 ! $ move ! (11 ∷ 12 ∷ []) $ free1 ! $ move ! (11 ∷ 12 ∷ []) $ free1 ! $ move ! (11 ∷ 12 ∷ []) $ free1 ! $
         move ! (11 ∷ 12 ∷ []) $ free1 ! $ free0 ! $ keep ! (0 ∷ 1 ∷ 2 ∷ 3 ∷ 4 ∷ 5 ∷ 6 ∷ 7 ∷ 8 ∷ 9 ∷ 10 ∷ []) $ by ! (exits r fs cs said lf lc (answer-is r is))
 
-  module _ (C : Calls 𝓤 H) (Λ : Loops 𝓤 H) (fm : FmC 𝓤 H (W .laws) C) (known-bare : Triple 𝓤 (C #bare) (Bare 𝓤 H A at-mem run)) (known-sampled : Triple 𝓤 (C #sampled)
-      (Sampled 𝓤 H A at-mem run)) where
-    branched : (l₀ l₁ l₂ l₃ l₄ l₅ l₆ l₇ l₈ l₉ l₁₀ l₁₁ l₁₂ l₁₃ l₁₄ l₁₅ l₁₆ l₁₇ l₁₈ l₁₉ l₂₀ l₂₁ : ℕ) → Room u8 (length (y .now)) → Room u8 (length (z .now)) → Is P.the-row at (of-place at ∷ [])
-        → Sq W (Before C Λ l₀ l₁ l₂ l₃ l₄ l₅ l₆ l₇ l₈ l₉ l₁₀ l₁₁ l₁₂ l₁₃ l₁₄ l₁₅ l₁₆ l₁₇ l₁₈ l₁₉ l₂₀ l₂₁) (runs C Λ (En C Λ l₀ l₁ l₂ l₃ l₄ l₅ l₆ l₇ l₈ l₉ l₁₀ l₁₁ l₁₂ l₁₃ l₁₄ l₁₅ l₁₆ l₁₇ l₁₈ l₁₉ l₂₀ l₂₁) mir.t-5 (atRet (En C Λ l₀ l₁ l₂ l₃ l₄ l₅ l₆ l₇ l₈ l₉ l₁₀ l₁₁ l₁₂ l₁₃ l₁₄ l₁₅ l₁₆ l₁₇ l₁₈ l₁₉ l₂₀ l₂₁) Post))
-    branched l₀ l₁ l₂ l₃ l₄ l₅ l₆ l₇ l₈ l₉ l₁₀ l₁₁ l₁₂ l₁₃ l₁₄ l₁₅ l₁₆ l₁₇ l₁₈ l₁₉ l₂₀ l₂₁ room-y room-z at-is =
+    -- before it
+    abbrev Before : List (Item 𝓤)
+    Before =
+        open-with (‵ Z ∷ ‵ Y ∷ ‵ TT ∷ ‵ X ∷ (holding ((sheet-ty, l₁, v) ∷ (table-ty, l₂, u) ∷ (fmmus-ty, l₃, s) ∷ (channels-ty, l₄, w) ∷ (offset-ty, l₅, vptr b o) ∷ (D′.mir, l₇, of-direction d)
+        ∷ (P′.mir, l₈, of-place at) ∷ (tyBool, l₁₂, vbool (eqb (length (t .now)) 0)) ∷ []) ++ rooms 𝓤 H ((Q′.mir, l₀) ∷ (tyInt w32, l₆) ∷ (S′.mir, l₉) ∷ (T′.mir, l₁₀) ∷ (tyInt w64, l₁₁)
+        ∷ (S′.mir, l₁₃) ∷ E₃)))
+
+    branched : FmC 𝓤 H (W .laws) C → Triple 𝓤 (C #bare) (Bare 𝓤 H A at-mem run) → Triple 𝓤 (C #sampled) (Sampled 𝓤 H A at-mem run) → Room u8 (length (y .now)) → Room u8 (length (z .now))
+        → Is P.the-row at (of-place at ∷ []) → Sq W Before (runs C Λ En mir.t-5 (atRet En Post))
+    branched fm known-bare known-sampled room-y room-z at-is =
         first ! $ branches ! (load ! (from ! (stop !)) (look ! 26 refl))
-        -- it has none: `bare`
+        -- the table has no record: `bare`
         (λ none. assigns ! (addr ! (from ! (fld ! refl (hop ! (look-in ! 16 (sub ! 0 refl (whole !))) (stop !))))) (from ! (stop !)) (init ! 40 refl (tt, tt)) $
-        assigns ! (agg ! (and-then ! (load ! (from ! (stop !)) (look ! 40 refl)) (and-then ! (load ! (from ! (fld ! refl (stop !))) (look-in ! 16 (sub ! 1 refl (whole !)))) (no-more !)))) (from ! (stop !)) (init ! 42 refl (tt, (tt, (record { fits = room-y .0 }, tt)))) $
+        assigns ! (agg ! (and-then ! (load ! (from ! (stop !)) (look ! 40 refl)) (and-then ! (load ! (from ! (fld ! refl (stop !))) (look-in ! 16 (sub ! 1 refl (whole !)))) (no-more !)))) (from !
+        (stop !)) (init ! 42 refl (tt, (tt, (record { fits = room-y .0 }, tt)))) $
         assigns ! (addr ! (from ! (fld ! refl (hop ! (look-in ! 18 (sub ! 0 refl (whole !))) (stop !))))) (from ! (stop !)) (init ! 44 refl (tt, tt)) $
-        assigns ! (agg ! (and-then ! (load ! (from ! (stop !)) (look ! 44 refl)) (and-then ! (load ! (from ! (fld ! refl (stop !))) (look-in ! 18 (sub ! 1 refl (whole !)))) (no-more !)))) (from ! (stop !)) (init ! 46 refl (tt, (tt, (record { fits = room-z .0 }, tt)))) $
+        assigns ! (agg ! (and-then ! (load ! (from ! (stop !)) (look ! 44 refl)) (and-then ! (load ! (from ! (fld ! refl (stop !))) (look-in ! 18 (sub ! 1 refl (whole !)))) (no-more !)))) (from !
+        (stop !)) (init ! 46 refl (tt, (tt, (record { fits = room-z .0 }, tt)))) $
         move ! (11 ∷ []) $ use1 W (‵ X ⊛ ‵ X) (shr-slice-copy 𝓤 H A W (named 0) κ₀ u8 .twice x (v ∷ [])) $ split ! $ move ! (11 ∷ 10 ∷ []) $ join ! $ move ! (1 ∷ 0 ∷ []) $ join ! $
         move ! (6 ∷ 0 ∷ []) $ join ! $ move ! (6 ∷ 0 ∷ []) $ join ! $ move ! (7 ∷ 0 ∷ []) $ join ! $ use1 W (raw (Bare 𝓤 H A at-mem run .pre to-bare)) (goes-bare at-is) $
-        calls-at-last ! fm (Bare 𝓤 H A at-mem run) known-bare to-bare (and-then ! (load ! (from ! (stop !)) (look ! 8 refl)) (and-then ! (load ! (from ! (stop !)) (look ! 38 refl)) (and-then ! (load ! (from ! (stop !)) (look ! 42 refl)) (and-then ! (load ! (from ! (stop !)) (look ! 20 refl)) (and-then ! (load ! (from ! (stop !)) (look ! 18 refl)) (no-more !)))))) (λ c.
-        use1 W (later (some (λ (r : Done). ((‵ (flft κ₀ q₀) ⊛ ‵ (flft κ₂ q₂) ⊛ ‵ (flft κ₃ q₃) ⊛ ‵ ftrue) ⊛ ‵ (S.the-row .own r (c ∷ []))) ⊛ raw (ensured 𝓤 H A bare.ended (bare.clauses 𝓤 H A at-mem run) over-bare given-bare tt r)))) (id⊢ 𝓤 _) $ await ! tt $
+        calls-at-last ! fm (Bare 𝓤 H A at-mem run) known-bare to-bare (and-then ! (load ! (from ! (stop !)) (look ! 8 refl)) (and-then ! (load ! (from ! (stop !)) (look ! 38 refl)) (and-then !
+        (load ! (from ! (stop !)) (look ! 42 refl)) (and-then ! (load ! (from ! (stop !)) (look ! 20 refl)) (and-then ! (load ! (from ! (stop !)) (look ! 18 refl)) (no-more !)))))) (λ c.
+        use1 W (later (some (λ (r : Done). ((‵ (flft κ₀ q₀) ⊛ ‵ (flft κ₂ q₂) ⊛ ‵ (flft κ₃ q₃) ⊛ ‵ ftrue) ⊛ ‵ (S.the-row .own r (c ∷ []))) ⊛ raw (ensured 𝓤 H A bare.ended
+        (bare.clauses 𝓤 H A at-mem run) over-bare given-bare tt r)))) (id⊢ 𝓤 _) $ await ! tt $
         pick ! (λ r. split ! $ move ! (1 ∷ []) $
-        use1 W (some (λ (zs : Unit {0} × (List ℕ × (List ℕ × (Unit {0} × (Unit {0} × Unit {0}))))). ‵ (lasts bare.ended over-bare given-bare zs) ⊛ raw (fact 𝓤 (Said (multipliersOf [] pdos) r (zs .1 .0) (zs .1 .1 .0))))) (id⊢ 𝓤 _) $
+        use1 W (some (λ (zs : Unit {0} × (List ℕ × (List ℕ × (Unit {0} × (Unit {0} × Unit {0}))))). ‵ (lasts bare.ended over-bare given-bare zs) ⊛ raw (fact 𝓤 (Said (multipliersOf [] pdos) r
+        (zs .1 .0) (zs .1 .1 .0))))) (id⊢ 𝓤 _) $
         pick ! (λ zs. split ! $ move ! (1 ∷ []) $ heard ! (Said (multipliersOf [] pdos) r (zs .1 .0) (zs .1 .1 .0)) (λ said. fsplit ! $ drop ! $ fsplit ! $ fsplit ! $ move ! (1 ∷ []) $ feqL ! (λ lf.
         move ! (1 ∷ []) $ fsplit ! $ fsplit ! $ move ! (1 ∷ []) $ feqL ! (λ lc. move ! (3 ∷ []) $ split ! $ move ! (1 ∷ []) $
         peeks ! S.the-row (Is S.the-row) (shows 𝓤 H A S.the-row) r (c ∷ []) (λ is. lands-before ! (from ! (stop !)) (init ! 38 refl (LL.lawful S.the-type S′.the-laws 𝓤 H A W .typed r _ is .0)) $
         rewrite ! 38 (λ (v : Val). ‵ (fat fullShare S′.mir l₁₃ 0 v)) (ap only (LL.tells S.the-type S′.the-laws r _ is)) refl $ drop ! $ move ! (0 ∷ []) $ split ! $ move ! (1 ∷ []) $ split ! $
         move ! (1 ∷ []) $ split ! $ forget ! 14 refl $ forget ! 16 refl $ forget ! 18 refl $ forget ! 20 refl $ forget ! 24 refl $ forget ! 26 refl $ forget ! 28 refl $ forget ! 42 refl $
         forget ! 44 refl $ forget ! 46 refl $ forget ! 48 refl $
-        keep ! (8 ∷ 9 ∷ 10 ∷ 11 ∷ 0 ∷ 2 ∷ 12 ∷ 3 ∷ 6 ∷ 4 ∷ 13 ∷ 7 ∷ 40 ∷ 41 ∷ 22 ∷ 23 ∷ 30 ∷ 31 ∷ 14 ∷ 15 ∷ 16 ∷ 17 ∷ 18 ∷ 19 ∷ 20 ∷ 21 ∷ 32 ∷ 33 ∷ 24 ∷ 25 ∷ 26 ∷ 27 ∷ 34 ∷ 35 ∷ 36 ∷ 37 ∷ 38 ∷ 39 ∷ 28 ∷ 29 ∷ 42 ∷ 43 ∷ 44 ∷ 45 ∷ 46 ∷ 47 ∷ 48 ∷ 49 ∷ 50 ∷ 51 ∷ 52 ∷ 53 ∷ 54 ∷ 55 ∷ 56 ∷ 57 ∷ []) $
-        ends C Λ l₀ l₁ l₂ l₃ l₄ l₅ l₆ l₇ l₈ l₉ l₁₀ l₁₁ l₁₂ l₁₃ l₁₄ l₁₅ l₁₆ l₁₇ l₁₈ l₁₉ l₂₀ l₂₁ r (zs .1 .0) (zs .1 .1 .0) (subst (λ (ts : List Oversampling). Said (multipliersOf ts pdos) r (zs .1 .0) (zs .1 .1 .0)) (no-record (t .now) none) said) lf lc (subst (Is S.the-row r) (LL.tells S.the-type S′.the-laws r _ is) is)))))))))
+        keep ! (8 ∷ 9 ∷ 10 ∷ 11 ∷ 0 ∷ 2 ∷ 12 ∷ 3 ∷ 6 ∷ 4 ∷ 13 ∷ 7 ∷ 40 ∷ 41 ∷ 22 ∷ 23 ∷ 30 ∷ 31 ∷ 14 ∷ 15 ∷ 16 ∷ 17 ∷ 18 ∷ 19 ∷ 20 ∷ 21 ∷ 32 ∷ 33 ∷ 24 ∷ 25 ∷ 26 ∷ 27 ∷ 34 ∷ 35 ∷ 36 ∷ 37 ∷ 38 ∷ 39 ∷
+        28 ∷ 29 ∷ 42 ∷ 43 ∷ 44 ∷ 45 ∷ 46 ∷ 47 ∷ 48 ∷ 49 ∷ 50 ∷ 51 ∷ 52 ∷ 53 ∷ 54 ∷ 55 ∷ 56 ∷ 57 ∷ []) $
+        ends r (zs .1 .0) (zs .1 .1 .0) (subst (λ (ts : List Oversampling). Said (multipliersOf ts pdos) r (zs .1 .0) (zs .1 .1 .0)) (no-record (t .now) none) said) lf lc (subst (Is S.the-row r)
+        (LL.tells S.the-type S′.the-laws r _ is) is)))))))))
         -- it has some: `sampled`
         (λ _. assigns ! (addr ! (from ! (fld ! refl (hop ! (look-in ! 16 (sub ! 0 refl (whole !))) (stop !))))) (from ! (stop !)) (init ! 48 refl (tt, tt)) $
-        assigns ! (agg ! (and-then ! (load ! (from ! (stop !)) (look ! 48 refl)) (and-then ! (load ! (from ! (fld ! refl (stop !))) (look-in ! 16 (sub ! 1 refl (whole !)))) (no-more !)))) (from ! (stop !)) (init ! 50 refl (tt, (tt, (record { fits = room-y .0 }, tt)))) $
+        assigns ! (agg ! (and-then ! (load ! (from ! (stop !)) (look ! 48 refl)) (and-then ! (load ! (from ! (fld ! refl (stop !))) (look-in ! 16 (sub ! 1 refl (whole !)))) (no-more !)))) (from !
+        (stop !)) (init ! 50 refl (tt, (tt, (record { fits = room-y .0 }, tt)))) $
         assigns ! (addr ! (from ! (fld ! refl (hop ! (look-in ! 18 (sub ! 0 refl (whole !))) (stop !))))) (from ! (stop !)) (init ! 52 refl (tt, tt)) $
-        assigns ! (agg ! (and-then ! (load ! (from ! (stop !)) (look ! 52 refl)) (and-then ! (load ! (from ! (fld ! refl (stop !))) (look-in ! 18 (sub ! 1 refl (whole !)))) (no-more !)))) (from ! (stop !)) (init ! 54 refl (tt, (tt, (record { fits = room-z .0 }, tt)))) $
+        assigns ! (agg ! (and-then ! (load ! (from ! (stop !)) (look ! 52 refl)) (and-then ! (load ! (from ! (fld ! refl (stop !))) (look-in ! 18 (sub ! 1 refl (whole !)))) (no-more !)))) (from !
+        (stop !)) (init ! 54 refl (tt, (tt, (record { fits = room-z .0 }, tt)))) $
         move ! (11 ∷ []) $ use1 W (‵ X ⊛ ‵ X) (shr-slice-copy 𝓤 H A W (named 0) κ₀ u8 .twice x (v ∷ [])) $ split ! $ move ! (12 ∷ []) $
         use1 W (‵ TT ⊛ ‵ TT) (shr-slice-copy 𝓤 H A W (named 1) κ₁ O.the-row .twice t (u ∷ [])) $ split ! $ move ! (13 ∷ 12 ∷ []) $ join ! $ move ! (1 ∷ 0 ∷ []) $ join ! $ move ! (2 ∷ 0 ∷ []) $
         join ! $ move ! (7 ∷ 0 ∷ []) $ join ! $ move ! (7 ∷ 0 ∷ []) $ join ! $ move ! (7 ∷ 0 ∷ []) $ join ! $ move ! (7 ∷ 0 ∷ []) $ join ! $
         use1 W (raw (Sampled 𝓤 H A at-mem run .pre to-sampled)) (goes-sampled at-is) $
-        calls-at-last ! fm (Sampled 𝓤 H A at-mem run) known-sampled to-sampled (and-then ! (load ! (from ! (stop !)) (look ! 7 refl)) (and-then ! (load ! (from ! (stop !)) (look ! 9 refl)) (and-then ! (load ! (from ! (stop !)) (look ! 45 refl)) (and-then ! (load ! (from ! (stop !)) (look ! 49 refl)) (and-then ! (load ! (from ! (stop !)) (look ! 19 refl)) (and-then ! (load ! (from ! (stop !)) (look ! 17 refl)) (no-more !))))))) (λ c.
-        use1 W (later (some (λ (r : Done). ((‵ (flft κ₀ q₀) ⊛ ‵ (flft κ₁ q₁) ⊛ ‵ (flft κ₂ q₂) ⊛ ‵ (flft κ₃ q₃) ⊛ ‵ ftrue) ⊛ ‵ (S.the-row .own r (c ∷ []))) ⊛ raw (ensured 𝓤 H A sampled.ended (sampled.clauses 𝓤 H A at-mem run) over-sampled given-sampled tt r)))) (id⊢ 𝓤 _) $ await ! tt $
+        calls-at-last ! fm (Sampled 𝓤 H A at-mem run) known-sampled to-sampled (and-then ! (load ! (from ! (stop !)) (look ! 7 refl)) (and-then ! (load ! (from ! (stop !)) (look ! 9 refl))
+        (and-then ! (load ! (from ! (stop !)) (look ! 45 refl)) (and-then ! (load ! (from ! (stop !)) (look ! 49 refl)) (and-then ! (load ! (from ! (stop !)) (look ! 19 refl)) (and-then ! (load !
+        (from ! (stop !)) (look ! 17 refl)) (no-more !))))))) (λ c.
+        use1 W (later (some (λ (r : Done). ((‵ (flft κ₀ q₀) ⊛ ‵ (flft κ₁ q₁) ⊛ ‵ (flft κ₂ q₂) ⊛ ‵ (flft κ₃ q₃) ⊛ ‵ ftrue) ⊛ ‵ (S.the-row .own r (c ∷ []))) ⊛ raw (ensured 𝓤 H A sampled.ended
+        (sampled.clauses 𝓤 H A at-mem run) over-sampled given-sampled tt r)))) (id⊢ 𝓤 _) $ await ! tt $
         pick ! (λ r. split ! $ move ! (1 ∷ []) $
-        use1 W (some (λ (zs : Unit {0} × (Unit {0} × (List ℕ × (List ℕ × (Unit {0} × (Unit {0} × Unit {0})))))). ‵ (lasts sampled.ended over-sampled given-sampled zs) ⊛ raw (fact 𝓤 (Said (multipliersOf (t .now) pdos) r (zs .1 .1 .0) (zs .1 .1 .1 .0))))) (id⊢ 𝓤 _) $
+        use1 W (some (λ (zs : Unit {0} × (Unit {0} × (List ℕ × (List ℕ × (Unit {0} × (Unit {0} × Unit {0})))))). ‵ (lasts sampled.ended over-sampled given-sampled zs) ⊛ raw (fact 𝓤 (Said
+        (multipliersOf (t .now) pdos) r (zs .1 .1 .0) (zs .1 .1 .1 .0))))) (id⊢ 𝓤 _) $
         pick ! (λ zs. split ! $ move ! (1 ∷ []) $ heard ! (Said (multipliersOf (t .now) pdos) r (zs .1 .1 .0) (zs .1 .1 .1 .0)) (λ said. fsplit ! $ drop ! $ fsplit ! $ drop ! $ fsplit ! $ fsplit ! $
         move ! (1 ∷ []) $ feqL ! (λ lf. move ! (1 ∷ []) $ fsplit ! $ fsplit ! $ move ! (1 ∷ []) $ feqL ! (λ lc. move ! (3 ∷ []) $ split ! $ move ! (1 ∷ []) $
         peeks ! S.the-row (Is S.the-row) (shows 𝓤 H A S.the-row) r (c ∷ []) (λ is. lands-before ! (from ! (stop !)) (init ! 37 refl (LL.lawful S.the-type S′.the-laws 𝓤 H A W .typed r _ is .0)) $
         rewrite ! 37 (λ (v : Val). ‵ (fat fullShare S′.mir l₁₃ 0 v)) (ap only (LL.tells S.the-type S′.the-laws r _ is)) refl $ drop ! $ move ! (0 ∷ []) $ split ! $ move ! (1 ∷ []) $ split ! $
         move ! (1 ∷ []) $ split ! $ move ! (1 ∷ []) $ split ! $ forget ! 14 refl $ forget ! 16 refl $ forget ! 18 refl $ forget ! 20 refl $ forget ! 24 refl $ forget ! 26 refl $ forget ! 28 refl $
         forget ! 50 refl $ forget ! 52 refl $ forget ! 54 refl $ forget ! 56 refl $
-        keep ! (10 ∷ 11 ∷ 12 ∷ 13 ∷ 0 ∷ 2 ∷ 3 ∷ 4 ∷ 7 ∷ 5 ∷ 8 ∷ 9 ∷ 40 ∷ 41 ∷ 22 ∷ 23 ∷ 30 ∷ 31 ∷ 14 ∷ 15 ∷ 16 ∷ 17 ∷ 18 ∷ 19 ∷ 20 ∷ 21 ∷ 32 ∷ 33 ∷ 24 ∷ 25 ∷ 26 ∷ 27 ∷ 34 ∷ 35 ∷ 36 ∷ 37 ∷ 38 ∷ 39 ∷ 28 ∷ 29 ∷ 42 ∷ 43 ∷ 44 ∷ 45 ∷ 46 ∷ 47 ∷ 48 ∷ 49 ∷ 50 ∷ 51 ∷ 52 ∷ 53 ∷ 54 ∷ 55 ∷ 56 ∷ 57 ∷ []) $
-        ends C Λ l₀ l₁ l₂ l₃ l₄ l₅ l₆ l₇ l₈ l₉ l₁₀ l₁₁ l₁₂ l₁₃ l₁₄ l₁₅ l₁₆ l₁₇ l₁₈ l₁₉ l₂₀ l₂₁ r (zs .1 .1 .0) (zs .1 .1 .1 .0) said lf lc (subst (Is S.the-row r) (LL.tells S.the-type S′.the-laws r _ is) is)))))))))
+        keep ! (10 ∷ 11 ∷ 12 ∷ 13 ∷ 0 ∷ 2 ∷ 3 ∷ 4 ∷ 7 ∷ 5 ∷ 8 ∷ 9 ∷ 40 ∷ 41 ∷ 22 ∷ 23 ∷ 30 ∷ 31 ∷ 14 ∷ 15 ∷ 16 ∷ 17 ∷ 18 ∷ 19 ∷ 20 ∷ 21 ∷ 32 ∷ 33 ∷ 24 ∷ 25 ∷ 26 ∷ 27 ∷ 34 ∷ 35 ∷ 36 ∷ 37 ∷ 38 ∷ 39 ∷
+        28 ∷ 29 ∷ 42 ∷ 43 ∷ 44 ∷ 45 ∷ 46 ∷ 47 ∷ 48 ∷ 49 ∷ 50 ∷ 51 ∷ 52 ∷ 53 ∷ 54 ∷ 55 ∷ 56 ∷ 57 ∷ []) $
+        ends r (zs .1 .1 .0) (zs .1 .1 .1 .0) said lf lc (subst (Is S.the-row r) (LL.tells S.the-type S′.the-laws r _ is) is)))))))))
 
+  module _ (C : Calls 𝓤 H) (Λ : Loops 𝓤 H) (fm : FmC 𝓤 H (W .laws) C) (known-bare : Triple 𝓤 (C #bare) (Bare 𝓤 H A at-mem run)) (known-sampled : Triple 𝓤 (C #sampled)
+      (Sampled 𝓤 H A at-mem run)) where
     walk : Is (ShrSlice (named 0) κ₀ u8) x (v ∷ []) → Is (ShrSlice (named 1) κ₁ O.the-row) t (u ∷ []) → Room u8 (length (y .now)) → Room u8 (length (z .now))
         → ent 𝓤 (onEntry 𝓤 H A it.signature (κ₀, (κ₁, (κ₂, (κ₃, (κ₄, tt))))) (q₀, (q₁, (q₂, (q₃, (q₄, tt))))) a vals) (WpFn 𝓤 H C Λ code.function machine Post)
     walk px pt room-y room-z =
         qed W ((‵ (flft κ₀ q₀) ⊛ ‵ (flft κ₁ q₁) ⊛ ‵ (flft κ₂ q₂) ⊛ ‵ (flft κ₃ q₃) ⊛ ‵ (flft κ₄ q₄) ⊛ ‵ ftrue) ∷ ‵ (owns (ShrSlice (named 0) κ₀ u8 ∷ ShrSlice (named 1) κ₁ O.the-row
         ∷ MutSlice (named 2) κ₂ u8 ∷ MutSlice (named 3) κ₃ u8 ∷ MutRef (named 4) κ₄ R ∷ u32 ∷ D.the-row ∷ []) a vals) ∷ []) ∵
-        enter ! C Λ code.function machine _ $ alloc1 ! (λ l₀. alloc1 ! (λ l₁. alloc1 ! (λ l₂. alloc1 ! (λ l₃. alloc1 ! (λ l₄. alloc1 ! (λ l₅. alloc1 ! (λ l₆. alloc1 ! (λ l₇. alloc1 ! (λ l₈. alloc1 ! (λ l₉. alloc1 ! (λ l₁₀. alloc1 ! (λ l₁₁. alloc1 ! (λ l₁₂. alloc1 ! (λ l₁₃. alloc1 ! (λ l₁₄. alloc1 ! (λ l₁₅. alloc1 ! (λ l₁₆. alloc1 ! (λ l₁₇. alloc1 ! (λ l₁₈. alloc1 ! (λ l₁₉. alloc1 ! (λ l₂₀. alloc1 ! (λ l₂₁. alloc0 ! $
+        enter ! C Λ code.function machine _ $ alloc1 ! (λ l₀. alloc1 ! (λ l₁. alloc1 ! (λ l₂. alloc1 ! (λ l₃. alloc1 ! (λ l₄. alloc1 ! (λ l₅. alloc1 ! (λ l₆. alloc1 ! (λ l₇. alloc1 ! (λ l₈. alloc1 !
+        (λ l₉. alloc1 ! (λ l₁₀. alloc1 ! (λ l₁₁. alloc1 ! (λ l₁₂. alloc1 ! (λ l₁₃. alloc1 ! (λ l₁₄. alloc1 ! (λ l₁₅. alloc1 ! (λ l₁₆. alloc1 ! (λ l₁₇. alloc1 ! (λ l₁₈. alloc1 ! (λ l₁₉. alloc1 !
+        (λ l₂₀. alloc1 ! (λ l₂₁. alloc0 ! $
         params1 ! $ pass1 ! (init ! 40 refl (shr-slice-lawful 𝓤 H A W (named 0) κ₀ u8 .typed x (v ∷ []) px .0)) $
         pass1 ! (init ! 38 refl (shr-slice-lawful 𝓤 H A W (named 1) κ₁ O.the-row .typed t (u ∷ []) pt .0)) $ pass1 ! (init ! 36 refl (tt, (tt, (record { fits = room-y .0 }, tt)))) $
         pass1 ! (init ! 34 refl (tt, (tt, (record { fits = room-z .0 }, tt)))) $ pass1 ! (init ! 32 refl (tt, tt)) $ pass1 ! (init ! 30 refl (tt, record { fits = k-fits })) $
@@ -378,12 +404,14 @@ module _ {M : Type 1} (𝓤 : URA M) (H : Heap 𝓤) (A : Atoms 𝓤) (W : Given
         move ! (6 ∷ 7 ∷ 0 ∷ []) $ opens ! tt R {h = h} b o (λ vs. spelt ! R (Is R) (shows 𝓤 H A R) (LL.vals T.the-type T′.the-laws) (LL.tells T.the-type T′.the-laws) fullShare h vs b o $
         move ! (1 ∷ []) $ peeks ! R (Is R) (shows 𝓤 H A R) h (of-offset h ∷ []) (λ g.
         assigns ! (of-opd ! (load ! (from ! (hop ! (look ! 47 refl) (stop !))) (look-raw ! 1 refl))) (from ! (stop !)) (init ! 37 refl (LL.lawful T.the-type T′.the-laws 𝓤 H A W .typed h _ g .0)) $
-        assigns ! (agg ! (and-then ! (load ! (from ! (stop !)) (look ! 37 refl)) (and-then ! (load ! (from ! (stop !)) (look ! 45 refl)) (no-more !)))) (from ! (stop !)) (init ! 41 refl (LL.lawful P.the-type P′.the-laws 𝓤 H A W .typed at _ (placed g) .0)) $
+        assigns ! (agg ! (and-then ! (load ! (from ! (stop !)) (look ! 37 refl)) (and-then ! (load ! (from ! (stop !)) (look ! 45 refl)) (no-more !)))) (from ! (stop !)) (init ! 41 refl
+        (LL.lawful P.the-type P′.the-laws 𝓤 H A W .typed at _ (placed g) .0)) $
         -- whether the table has a record
         assigns ! (of-opd ! (load ! (from ! (fld ! refl (stop !))) (look-in ! 53 (sub ! 1 refl (whole !))))) (from ! (stop !)) (init ! 35 refl (tt, record { fits = pt .0 .1 .0 })) $
         assigns ! (bin ! (load ! (from ! (stop !)) (look ! 35 refl)) (lit ! tt) tt) (from ! (stop !)) (init ! 33 refl (tt, tt)) $ forget ! 45 refl $ forget ! 37 refl $ forget ! 35 refl $
-        keep ! (1 ∷ 2 ∷ 3 ∷ 4 ∷ 6 ∷ 7 ∷ 8 ∷ 9 ∷ 11 ∷ 12 ∷ 13 ∷ 14 ∷ 55 ∷ 56 ∷ 53 ∷ 54 ∷ 51 ∷ 52 ∷ 49 ∷ 50 ∷ 47 ∷ 48 ∷ 43 ∷ 44 ∷ 41 ∷ 42 ∷ 33 ∷ 34 ∷ 57 ∷ 58 ∷ 45 ∷ 46 ∷ 39 ∷ 40 ∷ 37 ∷ 38 ∷ 35 ∷ 36 ∷ 31 ∷ 32 ∷ 29 ∷ 30 ∷ 27 ∷ 28 ∷ 25 ∷ 26 ∷ 23 ∷ 24 ∷ 21 ∷ 22 ∷ 19 ∷ 20 ∷ 17 ∷ 18 ∷ 15 ∷ 16 ∷ []) $
-        branched l₀ l₁ l₂ l₃ l₄ l₅ l₆ l₇ l₈ l₉ l₁₀ l₁₁ l₁₂ l₁₃ l₁₄ l₁₅ l₁₆ l₁₇ l₁₈ l₁₉ l₂₀ l₂₁ room-y room-z (placed g)))))))))))))))))))))))))
+        keep ! (1 ∷ 2 ∷ 3 ∷ 4 ∷ 6 ∷ 7 ∷ 8 ∷ 9 ∷ 11 ∷ 12 ∷ 13 ∷ 14 ∷ 55 ∷ 56 ∷ 53 ∷ 54 ∷ 51 ∷ 52 ∷ 49 ∷ 50 ∷ 47 ∷ 48 ∷ 43 ∷ 44 ∷ 41 ∷ 42 ∷ 33 ∷ 34 ∷ 57 ∷ 58 ∷ 45 ∷ 46 ∷ 39 ∷ 40 ∷ 37 ∷ 38 ∷ 35 ∷ 36 ∷
+        31 ∷ 32 ∷ 29 ∷ 30 ∷ 27 ∷ 28 ∷ 25 ∷ 26 ∷ 23 ∷ 24 ∷ 21 ∷ 22 ∷ 19 ∷ 20 ∷ 17 ∷ 18 ∷ 15 ∷ 16 ∷ []) $
+        branched C Λ l₀ l₁ l₂ l₃ l₄ l₅ l₆ l₇ l₈ l₉ l₁₀ l₁₁ l₁₂ l₁₃ l₁₄ l₁₅ l₁₆ l₁₇ l₁₈ l₁₉ l₂₀ l₂₁ fm known-bare known-sampled room-y room-z (placed g)))))))))))))))))))))))))
 
 module _ {M : Type 1} (𝓤 : URA M) (H : Heap 𝓤) (A : Atoms 𝓤) (W : Given 𝓤 H A) (at-mem : Memory → SProp 𝓤) (run : Routine → Fun 𝓤) (𝓣 : Tables 𝓤 H)
     (known-bare : Triple 𝓤 (𝓣 .C #bare) (Bare 𝓤 H A at-mem run)) (known-sampled : Triple 𝓤 (𝓣 .C #sampled) (Sampled 𝓤 H A at-mem run)) where

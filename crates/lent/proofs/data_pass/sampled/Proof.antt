@@ -197,7 +197,8 @@ module _ {M : Type 1} (𝓤 : URA M) (H : Heap 𝓤) (A : Atoms 𝓤) (W : Given
     walk px pt room-y room-z =
         qed W ((‵ (flft κ₀ q₀) ⊛ ‵ (flft κ₁ q₁) ⊛ ‵ (flft κ₂ q₂) ⊛ ‵ (flft κ₃ q₃) ⊛ ‵ ftrue) ∷ ‵ (owns (ShrSlice (named 0) κ₀ u8 ∷ ShrSlice (named 1) κ₁ O.the-row
         ∷ MutSlice (named 2) κ₂ u8 ∷ MutSlice (named 3) κ₃ u8 ∷ P.the-row ∷ D.the-row ∷ []) a vals) ∷ []) ∵
-        enter ! C Λ code.function machine _ $ alloc1 ! (λ l₀. alloc1 ! (λ l₁. alloc1 ! (λ l₂. alloc1 ! (λ l₃. alloc1 ! (λ l₄. alloc1 ! (λ l₅. alloc1 ! (λ l₆. alloc1 ! (λ l₇. alloc1 ! (λ l₈. alloc1 ! (λ l₉. alloc1 ! (λ l₁₀. alloc1 ! (λ l₁₁. alloc1 ! (λ l₁₂. alloc1 ! (λ l₁₃. alloc1 ! (λ l₁₄. alloc1 ! (λ l₁₅. alloc0 ! $
+        enter ! C Λ code.function machine _ $ alloc1 ! (λ l₀. alloc1 ! (λ l₁. alloc1 ! (λ l₂. alloc1 ! (λ l₃. alloc1 ! (λ l₄. alloc1 ! (λ l₅. alloc1 ! (λ l₆. alloc1 ! (λ l₇. alloc1 ! (λ l₈. alloc1 !
+        (λ l₉. alloc1 ! (λ l₁₀. alloc1 ! (λ l₁₁. alloc1 ! (λ l₁₂. alloc1 ! (λ l₁₃. alloc1 ! (λ l₁₄. alloc1 ! (λ l₁₅. alloc0 ! $
         params1 ! $ pass1 ! (init ! 28 refl (shr-slice-lawful 𝓤 H A W (named 0) κ₀ u8 .typed x (v ∷ []) px .0)) $
         pass1 ! (init ! 26 refl (shr-slice-lawful 𝓤 H A W (named 1) κ₁ O.the-row .typed t (u ∷ []) pt .0)) $ pass1 ! (init ! 24 refl (tt, (tt, (record { fits = room-y .0 }, tt)))) $
         pass1 ! (init ! 22 refl (tt, (tt, (record { fits = room-z .0 }, tt)))) $ pass1 ! (init ! 20 refl (LL.lawful P.the-type P′.the-laws 𝓤 H A W .typed at _ at-is .0)) $
@@ -215,12 +216,14 @@ module _ {M : Type 1} (𝓤 : URA M) (H : Heap 𝓤) (A : Atoms 𝓤) (W : Given
         assigns ! (addr ! (from ! (stop !))) (from ! (stop !)) (init ! 23 refl (tt, tt)) $
         -- it is lent to `multipliers_for`, for a lifetime of the call
         move ! (27 ∷ 0 ∷ []) $ use2 W (‵ (mem (Array u8 255) .lies Ones l₇ 0)) (lies 𝓤 H A W u8 255 Ones (arrayVal (replicate 255 (vint w8 1))) l₇) $ lft-new ! tt (λ ν. move ! (1 ∷ []) $
-        use1 W (later (some (λ (γ′ : GName). ‵ (MutRef (named 0) (ν ∷ []) (Array u8 255) .own (array-at l₇ γ′ Ones) (vptr l₇ 0 ∷ [])) ⊛ ‵ (flent (ν ∷ []) (Body (mem (Array u8 255)) l₇ 0 γ′))))) (lends-ref 𝓤 H A W (Array u8 255) (named 0) (ν ∷ []) Ones l₇ 0) $ await ! tt $
+        use1 W (later (some (λ (γ′ : GName). ‵ (MutRef (named 0) (ν ∷ []) (Array u8 255) .own (array-at l₇ γ′ Ones) (vptr l₇ 0 ∷ [])) ⊛ ‵ (flent (ν ∷ []) (Body (mem (Array u8 255)) l₇ 0 γ′)))))
+        (lends-ref 𝓤 H A W (Array u8 255) (named 0) (ν ∷ []) Ones l₇ 0) $ await ! tt $
         pick ! (λ γ′. split ! $ move ! (4 ∷ []) $ use1 W (‵ X ⊛ ‵ X) (shr-slice-copy 𝓤 H A W (named 0) κ₀ u8 .twice x (v ∷ [])) $ split ! $ move ! (13 ∷ []) $
         use1 W (‵ TT ⊛ ‵ TT) (shr-slice-copy 𝓤 H A W (named 1) κ₁ O.the-row .twice t (u ∷ [])) $ split ! $ move ! (2 ∷ 4 ∷ []) $ join ! $ move ! (1 ∷ 0 ∷ []) $ join ! $ move ! (4 ∷ 0 ∷ []) $ join ! $
         move ! (4 ∷ 0 ∷ []) $ join ! $ move ! (7 ∷ 0 ∷ []) $ join ! $
         use1 W (raw (MultipliersFor 𝓤 H A W at-mem run κ₀ κ₁ q₀ q₁ x t .pre (to-fill 𝓤 H A W at-mem run κ₀ κ₁ q₀ q₁ x t ν l₇ γ′))) (goes-fill 𝓤 H A W at-mem run κ₀ κ₁ q₀ q₁ x t ν l₇ γ′) $
-        calls-at ! fm (MultipliersFor 𝓤 H A W at-mem run κ₀ κ₁ q₀ q₁ x t) known-fill (to-fill 𝓤 H A W at-mem run κ₀ κ₁ q₀ q₁ x t ν l₇ γ′) (and-then ! (load ! (from ! (stop !)) (look ! 35 refl)) (and-then ! (load ! (from ! (stop !)) (look ! 37 refl)) (and-then ! (load ! (from ! (stop !)) (look ! 22 refl)) (no-more !)))) (λ c₁.
+        calls-at ! fm (MultipliersFor 𝓤 H A W at-mem run κ₀ κ₁ q₀ q₁ x t) known-fill (to-fill 𝓤 H A W at-mem run κ₀ κ₁ q₀ q₁ x t ν l₇ γ′) (and-then ! (load ! (from ! (stop !)) (look ! 35 refl))
+        (and-then ! (load ! (from ! (stop !)) (look ! 37 refl)) (and-then ! (load ! (from ! (stop !)) (look ! 22 refl)) (no-more !)))) (λ c₁.
         use1 W (back-fill 𝓤 H A W at-mem run κ₀ κ₁ q₀ q₁ x t ν l₇ γ′ c₁) (id⊢ 𝓤 _) $ await ! tt $ pick ! (λ n. split ! $ move ! (1 ∷ []) $
         use1 W (said-fill 𝓤 H A W at-mem run κ₀ κ₁ q₀ q₁ x t ν l₇ γ′) (id⊢ 𝓤 _) $ pick ! (λ ks. split ! $ move ! (1 ∷ []) $ heard ! (Filled (t .now) (x .now) (ks .1 .1 .0)) (λ filled. fsplit ! $
         drop ! $ fsplit ! $ drop ! $ fsplit ! $ move ! (1 ∷ []) $ drop ! $ move ! (1 ∷ []) $ split ! $ move ! (1 ∷ []) $ peeks ! unit (Is unit) (shows 𝓤 H A unit) n (c₁ ∷ []) (λ is₁.
@@ -233,21 +236,28 @@ module _ {M : Type 1} (𝓤 : URA M) (H : Heap 𝓤) (A : Atoms 𝓤) (W : Given
         assigns ! (agg ! (and-then ! (load ! (from ! (stop !)) (look ! 21 refl)) (and-then ! (lit ! tt) (no-more !)))) (from ! (stop !)) (init ! 19 refl (tt, (tt, (record { fits = lit< tt }, tt)))) $
         -- both areas are lent on, as `&mut *area`
         assigns ! (addr ! (from ! (fld ! refl (hop ! (look-in ! 34 (sub ! 0 refl (whole !))) (stop !))))) (from ! (stop !)) (init ! 17 refl (tt, tt)) $
-        assigns ! (agg ! (and-then ! (load ! (from ! (stop !)) (look ! 17 refl)) (and-then ! (load ! (from ! (fld ! refl (stop !))) (look-in ! 34 (sub ! 1 refl (whole !)))) (no-more !)))) (from ! (stop !)) (init ! 15 refl (tt, (tt, (record { fits = room-y .0 }, tt)))) $
+        assigns ! (agg ! (and-then ! (load ! (from ! (stop !)) (look ! 17 refl)) (and-then ! (load ! (from ! (fld ! refl (stop !))) (look-in ! 34 (sub ! 1 refl (whole !)))) (no-more !)))) (from !
+        (stop !)) (init ! 15 refl (tt, (tt, (record { fits = room-y .0 }, tt)))) $
         assigns ! (addr ! (from ! (fld ! refl (hop ! (look-in ! 32 (sub ! 0 refl (whole !))) (stop !))))) (from ! (stop !)) (init ! 13 refl (tt, tt)) $
-        assigns ! (agg ! (and-then ! (load ! (from ! (stop !)) (look ! 13 refl)) (and-then ! (load ! (from ! (fld ! refl (stop !))) (look-in ! 32 (sub ! 1 refl (whole !)))) (no-more !)))) (from ! (stop !)) (init ! 11 refl (tt, (tt, (record { fits = room-z .0 }, tt)))) $
+        assigns ! (agg ! (and-then ! (load ! (from ! (stop !)) (look ! 13 refl)) (and-then ! (load ! (from ! (fld ! refl (stop !))) (look-in ! 32 (sub ! 1 refl (whole !)))) (no-more !)))) (from !
+        (stop !)) (init ! 11 refl (tt, (tt, (record { fits = room-z .0 }, tt)))) $
         -- the array is lent again, shared
         lft-new ! tt (λ μ. move ! (1 ∷ []) $
-        use1 W (later (some (λ (δ : GName). ‵ (as-slice 𝓤 H A W l₇ (ks .1 .1 .0) (μ ∷ []) δ) ⊛ ‵ (flent (μ ∷ []) (elements 𝓤 H A W l₇ (ks .1 .1 .0)))))) (lends-array 𝓤 H A W l₇ (ks .1 .1 .0) (μ ∷ [])) $ await ! tt $
+        use1 W (later (some (λ (δ : GName). ‵ (as-slice 𝓤 H A W l₇ (ks .1 .1 .0) (μ ∷ []) δ) ⊛ ‵ (flent (μ ∷ []) (elements 𝓤 H A W l₇ (ks .1 .1 .0)))))) (lends-array 𝓤 H A W l₇ (ks .1 .1 .0)
+        (μ ∷ [])) $ await ! tt $
         pick ! (λ δ. split ! $
         -- `passed`
         move ! (6 ∷ []) $ use1 W (‵ X ⊛ ‵ X) (shr-slice-copy 𝓤 H A W (named 0) κ₀ u8 .twice x (v ∷ [])) $ split ! $ move ! (13 ∷ 11 ∷ []) $ join ! $ move ! (3 ∷ 0 ∷ []) $ join ! $
         move ! (1 ∷ 0 ∷ []) $ join ! $ move ! (7 ∷ 0 ∷ []) $ join ! $ move ! (8 ∷ 0 ∷ []) $ join ! $ move ! (3 ∷ 0 ∷ []) $ join ! $ move ! (3 ∷ 0 ∷ []) $ join ! $
         use1 W (raw (PassedBy 𝓤 H A at-mem run .pre (to-pass μ l₇ δ (ks .1 .1 .0)))) (goes-pass μ l₇ δ (ks .1 .1 .0)) $
-        calls-at ! fm (PassedBy 𝓤 H A at-mem run) known-pass (to-pass μ l₇ δ (ks .1 .1 .0)) (and-then ! (load ! (from ! (stop !)) (look ! 34 refl)) (and-then ! (load ! (from ! (stop !)) (look ! 15 refl)) (and-then ! (load ! (from ! (stop !)) (look ! 11 refl)) (and-then ! (load ! (from ! (stop !)) (look ! 7 refl)) (and-then ! (load ! (from ! (stop !)) (look ! 26 refl)) (and-then ! (load ! (from ! (stop !)) (look ! 24 refl)) (no-more !))))))) (λ c₂.
-        use1 W (later (some (λ (r : Done). ((‵ (flft κ₀ q₀) ⊛ ‵ (flft (μ ∷ []) fullShare) ⊛ ‵ (flft κ₂ q₂) ⊛ ‵ (flft κ₃ q₃) ⊛ ‵ ftrue) ⊛ ‵ (S.the-row .own r (c₂ ∷ []))) ⊛ raw (ensured 𝓤 H A passed.ended (passed.clauses 𝓤 H A at-mem run) (over-pass μ) (given-to l₇ δ (ks .1 .1 .0)) tt r)))) (id⊢ 𝓤 _) $ await ! tt $
+        calls-at ! fm (PassedBy 𝓤 H A at-mem run) known-pass (to-pass μ l₇ δ (ks .1 .1 .0)) (and-then ! (load ! (from ! (stop !)) (look ! 34 refl)) (and-then ! (load ! (from ! (stop !))
+        (look ! 15 refl)) (and-then ! (load ! (from ! (stop !)) (look ! 11 refl)) (and-then ! (load ! (from ! (stop !)) (look ! 7 refl)) (and-then ! (load ! (from ! (stop !)) (look ! 26 refl))
+        (and-then ! (load ! (from ! (stop !)) (look ! 24 refl)) (no-more !))))))) (λ c₂.
+        use1 W (later (some (λ (r : Done). ((‵ (flft κ₀ q₀) ⊛ ‵ (flft (μ ∷ []) fullShare) ⊛ ‵ (flft κ₂ q₂) ⊛ ‵ (flft κ₃ q₃) ⊛ ‵ ftrue) ⊛ ‵ (S.the-row .own r (c₂ ∷ []))) ⊛ raw
+        (ensured 𝓤 H A passed.ended (passed.clauses 𝓤 H A at-mem run) (over-pass μ) (given-to l₇ δ (ks .1 .1 .0)) tt r)))) (id⊢ 𝓤 _) $ await ! tt $
         pick ! (λ r. split ! $ move ! (1 ∷ []) $
-        use1 W (some (λ (zs : Unit {0} × (Unit {0} × (List ℕ × (List ℕ × (Unit {0} × (Unit {0} × Unit {0})))))). ‵ (lasts passed.ended (over-pass μ) (given-to l₇ δ (ks .1 .1 .0)) zs) ⊛ raw (fact 𝓤 (Said (perPdo (pdoCount (x .now)) (ks .1 .1 .0)) r (zs .1 .1 .0) (zs .1 .1 .1 .0))))) (id⊢ 𝓤 _) $
+        use1 W (some (λ (zs : Unit {0} × (Unit {0} × (List ℕ × (List ℕ × (Unit {0} × (Unit {0} × Unit {0})))))). ‵ (lasts passed.ended (over-pass μ) (given-to l₇ δ (ks .1 .1 .0)) zs) ⊛ raw (fact 𝓤
+        (Said (perPdo (pdoCount (x .now)) (ks .1 .1 .0)) r (zs .1 .1 .0) (zs .1 .1 .1 .0))))) (id⊢ 𝓤 _) $
         pick ! (λ zs. split ! $ move ! (1 ∷ []) $ heard ! (Said (perPdo (pdoCount (x .now)) (ks .1 .1 .0)) r (zs .1 .1 .0) (zs .1 .1 .1 .0)) (λ said. fsplit ! $ drop ! $ fsplit ! $ drop ! $
         fsplit ! $ fsplit ! $ move ! (1 ∷ []) $ feqL ! (λ lf. move ! (1 ∷ []) $ fsplit ! $ fsplit ! $ move ! (1 ∷ []) $ feqL ! (λ lc. move ! (3 ∷ []) $ split ! $ move ! (1 ∷ []) $
         peeks ! S.the-row (Is S.the-row) (shows 𝓤 H A S.the-row) r (c₂ ∷ []) (λ is₂. land ! (from ! (stop !)) (init ! 40 refl (LL.lawful S.the-type S′.the-laws 𝓤 H A W .typed r _ is₂ .0)) $
@@ -261,7 +271,8 @@ module _ {M : Type 1} (𝓤 : URA M) (H : Heap 𝓤) (A : Atoms 𝓤) (W : Given
         move ! (33 ∷ 34 ∷ []) $ free1 ! $ move ! (31 ∷ 32 ∷ []) $ free1 ! $ move ! (0 ∷ 30 ∷ []) $ free1 ! $ move ! (27 ∷ 28 ∷ []) $ free1 ! $ move ! (25 ∷ 26 ∷ []) $ free1 ! $
         move ! (23 ∷ 24 ∷ []) $ free1 ! $ move ! (21 ∷ 22 ∷ []) $ free1 ! $ move ! (19 ∷ 20 ∷ []) $ free1 ! $ move ! (17 ∷ 18 ∷ []) $ free1 ! $ move ! (15 ∷ 16 ∷ []) $ free1 ! $
         move ! (13 ∷ 14 ∷ []) $ free1 ! $ free0 ! $ keep ! (4 ∷ 3 ∷ 9 ∷ 2 ∷ 0 ∷ 8 ∷ 10 ∷ 7 ∷ 5 ∷ []) $
-        by ! (exits r c₂ (zs .1 .1 .0) (zs .1 .1 .1 .0) (subst (λ (ws : List ℕ). Said ws r (zs .1 .1 .0) (zs .1 .1 .1 .0)) (fronted (t .now) (x .now) (ks .1 .1 .0) small filled) said) lf lc)))))))))))))))))))))))))))))))))))
+        by ! (exits r c₂ (zs .1 .1 .0) (zs .1 .1 .1 .0) (subst (λ (ws : List ℕ). Said ws r (zs .1 .1 .0) (zs .1 .1 .1 .0)) (fronted (t .now) (x .now)
+        (ks .1 .1 .0) small filled) said) lf lc)))))))))))))))))))))))))))))))))))
 
 module _ {M : Type 1} (𝓤 : URA M) (H : Heap 𝓤) (A : Atoms 𝓤) (W : Given 𝓤 H A) (at-mem : Memory → SProp 𝓤) (run : Routine → Fun 𝓤) (𝓣 : Tables 𝓤 H)
     (known-fill : Triple 𝓤 (𝓣 .C #multipliers-for) (tripleOf 𝓤 H A multipliers-for.signature (multipliers-for.spec 𝓤 H A at-mem run))) (known-pass : Triple 𝓤 (𝓣 .C #passed)
