@@ -135,8 +135,9 @@ impl Control {
     pub fn unnamed(byte: u8) -> bool
         ensures { λ r. ⌜ r ≡ meaning.unnamed byte ⌝ }
     {
-        // modes 1 and 3 have bit 0, directions 2 and 3 bit 3
-        0 < byte & 0x09
+        let mode = byte & 0x03;
+        let direction = (byte >> 2) & 0x03;
+        mode == 1 || mode == 3 || 1 < direction
     }
 
     // The control that a byte says; a mode or a direction without a name reads as 0.
