@@ -7,8 +7,8 @@ ghost use Rattle.pdi.specs.Offset.{offsetAt, incremented, incrementedByt
 ghost use Rattle.pdi.specs.Segment.{segment, lenOf, lessGroup, placedOf, segmentText};
 use wire::Written;
 
-// A length in bits: the source's `bit_len`, wide enough for every exact sum.
-pub struct BitLen(pub u64);
+// A length in bits: the source's `bit_len`, wide enough for every exact sum, of which the largest is 4,261,413,375.
+pub struct BitLen(pub u32);
 
 // A length in bytes: the source's `length_bytes`.
 pub struct ByteLen(pub u16);

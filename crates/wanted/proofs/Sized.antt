@@ -15,6 +15,7 @@ use Rattle.wire.specs.Outcome.{Outcome, refused, accepted, when, decide}
 use Rattle.wire.proofs.Lists.{some-hit, some-miss, getD-listOf, none-yet, filled}
 use Rattle.wire.proofs.Order.{never, passed-first, passed-answer}
 use Rattle.pdi.specs.Unit.{bytesOf, tooManyBits, roundedUp}
+use Rattle.pdi.specs.declared.BitLen.{BitLen}
 use Rattle.pdi.specs.declared.ByteLen.{ByteLen}
 use Rattle.grammar.specs.Grammar.{managerCount}
 use Rattle.sheet.specs.Sheet.{sheetData}
@@ -84,8 +85,8 @@ module _ (s : List ℕ) (kind usage : ℕ) (ws : List ℕ) where
   rounding-start = record { rounded = none-yet size noSize; narrow = refl }
 
   -- the bits of a number as they are read
-  pub bits-read : (sums : List ℕ) (k : ℕ) → sums ≡ bitsIn s kind usage ws → k < 16 → getD sums k 0 ≡ bits k
-  bits-read sums k e h = ap (λ (l : List ℕ). getD l k 0) e ∙ getD-listOf bits 16 k 0 h
+  pub bits-read : (sums : List BitLen) (k : ℕ) → sums ≡ bitsIn s kind usage ws → k < 16 → getD sums k (record { 0 = 0 }) .0 ≡ bits k
+  bits-read sums k e h = ap (λ (l : List BitLen). getD l k (record { 0 = 0 }) .0) e ∙ ap (λ (b : BitLen). b .0) (getD-listOf (λ j. record { 0 = bits j }) 16 k (record { 0 = 0 }) h)
 
   -- what 6 gives: the answer, and the sizes
   abbrev pub Answers : Outcome (Unit {0}) → List ByteLen → Type 0

@@ -12,6 +12,7 @@ use lib.Dec.{eqb}
 use borrow.Author.Tests.{eqb-true, eqb-false}
 use Rattle.wire.specs.Lists.{listOf, sum}
 use Rattle.wire.proofs.Lists.{length-listOf, getD-listOf}
+use Rattle.pdi.specs.declared.BitLen.{BitLen}
 use Rattle.grammar.specs.Grammar.{nextPdo, kindFits, pdosFit}
 use Rattle.sheet.specs.Device.{pdoAt, pdosFrom}
 use Rattle.sheet.proofs.Sound.{Fits, fits-on}
@@ -20,21 +21,26 @@ use Rattle.pdo.proofs.Bits.{at-most}
 use Rattle.pdo.proofs.Records.{product-bounded}
 use Rattle.pdo.proofs.Sums.{bits-turn, bits-end}
 
+abbrev noBits : BitLen
+noBits = record { 0 = 0 }
+
 -- what stands for a number
-abbrev pub sumAt : List ℕ → ℕ → ℕ
-sumAt sums k = getD sums k 0
+abbrev pub sumAt : List BitLen → ℕ → ℕ
+sumAt sums k = getD sums k noBits .0
 
 -- a record that fits, by the kind that it is known to have
 pub fits-as : (s : List ℕ) (more at kind : ℕ) → getD s at 0 ≡ kind → Fits s more at → kindFits kind (getD s (at + 4) 0) ≡ true
 fits-as s more at kind e f = subst (λ (k : ℕ). kindFits k (getD s (at + 4) 0) ≡ true) e (f .kind)
 
 -- one of the sums is written
-sum-set : (sums : List ℕ) (slot k v : ℕ) → slot < length sums → sumAt (set sums slot (sumAt sums slot + v)) k ≡ sumAt sums k + cond (eqb slot k) v 0
+sum-set : (sums : List BitLen) (slot k v : ℕ) → slot < length sums → sumAt (set sums slot (record { 0 = sumAt sums slot + v })) k ≡ sumAt sums k + cond (eqb slot k) v 0
 sum-set sums slot k v h = go (eqb slot k) refl
   where
-    go : (t : Bool) → eqb slot k ≡ t → sumAt (set sums slot (sumAt sums slot + v)) k ≡ sumAt sums k + cond t v 0
-    go true e = let s = eqb-true slot k e in rw (← s) (getD-set-same sums slot (sumAt sums slot + v) 0 h)
-    go false e = getD-set-other sums slot k (sumAt sums slot + v) 0 (λ s. eqb-false slot k e (sym s)) ∙ sym (add-zero (sumAt sums k))
+    go : (t : Bool) → eqb slot k ≡ t → sumAt (set sums slot (record { 0 = sumAt sums slot + v })) k ≡ sumAt sums k + cond t v 0
+    go true e = let s = eqb-true slot k e in rw (← s) (ap (λ (b : BitLen). b .0) (getD-set-same sums slot (record { 0 = sumAt sums slot + v }) noBits h))
+    go false e =
+        ap (λ (b : BitLen). b .0) (getD-set-other sums slot k (record { 0 = sumAt sums slot + v }) noBits (λ s. eqb-false slot k e (sym s)))
+        ∙ sym (add-zero (sumAt sums k))
 
 -- what counts or doesn't
 none : (t : Bool) (x : ℕ) → x ≡ 0 → cond t x 0 ≡ 0
@@ -71,7 +77,7 @@ module _ (s ws : List ℕ) (kind : ℕ) (asked : ℕ → Bool) where
   abbrev bitsFrom : ℕ → ℕ → ℕ → ℕ → ℕ
   bitsFrom k left place i = bitsOf kind k (pdosFrom s left place) (drop i ws)
 
-  pub record Tallied (p at : ℕ) (sums : List ℕ) (place i : ℕ) : Type 0 where
+  pub record Tallied (p at : ℕ) (sums : List BitLen) (place i : ℕ) : Type 0 where
     pub long : length sums ≡ 16
     pub within : i ≤ p
     pub fits : pdosFit s (p - i) place ≡ true
@@ -79,18 +85,18 @@ module _ (s ws : List ℕ) (kind : ℕ) (asked : ℕ → Bool) where
     pub small : (k : ℕ) → k < 16 → sumAt sums k ≤ 16711425 * i
 
   -- before the first record
-  pub tallied-start : (p at place : ℕ) (sums : List ℕ) → sums ≡ replicate 16 0 → place ≡ at → pdosFit s p at ≡ true → Tallied p at sums place 0
-  tallied-start p at place sums zeros e h =
-      let z : (k : ℕ) → k < 16 → sumAt sums k ≡ 0 = λ k l. ap (λ (x : List ℕ). sumAt x k) zeros ∙ getD-replicate 16 k 0 0 l in
+  pub tallied-start : (p at place : ℕ) → place ≡ at → pdosFit s p at ≡ true → Tallied p at (replicate 16 noBits) place 0
+  tallied-start p at place e h =
+      let z : (k : ℕ) → k < 16 → sumAt (replicate 16 noBits) k ≡ 0 = λ k l. ap (λ (b : BitLen). b .0) (getD-replicate 16 k noBits noBits l) in
       record {
-        long = ap length zeros;
+        long = refl;
         within = omega arith;
         fits = rw (sub-zero, e) h;
         rest = λ k l. rw (z k l, sub-zero, e) (zero-add (cond (asked k) (bitsOf kind k (pdosFrom s p at) ws) 0));
         small = λ k l. omega (arith, z k l);
       }
 
-  module _ {p at : ℕ} {sums : List ℕ} {place i : ℕ} (t : Tallied p at sums place i) where
+  module _ {p at : ℕ} {sums : List BitLen} {place i : ℕ} (t : Tallied p at sums place i) where
     -- the next record stands within the bytes, and goes with its kind
     pub next-fits : i < p → Fits s (p - (i + 1)) place
     next-fits l = fits-on s (p - (i + 1)) place (ap (λ (n : ℕ). pdosFit s n place) (one-less p i l) ∙ t .fits)
@@ -110,18 +116,18 @@ module _ (s ws : List ℕ) (kind : ℕ) (asked : ℕ → Bool) where
 
       -- a record that counts is added to the sync manager that it names, its own bits v being multiplied by w
       pub tallied-here :
-          (slot v w : ℕ) (then : List ℕ) → eqb (getD s place 0) kind && asked (getD s (place + 1) 0) ≡ true → slot ≡ getD s (place + 1) 0 → slot < 16
-          → v ≡ sum (pdoAt s place .lengths) → w ≡ getD ws i 1 → v ≤ 65535 → w ≤ 255 → then ≡ set sums slot (sumAt sums slot + v * w)
+          (slot v w : ℕ) (then : List BitLen) → eqb (getD s place 0) kind && asked (getD s (place + 1) 0) ≡ true → slot ≡ getD s (place + 1) 0 → slot < 16
+          → v ≡ sum (pdoAt s place .lengths) → w ≡ getD ws i 1 → v ≤ 65535 → w ≤ 255 → then ≡ set sums slot (record { 0 = sumAt sums slot + v * w })
           → Tallied p at then next (i + 1)
-      tallied-here slot v w then c es low ev ew bv bw e = subst (λ (x : List ℕ). Tallied p at x next (i + 1)) (sym e) more
+      tallied-here slot v w then c es low ev ew bv bw e = subst (λ (x : List BitLen). Tallied p at x next (i + 1)) (sym e) more
         where
-          added : (k : ℕ) → sumAt (set sums slot (sumAt sums slot + v * w)) k ≡ sumAt sums k + cond (eqb slot k) (v * w) 0
+          added : (k : ℕ) → sumAt (set sums slot (record { 0 = sumAt sums slot + v * w })) k ≡ sumAt sums k + cond (eqb slot k) (v * w) 0
           added k = sum-set sums slot k (v * w) (omega (arith, t .long))
 
-          more : Tallied p at (set sums slot (sumAt sums slot + v * w)) next (i + 1)
+          more : Tallied p at (set sums slot (record { 0 = sumAt sums slot + v * w })) next (i + 1)
           more =
               record {
-                long = length-set sums slot (sumAt sums slot + v * w) ∙ t .long;
+                long = length-set sums slot (record { 0 = sumAt sums slot + v * w }) ∙ t .long;
                 within = omega arith;
                 fits = others-fit;
                 rest = λ k h.
@@ -132,8 +138,8 @@ module _ (s ws : List ℕ) (kind : ℕ) (asked : ℕ → Bool) where
               }
 
       -- any other adds nothing
-      pub tallied-on : (then : List ℕ) → eqb (getD s place 0) kind && asked (getD s (place + 1) 0) ≡ false → then ≡ sums → Tallied p at then next (i + 1)
-      tallied-on then c e = subst (λ (x : List ℕ). Tallied p at x next (i + 1)) (sym e) more
+      pub tallied-on : (then : List BitLen) → eqb (getD s place 0) kind && asked (getD s (place + 1) 0) ≡ false → then ≡ sums → Tallied p at then next (i + 1)
+      tallied-on then c e = subst (λ (x : List BitLen). Tallied p at x next (i + 1)) (sym e) more
         where
           more : Tallied p at sums next (i + 1)
           more =
@@ -146,12 +152,12 @@ module _ (s ws : List ℕ) (kind : ℕ) (asked : ℕ → Bool) where
               }
 
     -- each record is met: the sums are the whole
-    pub tallied-end : p ≤ i → sums ≡ listOf (λ k. cond (asked k) (bitsOf kind k (pdosFrom s p at) ws) 0) 16
+    pub tallied-end : p ≤ i → sums ≡ listOf (λ k. record { 0 = cond (asked k) (bitsOf kind k (pdosFrom s p at) ws) 0 }) 16
     tallied-end h =
-        let f : ℕ → ℕ = λ k. cond (asked k) (bitsOf kind k (pdosFrom s p at) ws) 0 in
+        let f : ℕ → BitLen = λ k. record { 0 = cond (asked k) (bitsOf kind k (pdosFrom s p at) ws) 0 } in
         let e : p - i ≡ 0 = omega arith in
-        ext-getD 0 sums (listOf f 16) (t .long ∙ sym (length-listOf f 16))
+        ext-getD noBits sums (listOf f 16) (t .long ∙ sym (length-listOf f 16))
         (λ k l. let n : k < 16 = omega (arith, t .long) in
         let z : cond (asked k) (bitsFrom k (p - i) place i) 0 ≡ 0 = none (asked k) (bitsFrom k (p - i) place i) (bits-end s (drop i ws) kind k (p - i) place e) in
-        let y : sumAt sums k ≡ f k = omega (arith, t .rest k n, z) in
-        y ∙ sym (getD-listOf f 16 k 0 n))
+        let y : sumAt sums k ≡ f k .0 = omega (arith, t .rest k n, z) in
+        (λ j. record { 0 = y j }) ∙ sym (getD-listOf f 16 k noBits n))

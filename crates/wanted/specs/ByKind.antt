@@ -7,6 +7,7 @@ use lib.Dec.{ltb}
 use Rattle.wire.specs.Lists.{listOf, someBelow}
 use Rattle.wire.specs.Outcome.{when, decide}
 use Rattle.pdi.specs.Unit.{bytesOf, tooManyBits}
+use Rattle.pdi.specs.declared.BitLen.{BitLen}
 use Rattle.pdi.specs.declared.ByteLen.{ByteLen}
 use Rattle.sheet.specs.Sheet.{managerCount, sheetData}
 use Rattle.sheet.specs.declared.Answer.the-variants.{Accepted}
@@ -20,8 +21,8 @@ use Rattle.wanted.specs.declared.Wanted.{Wanted}
 abbrev pub bitsAt : List ℕ → ℕ → ℕ → List ℕ → ℕ → ℕ
 bitsAt sheet kind usage ws k = cond (hasUsage usage (sheetData sheet .managers) k) (bitsOf kind k (sheetData sheet .pdos) ws) 0
 
-abbrev pub bitsIn : List ℕ → ℕ → ℕ → List ℕ → List ℕ
-bitsIn sheet kind usage ws = listOf (bitsAt sheet kind usage ws) 16
+abbrev pub bitsIn : List ℕ → ℕ → ℕ → List ℕ → List BitLen
+bitsIn sheet kind usage ws = listOf (λ k. record { 0 = bitsAt sheet kind usage ws k }) 16
 
 unfoldable pub someTooWide : List ℕ → ℕ → ℕ → List ℕ → Bool
 someTooWide sheet kind usage ws = someBelow (λ k. tooManyBits (bitsAt sheet kind usage ws k)) (managerCount sheet)

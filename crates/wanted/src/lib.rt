@@ -3,7 +3,7 @@ ghost use mathlib.Core.Path.{_≡_};
 ghost use mathlib.Core.Bool.{true, false, cond, _&&_};
 ghost use mathlib.Core.List.{[], _∷_};
 ghost use Prim.Native.Nat.{_+_, _≤_};
-ghost use lib.ListN.{length, getD, replicate};
+ghost use lib.ListN.{length, getD};
 ghost use lib.Dec.{eqb};
 ghost use Rattle.wire.specs.Lists.{sum};
 ghost use Rattle.wire.specs.Outcome as Outcome;
@@ -31,21 +31,21 @@ pub struct Wanted {
 }
 
 // The sum of the bytes of a part.
-fn sum_bytes(part: &[u8]) -> u64
+fn sum_bytes(part: &[u8]) -> u32
     requires { ⌜ length (now part) ≤ 255 ⌝ }
     ensures { λ r. ⌜ (r ≡ sum (now (part .entry))) × (r ≤ 65025) ⌝ }
 {
-    let mut total: u64 = 0;
+    let mut total: u32 = 0;
     let mut k = 0;
     while k < part.len() {
-        total += wire::wide(part[k]) as u64;
+        total += part[k] as u32;
         k += 1;
     }
     total
 }
 
 // The bits of the PDO at a place of a sound sheet.
-fn pdo_bits(sheet: &[u8], at: usize, kind: u8) -> u64
+fn pdo_bits(sheet: &[u8], at: usize, kind: u8) -> u32
     requires { ⌜ (getD (now sheet) at 0 ≡ kind) × (nextPdo (now sheet) at ≤ length (now sheet)) × (kindFits kind (getD (now sheet) (at + 4) 0) ≡ true) × (length (now sheet) ≤ 16386) ⌝ }
     ensures { λ r. ⌜ (r ≡ sum (pdoAt (now (sheet .entry)) at .lengths)) × (r ≤ 65535) ⌝ }
 {
@@ -56,7 +56,7 @@ fn pdo_bits(sheet: &[u8], at: usize, kind: u8) -> u64
     wire::be16(
         sheet[at + grammar::PDO_BYTES],
         sheet[at + grammar::PDO_SECOND_BYTE],
-    ) as u64
+    ) as u32
 }
 
 // Whether the PDO at a place counts: it is of the kind, and names a sync manager of the usage.
@@ -84,24 +84,27 @@ fn multiplier_at(multipliers: &[u8], i: usize) -> u8
     1
 }
 
-// The exact bits of each sync manager of the usage, into zeros: over the PDOs that are of the kind, bits times multiplier.
-fn tally(sheet: &[u8], kind: u8, usage: u8, multipliers: &[u8], sums: &mut [u64; 16])
-    requires { ⌜ (length (now sheet) ≤ 16386) × (broken (now sheet) ≡ false) × (now sums ≡ replicate 16 0) ⌝ }
-    ensures { λ r. ⌜ now (sums .exit) ≡ bitsIn (now (sheet .entry)) kind usage (perPdo (pdoCount (now (sheet .entry))) (now (multipliers .entry))) ⌝ }
+// The exact bits of each sync manager of the usage: over the PDOs that are of the kind, bits times multiplier.
+fn tally(sheet: &[u8], kind: u8, usage: u8, multipliers: &[u8]) -> [BitLen; 16]
+    requires { ⌜ (length (now sheet) ≤ 16386) × (broken (now sheet) ≡ false) ⌝ }
+    ensures { λ r. ⌜ r ≡ bitsIn (now (sheet .entry)) kind usage (perPdo (pdoCount (now (sheet .entry))) (now (multipliers .entry))) ⌝ }
 {
+    let mut sums = [BitLen(0); 16];
     let mut place = grammar::pdos_place(sheet);
     let mut i = 0;
     let count = wire::wide(grammar::pdo_count(sheet));
     while i < count {
         if counts(sheet, place, kind, usage) {
             let slot = wire::wide(sheet[place + grammar::PDO_MANAGER]);
-            let before = sums[slot];
-            sums[slot] = before
-                + pdo_bits(sheet, place, kind) * wire::wide(multiplier_at(multipliers, i)) as u64;
+            let before = sums[slot].0;
+            sums[slot] = BitLen(
+                before + pdo_bits(sheet, place, kind) * (multiplier_at(multipliers, i) as u32),
+            );
         }
         place = place + grammar::PDO_BYTES + wire::wide(sheet[place + grammar::PDO_COUNT]);
         i += 1;
     }
+    sums
 }
 
 // The place of the first FMMU entry with the usage; the count where there is none.
@@ -130,13 +133,12 @@ fn sizes_of(sheet: &[u8], kind: u8, usage: u8, multipliers: &[u8]) -> Sizes
     requires { ⌜ (length (now sheet) ≤ 16386) × (broken (now sheet) ≡ false) ⌝ }
     ensures { λ r. ⌜ (answerOf {A = Unit {0}} (r .answer) tt ≡ decide (when 6 (someTooWide (now (sheet .entry)) kind usage (perPdo (pdoCount (now (sheet .entry))) (now (multipliers .entry)))) ∷ []) tt) × (r .list ≡ cond (someTooWide (now (sheet .entry)) kind usage (perPdo (pdoCount (now (sheet .entry))) (now (multipliers .entry)))) noSizes (sizesIn (now (sheet .entry)) kind usage (perPdo (pdoCount (now (sheet .entry))) (now (multipliers .entry))))) ⌝ }
 {
-    let mut bits = [0u64; 16];
-    tally(sheet, kind, usage, multipliers, &mut bits);
+    let bits = tally(sheet, kind, usage, multipliers);
     let mut list = [ByteLen(0); 16];
     let n = wire::wide(grammar::manager_count(sheet));
     let mut k = 0;
     while k < n {
-        match BitLen(bits[k]).round_up() {
+        match bits[k].round_up() {
             Rounded::Bytes(size) => {
                 list[k] = size;
             }

@@ -1,6 +1,6 @@
 -- `wanted::sizes_of`: after k turns k sizes stand there, and none of them is too wide.
 -- Assumes nothing.
-use mathlib.Core.Path.{_≡_, refl, sym, _∙_, ap}
+use mathlib.Core.Path.{_≡_, sym, _∙_, ap}
 use mathlib.Core.List.{List}
 use Prim.Native.Nat.{ℕ, _-_, _≤_}
 use native.Mathlib.Omega.{arith}
@@ -28,24 +28,18 @@ abbrev μ-loop : tie.MeasureT-loop
 abbrev multipliersOf : tie.Start Inv-loop μ-loop → List ℕ
 multipliersOf c = perPdo (pdoCount (now (c .args .sheet))) (now (c .args .multipliers))
 
--- where the call began, and the bits as they are summed up
-abbrev start : tie.At-loop Inv-loop μ-loop → tie.Start Inv-loop μ-loop
-start c = c .before .before .before .before .before .before .before
-
-abbrev summed : tie.At-loop Inv-loop μ-loop → List ℕ
-summed c = c .before .before .before .tally .last .1 .1 .1 .1 .0
-
--- those that are rounded up are those of the number
+-- the bits that are rounded up are those of the number
 of-number :
     (c : tie.In-loop Inv-loop μ-loop)
-    → sumAt (summed (c .before)) (c .before .loop .k)
-    ≡ bitsAt (now (start (c .before) .args .sheet)) (start (c .before) .args .kind) (start (c .before) .args .usage) (multipliersOf (start (c .before))) (c .before .loop .k)
+    → sumAt (c .before .before .before .before .tally .result) (c .before .loop .k)
+    ≡ bitsAt (now (c .before .before .before .before .before .before .before .args .sheet)) (c .before .before .before .before .before .before .before .args .kind)
+    (c .before .before .before .before .before .before .before .args .usage) (multipliersOf (c .before .before .before .before .before .before .before)) (c .before .loop .k)
 of-number c =
-    let b = start (c .before) in
+    let b = c .before .before .before .before .before .before .before in
     bits-read (now (b .args .sheet)) (b .args .kind) (b .args .usage) (multipliersOf b) _ (c .before .loop .k) (c .before .loop .inv .3) (omega arith)
 
 tally-requires : tie.Need-tally-requires Inv-loop μ-loop
-tally-requires c κs = let b = c .before .before .before in (b .pre .0, b .pre .1, refl)
+tally-requires c κs = c .before .before .pre
 
 manager-count-requires : tie.Need-manager-count-requires Inv-loop μ-loop
 manager-count-requires c κs = tt
@@ -55,16 +49,16 @@ wide-requires c κs = tt
 
 loop-holds : tie.Need-loop-holds Inv-loop μ-loop
 loop-holds c =
-    let b = c .before .before .before .before .before .before in
+    let b = c .before .before .before .before .before in
     let k = kept (now (b .args .sheet)) (b .pre .1) in
     let e = c .wide .ensures .0 ∙ c .before .manager-count .ensures in
     (omega arith, e, omega (arith, k .managers), c .before .before .tally .ensures, rounding-start _ _ _ _)
 
-mul-t17 : tie.Need-mul-t17 Inv-loop μ-loop
-mul-t17 c = omega arith
+mul-round-up : tie.Need-mul-round-up Inv-loop μ-loop
+mul-round-up c = omega arith
 
-array-read-t20 : tie.Need-array-read-t20 Inv-loop μ-loop
-array-read-t20 c = omega arith
+array-copy-out-round-up : tie.Need-array-copy-out-round-up Inv-loop μ-loop
+array-copy-out-round-up c = omega arith
 
 round-up-requires : tie.Need-round-up-requires Inv-loop μ-loop
 round-up-requires c κs = tt
@@ -84,10 +78,10 @@ enum-known-number c = search needs
 returns : tie.Need-returns Inv-loop μ-loop
 returns c =
     let u = c .before .before .before in
-    let l = u .before .before .loop in
-    let b = start (u .before .before) in
+    let l = u .before .before .before .loop in
+    let b = u .before .before .before .before .before .before .before .before .before in
     let n = c .before .number .given in
-    rounding-refused (now (b .args .sheet)) (b .args .kind) (b .args .usage) (multipliersOf b) (l .k) _ (n .0 .0) (omega arith) (of-number (u .before))
+    rounding-refused (now (b .args .sheet)) (b .args .kind) (b .args .usage) (multipliersOf b) (l .k) _ (n .0 .0) (omega arith) (of-number (u .before .before))
     (sym (ap roundedOf (n .1)) ∙ u .round-up .ensures)
 
 add-k : tie.Need-add-k Inv-loop μ-loop
@@ -99,17 +93,17 @@ loop-less c = omega arith
 loop-again : tie.Need-loop-again Inv-loop μ-loop
 loop-again c =
     let u = c .before .before .before in
-    let l = u .before .before .loop in
-    let b = start (u .before .before) in
+    let l = u .before .before .before .loop in
+    let b = u .before .before .before .before .before .before .before .before .before in
     let w = c .before .size .given in
-    let t = rounding-turn (now (b .args .sheet)) (b .args .kind) (b .args .usage) (multipliersOf b) (l .list) (l .k) _ (w .0 .0) (omega arith) (of-number (u .before))
+    let t = rounding-turn (now (b .args .sheet)) (b .args .kind) (b .args .usage) (multipliersOf b) (l .list) (l .k) _ (w .0 .0) (omega arith) (of-number (u .before .before))
     (sym (ap roundedOf (w .1)) ∙ u .round-up .ensures) (l .inv .4) in
     (omega arith, l .inv .1, l .inv .2, l .inv .3, t)
 
 returns-2 : tie.Need-returns-2 Inv-loop μ-loop
 returns-2 c =
     let l = c .before .loop in
-    let b = start (c .before) in
+    let b = c .before .before .before .before .before .before .before in
     rounding-end (now (b .args .sheet)) (b .args .kind) (b .args .usage) (multipliersOf b) (l .list) (l .k) (omega arith) (omega arith) (l .inv .4)
 
 pub sizes-of-spec : {M : Type 1} → statement M
@@ -122,8 +116,8 @@ sizes-of-spec =
     manager-count-requires
     wide-requires
     loop-holds
-    mul-t17
-    array-read-t20
+    mul-round-up
+    array-copy-out-round-up
     round-up-requires
     enum-known-size
     mul-list

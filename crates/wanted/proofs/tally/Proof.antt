@@ -5,6 +5,7 @@ use mathlib.Core.Logic.{⊎-elim}
 use Prim.Native.Nat.{_+_, _-_, _*_, _≤_, _<_}
 use native.Mathlib.Omega.{arith}
 use denote.Ref.{now}
+use borrow.Author.Needs.{needs}
 use lib.ListN.{length, getD}
 use Rattle.grammar.specs.Grammar.{managerCount, pdoCount, usagesPlace, pdosPlace}
 use Rattle.grammar.proofs.Broken.{kept}
@@ -12,9 +13,9 @@ use Rattle.sheet.specs.Sheet.{sheetData}
 use Rattle.sheet.proofs.Sound.{Fits}
 use Rattle.pdo.proofs.Records.{product-bounded}
 use Rattle.pdo.specs.Bits.{perPdo}
+use Rattle.pdo.proofs.PerPdo.{perPdo-at}
 use Rattle.passes.specs.Handed.{hasUsage}
 use Rattle.wanted.proofs.Managers.{counts-kind, counts-there}
-use Rattle.pdo.proofs.PerPdo.{perPdo-at}
 use Rattle.wanted.proofs.Sums.{Tallied, fits-as, tallied-start, next-fits, tallied-here, tallied-on, tallied-end}
 use Rattle.wanted.proofs.tally.Statement.{statement}
 use Rattle.wanted.proofs.tally.Tie as tie
@@ -46,8 +47,8 @@ low c =
     let h = counts-there (now (a .sheet)) (a .kind) (a .usage) (c .before .before .before .loop .place) (sym (c .before .counts .ensures) ∙ c .if1 .taken) in
     omega arith
 
-product : (c : tie.After-wide3 Inv-loop μ-loop) → c .before .before .pdo-bits .result * c .wide3 .result ≤ 16711425
-product c = product-bounded (c .before .before .pdo-bits .result) (c .wide3 .result) (c .before .before .pdo-bits .ensures .1) (c .wide3 .ensures .1)
+product : (c : tie.After-multiplier-at Inv-loop μ-loop) → c .before .pdo-bits .result * c .multiplier-at .result ≤ 16711425
+product c = product-bounded (c .before .pdo-bits .result) (c .multiplier-at .result) (c .before .pdo-bits .ensures .1) (omega arith)
 
 pdos-place-requires : tie.Need-pdos-place-requires Inv-loop μ-loop
 pdos-place-requires c κs = tt
@@ -64,7 +65,7 @@ loop-holds c =
     let s = now (b .args .sheet) in
     let k = kept s (b .pre .1) in
     let e : c .wide .result ≡ pdoCount s = c .wide .ensures .0 ∙ c .before .pdo-count .ensures in
-    (b .pre .0, k .managers, omega arith, e, omega arith, tallied-start _ _ _ _ (pdoCount s) (pdosPlace s) _ _ (b .pre .2) (c .before .before .pdos-place .ensures .0) (k .walk))
+    (b .pre .0, k .managers, omega arith, e, omega arith, tallied-start _ _ _ _ (pdoCount s) (pdosPlace s) _ (c .before .before .pdos-place .ensures .0) (k .walk))
 
 counts-requires : tie.Need-counts-requires Inv-loop μ-loop
 counts-requires c κs = let i = c .before .loop .inv in (omega (arith, fit c .within), i .2, i .0)
@@ -86,30 +87,30 @@ element-copy-out-before c = omega (arith, low (c .before .before))
 
 pdo-bits-requires : tie.Need-pdo-bits-requires Inv-loop μ-loop
 pdo-bits-requires c κs =
-    let t = c .before .before .before in
+    let t = c .before .before in
     let f = fit (t .before .before) in
     (of-kind t, f .within, fits-as _ _ _ _ (of-kind t) f, t .before .before .before .loop .inv .0)
 
 multiplier-at-requires : tie.Need-multiplier-at-requires Inv-loop μ-loop
 multiplier-at-requires c κs = tt
 
-wide-requires-3 : tie.Need-wide-requires-3 Inv-loop μ-loop
-wide-requires-3 c κs = tt
+cast-t21 : tie.Need-cast-t21 Inv-loop μ-loop
+cast-t21 c = search needs
+
+mul-t22 : tie.Need-mul-t22 Inv-loop μ-loop
+mul-t22 c = omega (arith, product c)
+
+add-t23 : tie.Need-add-t23 Inv-loop μ-loop
+add-t23 c =
+    let t = c .before .before .before .before in
+    let l = t .before .before .before .loop in
+    omega (arith, product c, l .inv .5 .small (c .before .before .wide2 .result) (omega (arith, low t)))
 
 mul-sums : tie.Need-mul-sums Inv-loop μ-loop
-mul-sums c = omega (arith, product c)
+mul-sums c = omega (arith, low (c .before .before .before .before))
 
-add-sums : tie.Need-add-sums Inv-loop μ-loop
-add-sums c =
-    let t = c .before .before .before .before .before .before in
-    let l = t .before .before .before .loop in
-    omega (arith, product c, l .inv .5 .small (c .before .before .before .before .wide2 .result) (omega (arith, low t)))
-
-mul-sums-2 : tie.Need-mul-sums-2 Inv-loop μ-loop
-mul-sums-2 c = omega (arith, low (c .before .before .before .before .before .before))
-
-element-write-sums : tie.Need-element-write-sums Inv-loop μ-loop
-element-write-sums c = omega (arith, low (c .before .before .before .before .before .before))
+array-set-from-sums : tie.Need-array-set-from-sums Inv-loop μ-loop
+array-set-from-sums c = omega (arith, low (c .before .before .before .before))
 
 add-place : tie.Need-add-place Inv-loop μ-loop
 add-place c = omega (arith, fit (c .before .before) .within)
@@ -120,8 +121,8 @@ add-wide-2 c = omega (arith, fit (c .before .before) .within)
 shared-slice-read-wide-2 : tie.Need-shared-slice-read-wide-2 Inv-loop μ-loop
 shared-slice-read-wide-2 c = omega (arith, fit (c .before .before .before) .within)
 
-wide-requires-4 : tie.Need-wide-requires-4 Inv-loop μ-loop
-wide-requires-4 c κs = tt
+wide-requires-3 : tie.Need-wide-requires-3 Inv-loop μ-loop
+wide-requires-3 c κs = tt
 
 add-place-2 : tie.Need-add-place-2 Inv-loop μ-loop
 add-place-2 c = omega (arith, fit (c .before .before .before .before) .within)
@@ -138,14 +139,14 @@ loop-again c =
     let l = j .before .before .before .loop in
     let a = start (j .before .before .before) .args in
     let i = l .inv in
-    let next = l .place + 5 + c .wide4 .result in
+    let next = l .place + 5 + c .wide3 .result in
     let e = sym (j .before .counts .ensures) in
     let w = sym (perPdo-at (pdoCount (now (a .sheet))) (now (a .multipliers)) (l .i) (omega arith)) in
     let t =
     ⊎-elim
     (λ h.
-    tallied-here _ _ _ _ (i .5) next (omega arith) (omega arith) (h .2 .result) (h .4 .result) (h .6 .result) _ (e ∙ h .0 .taken) (h .2 .ensures .0)
-    (let z = low (record { before = j .before; if1 = h .0 }) in omega arith) (h .4 .ensures .0) (h .6 .ensures .0 ∙ h .5 .ensures ∙ w) (h .4 .ensures .1) (h .6 .ensures .1) (h .7))
+    tallied-here _ _ _ _ (i .5) next (omega arith) (omega arith) (h .2 .result) (h .3 .result) (h .4 .result) _ (e ∙ h .0 .taken) (h .2 .ensures .0)
+    (let z = low (record { before = j .before; if1 = h .0 }) in omega arith) (h .3 .ensures .0) (h .4 .ensures ∙ w) (h .3 .ensures .1) (omega arith) (h .5))
     (λ h. tallied-on _ _ _ _ (i .5) next (omega arith) (omega arith) _ (e ∙ h .0 .left) (h .1)) (j .if1 .came) in
     (i .0, i .1, i .2, i .3, i .4, t)
 
@@ -171,15 +172,15 @@ tally-spec =
     element-copy-out-before
     pdo-bits-requires
     multiplier-at-requires
-    wide-requires-3
+    cast-t21
+    mul-t22
+    add-t23
     mul-sums
-    add-sums
-    mul-sums-2
-    element-write-sums
+    array-set-from-sums
     add-place
     add-wide-2
     shared-slice-read-wide-2
-    wide-requires-4
+    wide-requires-3
     add-place-2
     add-i
     loop-less
