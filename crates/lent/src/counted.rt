@@ -11,7 +11,7 @@ use pdo::Oversampling;
 use pdo::PdoDirection;
 
 // Without a table nothing is prepared.
-fn bare(sheet: &[u8], offset: PdiOffset, direction: PdoDirection, address: u32) -> Counted
+fn without_table(sheet: &[u8], offset: PdiOffset, direction: PdoDirection, address: u32) -> Counted
     ensures { λ r. ⌜ countedOf r ≡ meaning.count direction address (now (sheet .entry)) (multipliersOf [] (sheetData (now (sheet .entry)) .pdos)) (offset .«start_address») ⌝ }
 {
     counting::count(sheet, &[], offset, direction, address)
@@ -28,7 +28,7 @@ pub fn count(
     ensures { λ r. ⌜ countedOf r ≡ meaning.count direction address (now (sheet .entry)) (multipliersOf (now (table .entry)) (sheetData (now (sheet .entry)) .pdos)) (offset .«start_address») ⌝ }
 {
     if table.len() == 0 {
-        return bare(sheet, offset, direction, address);
+        return without_table(sheet, offset, direction, address);
     }
     let mut multipliers = [1u8; 255];
     oversampling::multipliers_for(table, sheet, &mut multipliers);

@@ -1,4 +1,4 @@
-// The data pass, lent its offset and its oversampling table. Proved by walks.
+// The data pass, lent its offset and its oversampling table.
 ghost use mathlib.Core.List.{[]};
 ghost use Rattle.grammar.specs.Grammar.{pdoCount};
 ghost use Rattle.sheet.specs.Sheet.{sheetData};
@@ -42,7 +42,7 @@ fn passed(
 }
 
 // Without a table nothing is prepared.
-fn bare(
+fn without_table(
     sheet: &[u8],
     fmmus: &mut [u8],
     channels: &mut [u8],
@@ -55,7 +55,7 @@ fn bare(
 }
 
 // With one, each PDO's multiplier is looked up first.
-fn sampled(
+fn with_table(
     sheet: &[u8],
     table: &[Oversampling],
     fmmus: &mut [u8],
@@ -87,9 +87,9 @@ pub fn configure_fmmus(
         group: group_start_address,
     };
     let done = if table.len() == 0 {
-        bare(sheet, fmmus, channels, place, direction)
+        without_table(sheet, fmmus, channels, place, direction)
     } else {
-        sampled(sheet, table, fmmus, channels, place, direction)
+        with_table(sheet, table, fmmus, channels, place, direction)
     };
     *offset = done.next;
     done.answer

@@ -1,4 +1,4 @@
--- What `table::plan` and `table::bare` share: each lends to `configure_fmmus` the front of a table in a local, as a slice for a lifetime ν, and an offset in a local, by `&mut` for a lifetime μ.
+-- What `table::plan` and `table::plan_without_table` share: each lends to `configure_fmmus` the front of a table in a local, as a slice for a lifetime ν, and an offset in a local, by `&mut` for a lifetime μ.
 -- All that is known of `configure_fmmus` is its contract.
 -- Assumes nothing.
 use Prim.Native.Nat.{ℕ, _<_, _^_}

@@ -264,7 +264,7 @@ fn plan_pass(
 ) -> Passed {
     let start = Start { offset, group: 0 };
     if records == 0 {
-        return table::bare(sheet, fmmus, channels, start, direction);
+        return table::plan_without_table(sheet, fmmus, channels, start, direction);
     }
     table::plan(sheet, table, records, fmmus, channels, start, direction)
 }

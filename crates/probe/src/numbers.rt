@@ -18,8 +18,16 @@ fn joined(high: u32, low: u32) -> u64 {
     (high as u64) * 0x1_0000_0000 + (low as u64)
 }
 
+// A length in bits; one that is too long for the type is its longest, which is refused like it.
+fn bit_len(bits: u64) -> BitLen {
+    if 0xffff_ffff < bits {
+        return BitLen(0xffff_ffff);
+    }
+    BitLen(bits as u32)
+}
+
 fn rounded(bits: u64) -> Line {
-    match BitLen(bits).round_up() {
+    match bit_len(bits).round_up() {
         Rounded::Bytes(bytes) => say::one(bytes.0 as u64),
         Rounded::Refused(number) => say::refused(number),
     }
@@ -43,7 +51,7 @@ fn increment_byte_aligned(start: u32, bits: u64) -> Line {
     let offset = PdiOffset {
         start_address: start,
     };
-    moved(offset.increment_byte_aligned(BitLen(bits)))
+    moved(offset.increment_byte_aligned(bit_len(bits)))
 }
 
 fn up_to(start: u32, end: u32) -> Line {

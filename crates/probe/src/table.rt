@@ -1,4 +1,4 @@
-// The library's lent forms for a program that holds its table and offset by value: `records` of the table count.
+// The library's lent forms for a program that holds its offset and its table by value, of which `records` count, or has no table.
 use counting::Counted;
 use pdi::PdiOffset;
 use pdi::Placed;
@@ -43,20 +43,8 @@ pub fn plan(
     }
 }
 
-pub fn locate(
-    sheet: &[u8],
-    table: [Oversampling; 256],
-    records: usize,
-    offset: PdiOffset,
-    direction: PdoDirection,
-    address: u32,
-) -> Counted {
-    let k = wire::least(records, 256);
-    lent::count(sheet, &table[..k], offset, direction, address)
-}
-
-// Without a table.
-pub fn bare(
+// The same without a table: none is copied to be lent.
+pub fn plan_without_table(
     sheet: &[u8],
     fmmus: &mut [u8],
     channels: &mut [u8],
@@ -78,4 +66,16 @@ pub fn bare(
         answer,
         next: offset,
     }
+}
+
+pub fn locate(
+    sheet: &[u8],
+    table: [Oversampling; 256],
+    records: usize,
+    offset: PdiOffset,
+    direction: PdoDirection,
+    address: u32,
+) -> Counted {
+    let k = wire::least(records, 256);
+    lent::count(sheet, &table[..k], offset, direction, address)
 }

@@ -71,10 +71,10 @@ use Rattle.counting.proofs.count as by-value
 use Rattle.counting.proofs.count.Symbol as by-value-def
 use Rattle.counting.proofs.count.Symbol.{name as #by-value}
 use Rattle.counting.proofs.count.Met as by-value-thm
-use Rattle.lent.proofs.counted.bare as bare
-use Rattle.lent.proofs.counted.bare.Symbol as bare-def
-use Rattle.lent.proofs.counted.bare.Symbol.{name as #bare}
-use Rattle.lent.proofs.counted.bare.Met as bare-thm
+use Rattle.lent.proofs.counted.without_table as without-table
+use Rattle.lent.proofs.counted.without_table.Symbol as without-table-def
+use Rattle.lent.proofs.counted.without_table.Symbol.{name as #without-table}
+use Rattle.lent.proofs.counted.without_table.Met as without-table-thm
 use Rattle.wire.specs.Image.{Bytes}
 use Rattle.lent.proofs.Branch.{checks}
 use Rattle.lent.proofs.Bytes.{below}
@@ -105,8 +105,8 @@ abbrev ByValue : {M : Type 1} (𝓤 : URA M) (H : Heap 𝓤) (A : Atoms 𝓤) (a
 ByValue 𝓤 H A at-mem run = tripleOf 𝓤 H A by-value.signature (by-value.spec 𝓤 H A at-mem run)
 
 -- the contract of counting without a table
-abbrev Bare : {M : Type 1} (𝓤 : URA M) (H : Heap 𝓤) (A : Atoms 𝓤) (at-mem : Memory → SProp 𝓤) (run : Routine → Fun 𝓤) → Contract 𝓤
-Bare 𝓤 H A at-mem run = tripleOf 𝓤 H A bare.signature (bare.spec 𝓤 H A at-mem run)
+abbrev WithoutTable : {M : Type 1} (𝓤 : URA M) (H : Heap 𝓤) (A : Atoms 𝓤) (at-mem : Memory → SProp 𝓤) (run : Routine → Fun 𝓤) → Contract 𝓤
+WithoutTable 𝓤 H A at-mem run = tripleOf 𝓤 H A without-table.signature (without-table.spec 𝓤 H A at-mem run)
 
 -- the machine values of an offset and of a direction
 abbrev offset-val : PdiOffset → Val
@@ -155,17 +155,17 @@ module _ {M : Type 1} (𝓤 : URA M) (H : Heap 𝓤) (A : Atoms 𝓤) (W : Given
   Counts ws r = countedOf r ≡ meaning.count d z (x .now) ws (h .«start_address»)
 
   -- the call of counting without a table
-  abbrev to-bare : Bare 𝓤 H A at-mem run .Ghost
-  to-bare = (((κ₀, tt), (q₀, tt), tt, (x, (h, (d, (z, tt)))), (v ∷ [], (offset-val h ∷ [], (direction-val d ∷ [], (vint w32 z ∷ [], tt))))), tt)
+  abbrev to-without-table : WithoutTable 𝓤 H A at-mem run .Ghost
+  to-without-table = (((κ₀, tt), (q₀, tt), tt, (x, (h, (d, (z, tt)))), (v ∷ [], (offset-val h ∷ [], (direction-val d ∷ [], (vint w32 z ∷ [], tt))))), tt)
 
-  goes-bare : ent 𝓤 (⋆ 𝓤 H A (‵ (flft κ₀ q₀) ∷ ‵ X ∷ [])) (Bare 𝓤 H A at-mem run .pre to-bare)
-  goes-bare =
+  goes-without-table : ent 𝓤 (⋆ 𝓤 H A (‵ (flft κ₀ q₀) ∷ ‵ X ∷ [])) (WithoutTable 𝓤 H A at-mem run .pre to-without-table)
+  goes-without-table =
       qed W (‵ (flft κ₀ q₀) ∷ ‵ X ∷ []) ∵ nothing ! $ owned ! u32 (Is u32) (uint-makes 𝓤 H A W w32) z _ (refl, z-fits) $ fjoin ! $
       owned ! D.the-row (Is D.the-row) (EL.makes D.the-type D′.the-plain 𝓤 H A) d _ d-is $ fjoin ! $ owned ! P.the-row (Is P.the-row) (LL.makes P.the-type P′.the-plain 𝓤 H A) h _ h-is $ fjoin ! $
       move ! (2 ∷ 0 ∷ []) $ fjoin ! $ nothing ! $ move ! (2 ∷ 0 ∷ []) $ join ! $ move ! (0 ∷ 1 ∷ []) $ join ! $ frame ! $ done !
 
-  said-bare : (r : Counted) → ent 𝓤 (ensured 𝓤 H A bare.ended (bare.clauses 𝓤 H A at-mem run) (κ₀, tt) (x, (h, (d, (z, tt)))) tt r) (fact 𝓤 (Counts (multipliersOf [] pdos) r))
-  said-bare r = exE 𝓤 _ (λ ls. snd∗ 𝓤 (sem 𝓤 H A (lasts bare.ended (κ₀, tt) (x, (h, (d, (z, tt)))) ls)) (fact 𝓤 (Counts (multipliersOf [] pdos) r)))
+  said-without-table : (r : Counted) → ent 𝓤 (ensured 𝓤 H A without-table.ended (without-table.clauses 𝓤 H A at-mem run) (κ₀, tt) (x, (h, (d, (z, tt)))) tt r) (fact 𝓤 (Counts (multipliersOf [] pdos) r))
+  said-without-table r = exE 𝓤 _ (λ ls. snd∗ 𝓤 (sem 𝓤 H A (lasts without-table.ended (κ₀, tt) (x, (h, (d, (z, tt)))) ls)) (fact 𝓤 (Counts (multipliersOf [] pdos) r)))
 
   -- the call of counting by value, with the array ws at l lent for μ under δ
   abbrev over-count : ℕ → Lft × (Lft × Unit {0})
@@ -201,7 +201,7 @@ module _ {M : Type 1} (𝓤 : URA M) (H : Heap 𝓤) (A : Atoms 𝓤) (W : Given
       move ! (2 ∷ 0 ∷ []) $ fjoin ! $ move ! (0 ∷ 1 ∷ []) $ done !
 
   module _ (C : Calls 𝓤 H) (Λ : Loops 𝓤 H) (fm : FmC 𝓤 H (W .laws) C) (known-fill : Triple 𝓤 (C #multipliers-for) (MultipliersFor 𝓤 H A W at-mem run κ₀ κ₁ q₀ q₁ x t))
-      (known-bare : Triple 𝓤 (C #bare) (Bare 𝓤 H A at-mem run)) (known-count : Triple 𝓤 (C #by-value) (ByValue 𝓤 H A at-mem run)) where
+      (known-without-table : Triple 𝓤 (C #without-table) (WithoutTable 𝓤 H A at-mem run)) (known-count : Triple 𝓤 (C #by-value) (ByValue 𝓤 H A at-mem run)) where
     walk : Is (ShrSlice (named 0) κ₀ u8) x (v ∷ []) → Is (ShrSlice (named 1) κ₁ O.the-row) t (u ∷ [])
         → ent 𝓤 (onEntry 𝓤 H A it.signature (κ₀, (κ₁, tt)) (q₀, (q₁, tt)) a vals) (WpFn 𝓤 H C Λ code.function machine Post)
     walk px pt =
@@ -216,12 +216,12 @@ module _ {M : Type 1} (𝓤 : URA M) (H : Heap 𝓤) (A : Atoms 𝓤) (W : Given
         -- whether the table has a record
         assigns ! (of-opd ! (load ! (from ! (fld ! refl (stop !))) (look-in ! 26 (sub ! 1 refl (whole !))))) (from ! (stop !)) (init ! 16 refl (tt, record { fits = pt .0 .1 .0 })) $
         assigns ! (bin ! (load ! (from ! (stop !)) (look ! 16 refl)) (lit ! tt) tt) (from ! (stop !)) (init ! 14 refl (tt, tt)) $ checks ! (load ! (from ! (stop !)) (look ! 14 refl))
-        -- it has none: `bare`
+        -- it has none: `without_table`
         (λ none. move ! (5 ∷ []) $ use1 W (‵ X ⊛ ‵ X) (shr-slice-copy 𝓤 H A W (named 0) κ₀ u8 .twice x (v ∷ [])) $ split ! $ move ! (4 ∷ 0 ∷ []) $ join ! $
-        use1 W (raw (Bare 𝓤 H A at-mem run .pre to-bare)) goes-bare $
-        calls-at ! fm (Bare 𝓤 H A at-mem run) known-bare to-bare (and-then ! (load ! (from ! (stop !)) (look ! 28 refl)) (and-then ! (load ! (from ! (stop !)) (look ! 24 refl)) (and-then ! (load !
+        use1 W (raw (WithoutTable 𝓤 H A at-mem run .pre to-without-table)) goes-without-table $
+        calls-at ! fm (WithoutTable 𝓤 H A at-mem run) known-without-table to-without-table (and-then ! (load ! (from ! (stop !)) (look ! 28 refl)) (and-then ! (load ! (from ! (stop !)) (look ! 24 refl)) (and-then ! (load !
         (from ! (stop !)) (look ! 22 refl)) (and-then ! (load ! (from ! (stop !)) (look ! 20 refl)) (no-more !))))) (λ c.
-        use1 W (later (some (λ (r : Counted). ((‵ (flft κ₀ q₀) ⊛ ‵ ftrue) ⊛ ‵ (S.the-row .own r (c ∷ []))) ⊛ raw (ensured 𝓤 H A bare.ended (bare.clauses 𝓤 H A at-mem run) (κ₀, tt) (
+        use1 W (later (some (λ (r : Counted). ((‵ (flft κ₀ q₀) ⊛ ‵ ftrue) ⊛ ‵ (S.the-row .own r (c ∷ []))) ⊛ raw (ensured 𝓤 H A without-table.ended (without-table.clauses 𝓤 H A at-mem run) (κ₀, tt) (
           x,
           (
             h,
@@ -231,7 +231,7 @@ module _ {M : Type 1} (𝓤 : URA M) (H : Heap 𝓤) (A : Atoms 𝓤) (W : Given
             ),
           ),
         ) tt r)))) (id⊢ 𝓤 _) $ await ! tt $
-        pick ! (λ r. split ! $ move ! (1 ∷ []) $ use1 W (raw (fact 𝓤 (Counts (multipliersOf [] pdos) r))) (said-bare r) $ heard ! (Counts (multipliersOf [] pdos) r) (λ counted. split ! $
+        pick ! (λ r. split ! $ move ! (1 ∷ []) $ use1 W (raw (fact 𝓤 (Counts (multipliersOf [] pdos) r))) (said-without-table r) $ heard ! (Counts (multipliersOf [] pdos) r) (λ counted. split ! $
         move ! (1 ∷ []) $ peeks ! S.the-row (Is S.the-row) (shows 𝓤 H A S.the-row) r (c ∷ []) (λ is.
         land ! (from ! (stop !)) (init ! 31 refl (EL.lawful S.the-type S′.the-laws 𝓤 H A W tt .typed r _ is .0)) $ move ! (1 ∷ []) $ split ! $ returns-within ! Post refl (look ! 32 refl) $
         forget ! 16 refl $ forget ! 18 refl $ forget ! 22 refl $ forget ! 24 refl $ forget ! 26 refl $ forget ! 28 refl $ forget ! 30 refl $ forget ! 32 refl $ move ! (32 ∷ 33 ∷ []) $ free1 ! $
@@ -297,13 +297,13 @@ module _ {M : Type 1} (𝓤 : URA M) (H : Heap 𝓤) (A : Atoms 𝓤) (W : Given
 
 module _ {M : Type 1} (𝓤 : URA M) (H : Heap 𝓤) (A : Atoms 𝓤) (W : Given 𝓤 H A) (at-mem : Memory → SProp 𝓤) (run : Routine → Fun 𝓤) (𝓣 : Tables 𝓤 H)
     (known-fill : Triple 𝓤 (𝓣 .C #multipliers-for) (tripleOf 𝓤 H A multipliers-for.signature (multipliers-for.spec 𝓤 H A at-mem run)))
-    (known-bare : Triple 𝓤 (𝓣 .C #bare) (Bare 𝓤 H A at-mem run)) (known-count : Triple 𝓤 (𝓣 .C #by-value) (ByValue 𝓤 H A at-mem run)) where
+    (known-without-table : Triple 𝓤 (𝓣 .C #without-table) (WithoutTable 𝓤 H A at-mem run)) (known-count : Triple 𝓤 (𝓣 .C #by-value) (ByValue 𝓤 H A at-mem run)) where
   it-walks : Walks 𝓤 H A it.ended stayed (WpFn 𝓤 H (𝓣 .C) (𝓣 .Λ) code.function) (it.clauses 𝓤 H A at-mem run)
   it-walks = walked 𝓤 H A it.ended stayed (it.clauses 𝓤 H A at-mem run) (WpFn 𝓤 H (𝓣 .C) (𝓣 .Λ) code.function)
       (λ κs. (slice-vals, (slice-vals, (LL.vals P.the-type P′.the-laws, (EL.vals D.the-type D′.the-laws, (uint-vals w32, tt))))))
       (λ κs. (shr-slice-tells (named 0) (κs .0) u8, (shr-slice-tells (named 1) (κs .1 .0) O.the-row, (LL.tells P.the-type P′.the-laws, (EL.tells D.the-type D′.the-laws, (uint-tells w32, tt))))))
       (λ κs qs bounds a g are. via 𝓤 _ (fst∗ 𝓤 _ (emp 𝓤)) (walk 𝓤 H A W at-mem run (κs .0) (κs .1 .0) (qs .0) (qs .1 .0) (a .0) (a .1 .0) (a .1 .1 .0) (a .1 .1 .1 .0) (a .1 .1 .1 .1 .0)
-      (are .1 .1 .0) (are .1 .1 .1 .0) (are .1 .1 .1 .1 .0 .1) (𝓣 .C) (𝓣 .Λ) (fmOf 𝓤 H (W .laws) 𝓣) known-fill known-bare known-count (are .0) (are .1 .0)))
+      (are .1 .1 .0) (are .1 .1 .1 .0) (are .1 .1 .1 .1 .0 .1) (𝓣 .C) (𝓣 .Λ) (fmOf 𝓤 H (W .laws) 𝓣) known-fill known-without-table known-count (are .0) (are .1 .0)))
 
   it-meets : Meets 𝓤 H A it.signature (WpFn 𝓤 H (𝓣 .C) (𝓣 .Λ) code.function) (it.spec 𝓤 H A at-mem run)
   it-meets = walk-meets 𝓤 H A it.ended stayed W (
@@ -323,5 +323,5 @@ count-spec 𝓤 H 𝓜 𝓖 𝓡 =
     (it-meets 𝓤 H (𝓖 .A) (givenOf 𝓤 H 𝓜 𝓖) (𝓜 .mem) (𝓡 .run) (tablesOf 𝓤 H 𝓜 (tables 𝓤 H 𝓜 𝓡 code.env))
     (cited 𝓤 H (tripleOf 𝓤 H (𝓖 .A) multipliers-for.signature (multipliers-for.spec 𝓤 H (𝓖 .A) (𝓜 .mem)
     (𝓡 .run))) 𝓜 𝓡 code.env #multipliers-for multipliers-for-def.routine code.calls-oversampling·multipliers-for (multipliers-for-thm.met 𝓤 H 𝓜 𝓖 𝓡))
-    (cited 𝓤 H (Bare 𝓤 H (𝓖 .A) (𝓜 .mem) (𝓡 .run)) 𝓜 𝓡 code.env #bare bare-def.routine code.calls-lent·counted·bare (bare-thm.met 𝓤 H 𝓜 𝓖 𝓡))
+    (cited 𝓤 H (WithoutTable 𝓤 H (𝓖 .A) (𝓜 .mem) (𝓡 .run)) 𝓜 𝓡 code.env #without-table without-table-def.routine code.calls-lent·counted·without-table (without-table-thm.met 𝓤 H 𝓜 𝓖 𝓡))
     (cited 𝓤 H (ByValue 𝓤 H (𝓖 .A) (𝓜 .mem) (𝓡 .run)) 𝓜 𝓡 code.env #by-value by-value-def.routine code.calls-counting·count (by-value-thm.met 𝓤 H 𝓜 𝓖 𝓡)))

@@ -68,14 +68,14 @@ use Rattle.passes.proofs.Place.Laws as P′
 use Rattle.lent.specs.declared.data_pass.Done.{Done}
 use Rattle.lent.proofs.data_pass.Done as S
 use Rattle.lent.proofs.data_pass.Done.Laws as S′
-use Rattle.lent.proofs.data_pass.bare as bare
-use Rattle.lent.proofs.data_pass.bare.Symbol as bare-def
-use Rattle.lent.proofs.data_pass.bare.Symbol.{name as #bare}
-use Rattle.lent.proofs.data_pass.bare.Met as bare-thm
-use Rattle.lent.proofs.data_pass.sampled as sampled
-use Rattle.lent.proofs.data_pass.sampled.Symbol as sampled-def
-use Rattle.lent.proofs.data_pass.sampled.Symbol.{name as #sampled}
-use Rattle.lent.proofs.data_pass.sampled.Met as sampled-thm
+use Rattle.lent.proofs.data_pass.without_table as without-table
+use Rattle.lent.proofs.data_pass.without_table.Symbol as without-table-def
+use Rattle.lent.proofs.data_pass.without_table.Symbol.{name as #without-table}
+use Rattle.lent.proofs.data_pass.without_table.Met as without-table-thm
+use Rattle.lent.proofs.data_pass.with_table as with-table
+use Rattle.lent.proofs.data_pass.with_table.Symbol as with-table-def
+use Rattle.lent.proofs.data_pass.with_table.Symbol.{name as #with-table}
+use Rattle.lent.proofs.data_pass.with_table.Met as with-table-thm
 use Rattle.lent.proofs.Branch.{lands-before}
 use Rattle.lent.proofs.Filling.{no-record}
 use Rattle.lent.proofs.data_pass.configure_fmmus.Key.{name as #lent·configure-fmmus}
@@ -116,11 +116,11 @@ stayed = (
 )
 
 -- the contracts of the two passes by value
-abbrev Bare : {M : Type 1} (𝓤 : URA M) (H : Heap 𝓤) (A : Atoms 𝓤) (at-mem : Memory → SProp 𝓤) (run : Routine → Fun 𝓤) → Contract 𝓤
-Bare 𝓤 H A at-mem run = tripleOf 𝓤 H A bare.signature (bare.spec 𝓤 H A at-mem run)
+abbrev WithoutTable : {M : Type 1} (𝓤 : URA M) (H : Heap 𝓤) (A : Atoms 𝓤) (at-mem : Memory → SProp 𝓤) (run : Routine → Fun 𝓤) → Contract 𝓤
+WithoutTable 𝓤 H A at-mem run = tripleOf 𝓤 H A without-table.signature (without-table.spec 𝓤 H A at-mem run)
 
-abbrev Sampled : {M : Type 1} (𝓤 : URA M) (H : Heap 𝓤) (A : Atoms 𝓤) (at-mem : Memory → SProp 𝓤) (run : Routine → Fun 𝓤) → Contract 𝓤
-Sampled 𝓤 H A at-mem run = tripleOf 𝓤 H A sampled.signature (sampled.spec 𝓤 H A at-mem run)
+abbrev WithTable : {M : Type 1} (𝓤 : URA M) (H : Heap 𝓤) (A : Atoms 𝓤) (at-mem : Memory → SProp 𝓤) (run : Routine → Fun 𝓤) → Contract 𝓤
+WithTable 𝓤 H A at-mem run = tripleOf 𝓤 H A with-table.signature (with-table.spec 𝓤 H A at-mem run)
 
 -- the types of the locals
 abbrev sheet-ty : Ty
@@ -211,41 +211,41 @@ module _ {M : Type 1} (𝓤 : URA M) (H : Heap 𝓤) (A : Atoms 𝓤) (W : Given
   abbrev Z : Fml
   Z = MutSlice (named 3) κ₃ u8 .own z (w ∷ [])
 
-  -- the call of `bare`
-  abbrev over-bare : Lft × (Lft × (Lft × Unit {0}))
-  over-bare = (κ₀, (κ₂, (κ₃, tt)))
+  -- the call of `without_table`
+  abbrev over-without-table : Lft × (Lft × (Lft × Unit {0}))
+  over-without-table = (κ₀, (κ₂, (κ₃, tt)))
 
-  abbrev given-bare : RefT (List ℕ) × (RefT (List ℕ) × (RefT (List ℕ) × (Place × (PdoDirection × Unit {0}))))
-  given-bare = (x, (y, (z, (at, (d, tt)))))
+  abbrev given-without-table : RefT (List ℕ) × (RefT (List ℕ) × (RefT (List ℕ) × (Place × (PdoDirection × Unit {0}))))
+  given-without-table = (x, (y, (z, (at, (d, tt)))))
 
-  abbrev to-bare : Bare 𝓤 H A at-mem run .Ghost
-  to-bare = ((over-bare, (q₀, (q₂, (q₃, tt))), tt, given-bare, (v ∷ [], (s ∷ [], (w ∷ [], (of-place at ∷ [], (of-direction d ∷ [], tt)))))), tt)
+  abbrev to-without-table : WithoutTable 𝓤 H A at-mem run .Ghost
+  to-without-table = ((over-without-table, (q₀, (q₂, (q₃, tt))), tt, given-without-table, (v ∷ [], (s ∷ [], (w ∷ [], (of-place at ∷ [], (of-direction d ∷ [], tt)))))), tt)
 
-  abbrev has-bare : List (Item 𝓤)
-  has-bare = ‵ (flft κ₀ q₀) ∷ ‵ (flft κ₂ q₂) ∷ ‵ (flft κ₃ q₃) ∷ ‵ X ∷ ‵ Y ∷ ‵ Z ∷ []
+  abbrev has-without-table : List (Item 𝓤)
+  has-without-table = ‵ (flft κ₀ q₀) ∷ ‵ (flft κ₂ q₂) ∷ ‵ (flft κ₃ q₃) ∷ ‵ X ∷ ‵ Y ∷ ‵ Z ∷ []
 
-  goes-bare : Is P.the-row at (of-place at ∷ []) → ent 𝓤 (⋆ 𝓤 H A has-bare) (Bare 𝓤 H A at-mem run .pre to-bare)
-  goes-bare at-is =
-      qed W has-bare ∵ nothing ! $ owned ! D.the-row (Is D.the-row) (EL.makes D.the-type D′.the-plain 𝓤 H A) d _ d-is $ fjoin ! $
+  goes-without-table : Is P.the-row at (of-place at ∷ []) → ent 𝓤 (⋆ 𝓤 H A has-without-table) (WithoutTable 𝓤 H A at-mem run .pre to-without-table)
+  goes-without-table at-is =
+      qed W has-without-table ∵ nothing ! $ owned ! D.the-row (Is D.the-row) (EL.makes D.the-type D′.the-plain 𝓤 H A) d _ d-is $ fjoin ! $
       owned ! P.the-row (Is P.the-row) (LL.makes P.the-type P′.the-plain 𝓤 H A) at _ at-is $ fjoin ! $ move ! (6 ∷ 0 ∷ []) $ fjoin ! $ move ! (5 ∷ 0 ∷ []) $ fjoin ! $ move ! (4 ∷ 0 ∷ []) $
       fjoin ! $ nothing ! $ move ! (4 ∷ 0 ∷ []) $ join ! $ move ! (3 ∷ 0 ∷ []) $ join ! $ move ! (2 ∷ 0 ∷ []) $ join ! $ move ! (0 ∷ 1 ∷ []) $ join ! $ frame ! $ done !
 
-  -- the call of `sampled`
-  abbrev over-sampled : Lft × (Lft × (Lft × (Lft × Unit {0})))
-  over-sampled = (κ₀, (κ₁, (κ₂, (κ₃, tt))))
+  -- the call of `with_table`
+  abbrev over-with-table : Lft × (Lft × (Lft × (Lft × Unit {0})))
+  over-with-table = (κ₀, (κ₁, (κ₂, (κ₃, tt))))
 
-  abbrev given-sampled : RefT (List ℕ) × (RefT (List Oversampling) × (RefT (List ℕ) × (RefT (List ℕ) × (Place × (PdoDirection × Unit {0})))))
-  given-sampled = (x, (t, (y, (z, (at, (d, tt))))))
+  abbrev given-with-table : RefT (List ℕ) × (RefT (List Oversampling) × (RefT (List ℕ) × (RefT (List ℕ) × (Place × (PdoDirection × Unit {0})))))
+  given-with-table = (x, (t, (y, (z, (at, (d, tt))))))
 
-  abbrev to-sampled : Sampled 𝓤 H A at-mem run .Ghost
-  to-sampled = ((over-sampled, (q₀, (q₁, (q₂, (q₃, tt)))), tt, given-sampled, (v ∷ [], (u ∷ [], (s ∷ [], (w ∷ [], (of-place at ∷ [], (of-direction d ∷ [], tt))))))), tt)
+  abbrev to-with-table : WithTable 𝓤 H A at-mem run .Ghost
+  to-with-table = ((over-with-table, (q₀, (q₁, (q₂, (q₃, tt)))), tt, given-with-table, (v ∷ [], (u ∷ [], (s ∷ [], (w ∷ [], (of-place at ∷ [], (of-direction d ∷ [], tt))))))), tt)
 
-  abbrev has-sampled : List (Item 𝓤)
-  has-sampled = ‵ (flft κ₀ q₀) ∷ ‵ (flft κ₁ q₁) ∷ ‵ (flft κ₂ q₂) ∷ ‵ (flft κ₃ q₃) ∷ ‵ X ∷ ‵ TT ∷ ‵ Y ∷ ‵ Z ∷ []
+  abbrev has-with-table : List (Item 𝓤)
+  has-with-table = ‵ (flft κ₀ q₀) ∷ ‵ (flft κ₁ q₁) ∷ ‵ (flft κ₂ q₂) ∷ ‵ (flft κ₃ q₃) ∷ ‵ X ∷ ‵ TT ∷ ‵ Y ∷ ‵ Z ∷ []
 
-  goes-sampled : Is P.the-row at (of-place at ∷ []) → ent 𝓤 (⋆ 𝓤 H A has-sampled) (Sampled 𝓤 H A at-mem run .pre to-sampled)
-  goes-sampled at-is =
-      qed W has-sampled ∵ nothing ! $ owned ! D.the-row (Is D.the-row) (EL.makes D.the-type D′.the-plain 𝓤 H A) d _ d-is $ fjoin ! $
+  goes-with-table : Is P.the-row at (of-place at ∷ []) → ent 𝓤 (⋆ 𝓤 H A has-with-table) (WithTable 𝓤 H A at-mem run .pre to-with-table)
+  goes-with-table at-is =
+      qed W has-with-table ∵ nothing ! $ owned ! D.the-row (Is D.the-row) (EL.makes D.the-type D′.the-plain 𝓤 H A) d _ d-is $ fjoin ! $
       owned ! P.the-row (Is P.the-row) (LL.makes P.the-type P′.the-plain 𝓤 H A) at _ at-is $ fjoin ! $ move ! (8 ∷ 0 ∷ []) $ fjoin ! $ move ! (7 ∷ 0 ∷ []) $ fjoin ! $ move ! (6 ∷ 0 ∷ []) $
       fjoin ! $ move ! (5 ∷ 0 ∷ []) $ fjoin ! $ nothing ! $ move ! (5 ∷ 0 ∷ []) $ join ! $ move ! (4 ∷ 0 ∷ []) $ join ! $ move ! (3 ∷ 0 ∷ []) $ join ! $ move ! (2 ∷ 0 ∷ []) $ join ! $
       move ! (0 ∷ 1 ∷ []) $ join ! $ frame ! $ done !
@@ -324,11 +324,11 @@ module _ {M : Type 1} (𝓤 : URA M) (H : Heap 𝓤) (A : Atoms 𝓤) (W : Given
         ∷ (P′.mir, l₈, of-place at) ∷ (tyBool, l₁₂, vbool (eqb (length (t .now)) 0)) ∷ []) ++ rooms 𝓤 H ((Q′.mir, l₀) ∷ (tyInt w32, l₆) ∷ (S′.mir, l₉) ∷ (T′.mir, l₁₀) ∷ (tyInt w64, l₁₁)
         ∷ (S′.mir, l₁₃) ∷ E₃)))
 
-    branched : FmC 𝓤 H (W .laws) C → Triple 𝓤 (C #bare) (Bare 𝓤 H A at-mem run) → Triple 𝓤 (C #sampled) (Sampled 𝓤 H A at-mem run) → Room u8 (length (y .now)) → Room u8 (length (z .now))
+    branched : FmC 𝓤 H (W .laws) C → Triple 𝓤 (C #without-table) (WithoutTable 𝓤 H A at-mem run) → Triple 𝓤 (C #with-table) (WithTable 𝓤 H A at-mem run) → Room u8 (length (y .now)) → Room u8 (length (z .now))
         → Is P.the-row at (of-place at ∷ []) → Sq W Before (runs C Λ En mir.t-5 (atRet En Post))
-    branched fm known-bare known-sampled room-y room-z at-is =
+    branched fm known-without-table known-with-table room-y room-z at-is =
         first ! $ branches ! (load ! (from ! (stop !)) (look ! 26 refl))
-        -- the table has no record: `bare`
+        -- the table has no record: `without_table`
         (λ none. assigns ! (addr ! (from ! (fld ! refl (hop ! (look-in ! 16 (sub ! 0 refl (whole !))) (stop !))))) (from ! (stop !)) (init ! 40 refl (tt, tt)) $
         assigns ! (agg ! (and-then ! (load ! (from ! (stop !)) (look ! 40 refl)) (and-then ! (load ! (from ! (fld ! refl (stop !))) (look-in ! 16 (sub ! 1 refl (whole !)))) (no-more !)))) (from !
         (stop !)) (init ! 42 refl (tt, (tt, (record { fits = room-y .0 }, tt)))) $
@@ -336,13 +336,13 @@ module _ {M : Type 1} (𝓤 : URA M) (H : Heap 𝓤) (A : Atoms 𝓤) (W : Given
         assigns ! (agg ! (and-then ! (load ! (from ! (stop !)) (look ! 44 refl)) (and-then ! (load ! (from ! (fld ! refl (stop !))) (look-in ! 18 (sub ! 1 refl (whole !)))) (no-more !)))) (from !
         (stop !)) (init ! 46 refl (tt, (tt, (record { fits = room-z .0 }, tt)))) $
         move ! (11 ∷ []) $ use1 W (‵ X ⊛ ‵ X) (shr-slice-copy 𝓤 H A W (named 0) κ₀ u8 .twice x (v ∷ [])) $ split ! $ move ! (11 ∷ 10 ∷ []) $ join ! $ move ! (1 ∷ 0 ∷ []) $ join ! $
-        move ! (6 ∷ 0 ∷ []) $ join ! $ move ! (6 ∷ 0 ∷ []) $ join ! $ move ! (7 ∷ 0 ∷ []) $ join ! $ use1 W (raw (Bare 𝓤 H A at-mem run .pre to-bare)) (goes-bare at-is) $
-        calls-at-last ! fm (Bare 𝓤 H A at-mem run) known-bare to-bare (and-then ! (load ! (from ! (stop !)) (look ! 8 refl)) (and-then ! (load ! (from ! (stop !)) (look ! 38 refl)) (and-then !
+        move ! (6 ∷ 0 ∷ []) $ join ! $ move ! (6 ∷ 0 ∷ []) $ join ! $ move ! (7 ∷ 0 ∷ []) $ join ! $ use1 W (raw (WithoutTable 𝓤 H A at-mem run .pre to-without-table)) (goes-without-table at-is) $
+        calls-at-last ! fm (WithoutTable 𝓤 H A at-mem run) known-without-table to-without-table (and-then ! (load ! (from ! (stop !)) (look ! 8 refl)) (and-then ! (load ! (from ! (stop !)) (look ! 38 refl)) (and-then !
         (load ! (from ! (stop !)) (look ! 42 refl)) (and-then ! (load ! (from ! (stop !)) (look ! 20 refl)) (and-then ! (load ! (from ! (stop !)) (look ! 18 refl)) (no-more !)))))) (λ c.
-        use1 W (later (some (λ (r : Done). ((‵ (flft κ₀ q₀) ⊛ ‵ (flft κ₂ q₂) ⊛ ‵ (flft κ₃ q₃) ⊛ ‵ ftrue) ⊛ ‵ (S.the-row .own r (c ∷ []))) ⊛ raw (ensured 𝓤 H A bare.ended
-        (bare.clauses 𝓤 H A at-mem run) over-bare given-bare tt r)))) (id⊢ 𝓤 _) $ await ! tt $
+        use1 W (later (some (λ (r : Done). ((‵ (flft κ₀ q₀) ⊛ ‵ (flft κ₂ q₂) ⊛ ‵ (flft κ₃ q₃) ⊛ ‵ ftrue) ⊛ ‵ (S.the-row .own r (c ∷ []))) ⊛ raw (ensured 𝓤 H A without-table.ended
+        (without-table.clauses 𝓤 H A at-mem run) over-without-table given-without-table tt r)))) (id⊢ 𝓤 _) $ await ! tt $
         pick ! (λ r. split ! $ move ! (1 ∷ []) $
-        use1 W (some (λ (zs : Unit {0} × (List ℕ × (List ℕ × (Unit {0} × (Unit {0} × Unit {0}))))). ‵ (lasts bare.ended over-bare given-bare zs) ⊛ raw (fact 𝓤 (Said (multipliersOf [] pdos) r
+        use1 W (some (λ (zs : Unit {0} × (List ℕ × (List ℕ × (Unit {0} × (Unit {0} × Unit {0}))))). ‵ (lasts without-table.ended over-without-table given-without-table zs) ⊛ raw (fact 𝓤 (Said (multipliersOf [] pdos) r
         (zs .1 .0) (zs .1 .1 .0))))) (id⊢ 𝓤 _) $
         pick ! (λ zs. split ! $ move ! (1 ∷ []) $ heard ! (Said (multipliersOf [] pdos) r (zs .1 .0) (zs .1 .1 .0)) (λ said. fsplit ! $ drop ! $ fsplit ! $ fsplit ! $ move ! (1 ∷ []) $ feqL ! (λ lf.
         move ! (1 ∷ []) $ fsplit ! $ fsplit ! $ move ! (1 ∷ []) $ feqL ! (λ lc. move ! (3 ∷ []) $ split ! $ move ! (1 ∷ []) $
@@ -354,7 +354,7 @@ module _ {M : Type 1} (𝓤 : URA M) (H : Heap 𝓤) (A : Atoms 𝓤) (W : Given
         28 ∷ 29 ∷ 42 ∷ 43 ∷ 44 ∷ 45 ∷ 46 ∷ 47 ∷ 48 ∷ 49 ∷ 50 ∷ 51 ∷ 52 ∷ 53 ∷ 54 ∷ 55 ∷ 56 ∷ 57 ∷ []) $
         ends r (zs .1 .0) (zs .1 .1 .0) (subst (λ (ts : List Oversampling). Said (multipliersOf ts pdos) r (zs .1 .0) (zs .1 .1 .0)) (no-record (t .now) none) said) lf lc (subst (Is S.the-row r)
         (LL.tells S.the-type S′.the-laws r _ is) is)))))))))
-        -- it has some: `sampled`
+        -- it has some: `with_table`
         (λ _. assigns ! (addr ! (from ! (fld ! refl (hop ! (look-in ! 16 (sub ! 0 refl (whole !))) (stop !))))) (from ! (stop !)) (init ! 48 refl (tt, tt)) $
         assigns ! (agg ! (and-then ! (load ! (from ! (stop !)) (look ! 48 refl)) (and-then ! (load ! (from ! (fld ! refl (stop !))) (look-in ! 16 (sub ! 1 refl (whole !)))) (no-more !)))) (from !
         (stop !)) (init ! 50 refl (tt, (tt, (record { fits = room-y .0 }, tt)))) $
@@ -364,14 +364,14 @@ module _ {M : Type 1} (𝓤 : URA M) (H : Heap 𝓤) (A : Atoms 𝓤) (W : Given
         move ! (11 ∷ []) $ use1 W (‵ X ⊛ ‵ X) (shr-slice-copy 𝓤 H A W (named 0) κ₀ u8 .twice x (v ∷ [])) $ split ! $ move ! (12 ∷ []) $
         use1 W (‵ TT ⊛ ‵ TT) (shr-slice-copy 𝓤 H A W (named 1) κ₁ O.the-row .twice t (u ∷ [])) $ split ! $ move ! (13 ∷ 12 ∷ []) $ join ! $ move ! (1 ∷ 0 ∷ []) $ join ! $ move ! (2 ∷ 0 ∷ []) $
         join ! $ move ! (7 ∷ 0 ∷ []) $ join ! $ move ! (7 ∷ 0 ∷ []) $ join ! $ move ! (7 ∷ 0 ∷ []) $ join ! $ move ! (7 ∷ 0 ∷ []) $ join ! $
-        use1 W (raw (Sampled 𝓤 H A at-mem run .pre to-sampled)) (goes-sampled at-is) $
-        calls-at-last ! fm (Sampled 𝓤 H A at-mem run) known-sampled to-sampled (and-then ! (load ! (from ! (stop !)) (look ! 7 refl)) (and-then ! (load ! (from ! (stop !)) (look ! 9 refl))
+        use1 W (raw (WithTable 𝓤 H A at-mem run .pre to-with-table)) (goes-with-table at-is) $
+        calls-at-last ! fm (WithTable 𝓤 H A at-mem run) known-with-table to-with-table (and-then ! (load ! (from ! (stop !)) (look ! 7 refl)) (and-then ! (load ! (from ! (stop !)) (look ! 9 refl))
         (and-then ! (load ! (from ! (stop !)) (look ! 45 refl)) (and-then ! (load ! (from ! (stop !)) (look ! 49 refl)) (and-then ! (load ! (from ! (stop !)) (look ! 19 refl)) (and-then ! (load !
         (from ! (stop !)) (look ! 17 refl)) (no-more !))))))) (λ c.
-        use1 W (later (some (λ (r : Done). ((‵ (flft κ₀ q₀) ⊛ ‵ (flft κ₁ q₁) ⊛ ‵ (flft κ₂ q₂) ⊛ ‵ (flft κ₃ q₃) ⊛ ‵ ftrue) ⊛ ‵ (S.the-row .own r (c ∷ []))) ⊛ raw (ensured 𝓤 H A sampled.ended
-        (sampled.clauses 𝓤 H A at-mem run) over-sampled given-sampled tt r)))) (id⊢ 𝓤 _) $ await ! tt $
+        use1 W (later (some (λ (r : Done). ((‵ (flft κ₀ q₀) ⊛ ‵ (flft κ₁ q₁) ⊛ ‵ (flft κ₂ q₂) ⊛ ‵ (flft κ₃ q₃) ⊛ ‵ ftrue) ⊛ ‵ (S.the-row .own r (c ∷ []))) ⊛ raw (ensured 𝓤 H A with-table.ended
+        (with-table.clauses 𝓤 H A at-mem run) over-with-table given-with-table tt r)))) (id⊢ 𝓤 _) $ await ! tt $
         pick ! (λ r. split ! $ move ! (1 ∷ []) $
-        use1 W (some (λ (zs : Unit {0} × (Unit {0} × (List ℕ × (List ℕ × (Unit {0} × (Unit {0} × Unit {0})))))). ‵ (lasts sampled.ended over-sampled given-sampled zs) ⊛ raw (fact 𝓤 (Said
+        use1 W (some (λ (zs : Unit {0} × (Unit {0} × (List ℕ × (List ℕ × (Unit {0} × (Unit {0} × Unit {0})))))). ‵ (lasts with-table.ended over-with-table given-with-table zs) ⊛ raw (fact 𝓤 (Said
         (multipliersOf (t .now) pdos) r (zs .1 .1 .0) (zs .1 .1 .1 .0))))) (id⊢ 𝓤 _) $
         pick ! (λ zs. split ! $ move ! (1 ∷ []) $ heard ! (Said (multipliersOf (t .now) pdos) r (zs .1 .1 .0) (zs .1 .1 .1 .0)) (λ said. fsplit ! $ drop ! $ fsplit ! $ drop ! $ fsplit ! $ fsplit ! $
         move ! (1 ∷ []) $ feqL ! (λ lf. move ! (1 ∷ []) $ fsplit ! $ fsplit ! $ move ! (1 ∷ []) $ feqL ! (λ lc. move ! (3 ∷ []) $ split ! $ move ! (1 ∷ []) $
@@ -383,8 +383,8 @@ module _ {M : Type 1} (𝓤 : URA M) (H : Heap 𝓤) (A : Atoms 𝓤) (W : Given
         28 ∷ 29 ∷ 42 ∷ 43 ∷ 44 ∷ 45 ∷ 46 ∷ 47 ∷ 48 ∷ 49 ∷ 50 ∷ 51 ∷ 52 ∷ 53 ∷ 54 ∷ 55 ∷ 56 ∷ 57 ∷ []) $
         ends r (zs .1 .1 .0) (zs .1 .1 .1 .0) said lf lc (subst (Is S.the-row r) (LL.tells S.the-type S′.the-laws r _ is) is)))))))))
 
-  module _ (C : Calls 𝓤 H) (Λ : Loops 𝓤 H) (fm : FmC 𝓤 H (W .laws) C) (known-bare : Triple 𝓤 (C #bare) (Bare 𝓤 H A at-mem run)) (known-sampled : Triple 𝓤 (C #sampled)
-      (Sampled 𝓤 H A at-mem run)) where
+  module _ (C : Calls 𝓤 H) (Λ : Loops 𝓤 H) (fm : FmC 𝓤 H (W .laws) C) (known-without-table : Triple 𝓤 (C #without-table) (WithoutTable 𝓤 H A at-mem run)) (known-with-table : Triple 𝓤 (C #with-table)
+      (WithTable 𝓤 H A at-mem run)) where
     walk : Is (ShrSlice (named 0) κ₀ u8) x (v ∷ []) → Is (ShrSlice (named 1) κ₁ O.the-row) t (u ∷ []) → Room u8 (length (y .now)) → Room u8 (length (z .now))
         → ent 𝓤 (onEntry 𝓤 H A it.signature (κ₀, (κ₁, (κ₂, (κ₃, (κ₄, tt))))) (q₀, (q₁, (q₂, (q₃, (q₄, tt))))) a vals) (WpFn 𝓤 H C Λ code.function machine Post)
     walk px pt room-y room-z =
@@ -411,10 +411,10 @@ module _ {M : Type 1} (𝓤 : URA M) (H : Heap 𝓤) (A : Atoms 𝓤) (W : Given
         assigns ! (bin ! (load ! (from ! (stop !)) (look ! 35 refl)) (lit ! tt) tt) (from ! (stop !)) (init ! 33 refl (tt, tt)) $ forget ! 45 refl $ forget ! 37 refl $ forget ! 35 refl $
         keep ! (1 ∷ 2 ∷ 3 ∷ 4 ∷ 6 ∷ 7 ∷ 8 ∷ 9 ∷ 11 ∷ 12 ∷ 13 ∷ 14 ∷ 55 ∷ 56 ∷ 53 ∷ 54 ∷ 51 ∷ 52 ∷ 49 ∷ 50 ∷ 47 ∷ 48 ∷ 43 ∷ 44 ∷ 41 ∷ 42 ∷ 33 ∷ 34 ∷ 57 ∷ 58 ∷ 45 ∷ 46 ∷ 39 ∷ 40 ∷ 37 ∷ 38 ∷ 35 ∷ 36 ∷
         31 ∷ 32 ∷ 29 ∷ 30 ∷ 27 ∷ 28 ∷ 25 ∷ 26 ∷ 23 ∷ 24 ∷ 21 ∷ 22 ∷ 19 ∷ 20 ∷ 17 ∷ 18 ∷ 15 ∷ 16 ∷ []) $
-        branched C Λ l₀ l₁ l₂ l₃ l₄ l₅ l₆ l₇ l₈ l₉ l₁₀ l₁₁ l₁₂ l₁₃ l₁₄ l₁₅ l₁₆ l₁₇ l₁₈ l₁₉ l₂₀ l₂₁ fm known-bare known-sampled room-y room-z (placed g)))))))))))))))))))))))))
+        branched C Λ l₀ l₁ l₂ l₃ l₄ l₅ l₆ l₇ l₈ l₉ l₁₀ l₁₁ l₁₂ l₁₃ l₁₄ l₁₅ l₁₆ l₁₇ l₁₈ l₁₉ l₂₀ l₂₁ fm known-without-table known-with-table room-y room-z (placed g)))))))))))))))))))))))))
 
 module _ {M : Type 1} (𝓤 : URA M) (H : Heap 𝓤) (A : Atoms 𝓤) (W : Given 𝓤 H A) (at-mem : Memory → SProp 𝓤) (run : Routine → Fun 𝓤) (𝓣 : Tables 𝓤 H)
-    (known-bare : Triple 𝓤 (𝓣 .C #bare) (Bare 𝓤 H A at-mem run)) (known-sampled : Triple 𝓤 (𝓣 .C #sampled) (Sampled 𝓤 H A at-mem run)) where
+    (known-without-table : Triple 𝓤 (𝓣 .C #without-table) (WithoutTable 𝓤 H A at-mem run)) (known-with-table : Triple 𝓤 (𝓣 .C #with-table) (WithTable 𝓤 H A at-mem run)) where
   it-walks : Walks 𝓤 H A it.ended stayed (WpFn 𝓤 H (𝓣 .C) (𝓣 .Λ) code.function) (it.clauses 𝓤 H A at-mem run)
   it-walks = walked 𝓤 H A it.ended stayed (it.clauses 𝓤 H A at-mem run) (WpFn 𝓤 H (𝓣 .C) (𝓣 .Λ) code.function)
       (λ κs. (slice-vals, (slice-vals, (slice-vals, (slice-vals, (ptr-vals, (uint-vals w32, (EL.vals D.the-type D′.the-laws, tt))))))))
@@ -436,7 +436,7 @@ module _ {M : Type 1} (𝓤 : URA M) (H : Heap 𝓤) (A : Atoms 𝓤) (W : Given
       (a .1 .1 .0) (a .1 .1 .1 .0)
       (a .1 .1 .1 .1 .0 .ptr .0) (a .1 .1 .1 .1 .0 .ptr .1) (a .1 .1 .1 .1 .0 .name) (a .1 .1 .1 .1 .0 .now) (a .1 .1 .1 .1 .1 .0) (are .1 .1 .1 .1 .1 .0 .1) (a .1 .1 .1 .1 .1 .1 .0)
       (are .1 .1 .1 .1 .1 .1 .0)
-      (𝓣 .C) (𝓣 .Λ) (fmOf 𝓤 H (W .laws) 𝓣) known-bare known-sampled (are .0) (are .1 .0) (are .1 .1 .0 .0 .1) (are .1 .1 .1 .0 .0 .1)))
+      (𝓣 .C) (𝓣 .Λ) (fmOf 𝓤 H (W .laws) 𝓣) known-without-table known-with-table (are .0) (are .1 .0) (are .1 .1 .0 .0 .1) (are .1 .1 .1 .0 .0 .1)))
 
   it-meets : Meets 𝓤 H A it.signature (WpFn 𝓤 H (𝓣 .C) (𝓣 .Λ) code.function) (it.spec 𝓤 H A at-mem run)
   it-meets = walk-meets 𝓤 H A it.ended stayed W (
@@ -460,5 +460,5 @@ configure-fmmus-spec 𝓤 H 𝓜 𝓖 𝓡 =
     entered 𝓤 H (tripleOf 𝓤 H (𝓖 .A) it.signature (it.spec 𝓤 H (𝓖 .A) (𝓜 .mem) (𝓡 .run)))
     (tables 𝓤 H 𝓜 𝓡 code.env .C) (tables 𝓤 H 𝓜 𝓡 code.env .Λ) #lent·configure-fmmus code.function (code.unfolded 𝓤 H 𝓜 𝓡)
     (it-meets 𝓤 H (𝓖 .A) (givenOf 𝓤 H 𝓜 𝓖) (𝓜 .mem) (𝓡 .run) (tablesOf 𝓤 H 𝓜 (tables 𝓤 H 𝓜 𝓡 code.env))
-    (cited 𝓤 H (Bare 𝓤 H (𝓖 .A) (𝓜 .mem) (𝓡 .run)) 𝓜 𝓡 code.env #bare bare-def.routine code.calls-lent·data-pass·bare (bare-thm.met 𝓤 H 𝓜 𝓖 𝓡))
-    (cited 𝓤 H (Sampled 𝓤 H (𝓖 .A) (𝓜 .mem) (𝓡 .run)) 𝓜 𝓡 code.env #sampled sampled-def.routine code.calls-lent·data-pass·sampled (sampled-thm.met 𝓤 H 𝓜 𝓖 𝓡)))
+    (cited 𝓤 H (WithoutTable 𝓤 H (𝓖 .A) (𝓜 .mem) (𝓡 .run)) 𝓜 𝓡 code.env #without-table without-table-def.routine code.calls-lent·data-pass·without-table (without-table-thm.met 𝓤 H 𝓜 𝓖 𝓡))
+    (cited 𝓤 H (WithTable 𝓤 H (𝓖 .A) (𝓜 .mem) (𝓡 .run)) 𝓜 𝓡 code.env #with-table with-table-def.routine code.calls-lent·data-pass·with-table (with-table-thm.met 𝓤 H 𝓜 𝓖 𝓡)))

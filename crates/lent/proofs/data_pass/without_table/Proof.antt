@@ -1,9 +1,9 @@
--- `bare`: a pass that is lent no multiplier.
+-- `without_table`: a pass that is lent no multiplier.
 -- Assumes nothing.
 use borrow.Author.Needs.{needs}
 use Rattle.lent.proofs.Passing.{without-table}
-use Rattle.lent.proofs.data_pass.bare.Statement.{statement}
-use Rattle.lent.proofs.data_pass.bare.Tie as tie
+use Rattle.lent.proofs.data_pass.without_table.Statement.{statement}
+use Rattle.lent.proofs.data_pass.without_table.Tie as tie
 
 slice-aggregate-passed : tie.Need-slice-aggregate-passed
 slice-aggregate-passed c = search needs
@@ -20,5 +20,5 @@ same-length-2 c = search needs
 returns : tie.Need-returns
 returns c = without-table (c .before .before .before .before .passed .ensures)
 
-pub bare-spec : {M : Type 1} → statement M
-bare-spec = tie.close (tie.spec slice-aggregate-passed passed-requires same-length same-length-2 returns)
+pub without-table-spec : {M : Type 1} → statement M
+without-table-spec = tie.close (tie.spec slice-aggregate-passed passed-requires same-length same-length-2 returns)

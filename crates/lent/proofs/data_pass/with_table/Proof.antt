@@ -1,4 +1,4 @@
--- `sampled` meets its contract: a walk of its MIR, by hand. A local array is lent twice, each time for a lifetime of the call: `&mut` to be filled, then shared, as a slice.
+-- `with_table` meets its contract: a walk of its MIR, by hand. A local array is lent twice, each time for a lifetime of the call: `&mut` to be filled, then shared, as a slice.
 -- The areas are lent on; of what the sheet and the table own a copy goes to each call, and one is kept for the exit.
 -- All that the proof knows of the two callees is that each meets its contract. Assumes nothing.
 use mathlib.Core.Path.{_≡_, refl, subst}
@@ -74,10 +74,10 @@ use Rattle.wire.specs.Image.{Bytes}
 use Rattle.lent.proofs.Bytes.{below}
 use Rattle.oversampling.proofs.Local.{cell, lies}
 use Rattle.lent.proofs.Filling.{Ones, array-at, of-array, Filled, fronted, as-slice, elements, lends-array, array-back, MultipliersFor, to-fill, goes-fill, back-fill, said-fill}
-use Rattle.lent.proofs.data_pass.sampled.Key.{name as #sampled}
-use Rattle.lent.proofs.data_pass.sampled as it
-use Rattle.lent.proofs.data_pass.sampled.Statement as stated
-use Rattle.lent.proofs.data_pass.sampled.Code as code
+use Rattle.lent.proofs.data_pass.with_table.Key.{name as #with-table}
+use Rattle.lent.proofs.data_pass.with_table as it
+use Rattle.lent.proofs.data_pass.with_table.Statement as stated
+use Rattle.lent.proofs.data_pass.with_table.Code as code
 
 -- the machine values of a direction and a place
 abbrev of-direction : PdoDirection → Val
@@ -311,11 +311,11 @@ module _ {M : Type 1} (𝓤 : URA M) (H : Heap 𝓤) (A : Atoms 𝓤) (W : Given
   ) (it.clauses 𝓤 H A at-mem run)
       (WpFn 𝓤 H (𝓣 .C) (𝓣 .Λ) code.function) (WpFn-mono 𝓤 H (W .laws) 𝓣 code.function) it-walks
 
-pub sampled-spec : {M : Type 1} → stated.statement M
+pub with-table-spec : {M : Type 1} → stated.statement M
 unfolding code.routine tablesOf
-sampled-spec 𝓤 H 𝓜 𝓖 𝓡 =
+with-table-spec 𝓤 H 𝓜 𝓖 𝓡 =
     entered 𝓤 H (tripleOf 𝓤 H (𝓖 .A) it.signature (it.spec 𝓤 H (𝓖 .A) (𝓜 .mem) (𝓡 .run)))
-    (tables 𝓤 H 𝓜 𝓡 code.env .C) (tables 𝓤 H 𝓜 𝓡 code.env .Λ) #sampled code.function (code.unfolded 𝓤 H 𝓜 𝓡)
+    (tables 𝓤 H 𝓜 𝓡 code.env .C) (tables 𝓤 H 𝓜 𝓡 code.env .Λ) #with-table code.function (code.unfolded 𝓤 H 𝓜 𝓡)
     (it-meets 𝓤 H (𝓖 .A) (givenOf 𝓤 H 𝓜 𝓖) (𝓜 .mem) (𝓡 .run) (tablesOf 𝓤 H 𝓜 (tables 𝓤 H 𝓜 𝓡 code.env))
     (cited 𝓤 H (tripleOf 𝓤 H (𝓖 .A) multipliers-for.signature (multipliers-for.spec 𝓤 H (𝓖 .A) (𝓜 .mem)
     (𝓡 .run))) 𝓜 𝓡 code.env #multipliers-for multipliers-for-def.routine code.calls-oversampling·multipliers-for (multipliers-for-thm.met 𝓤 H 𝓜 𝓖 𝓡))

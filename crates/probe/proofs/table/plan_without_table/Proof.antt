@@ -1,4 +1,4 @@
--- `probe::table::bare` runs: a walk of its MIR, by hand. Two locals are lent to `configure_fmmus`, each for a lifetime that is made for the call: an array of no records, as a slice, and the
+-- `probe::table::plan-without-table` runs: a walk of its MIR, by hand. Two locals are lent to `configure_fmmus`, each for a lifetime that is made for the call: an array of no records, as a slice, and the
 -- offset, by `&mut`. Both come back, the offset at the record that the callee says, which is read.
 -- All that the proof knows of the callee is that it meets its contract.
 -- Assumes nothing.
@@ -69,10 +69,10 @@ use Rattle.lent.proofs.configure_fmmus as fmmus
 use Rattle.lent.proofs.configure_fmmus.Symbol as fmmus-def
 use Rattle.lent.proofs.configure_fmmus.Symbol.{name as #fmmus}
 use Rattle.lent.proofs.configure_fmmus.Met as fmmus-thm
-use Rattle.probe.proofs.table.bare.Key.{name as #bare}
-use Rattle.probe.proofs.table.bare as it
-use Rattle.probe.proofs.table.bare.Statement as stated
-use Rattle.probe.proofs.table.bare.Code as code
+use Rattle.probe.proofs.table.plan_without_table.Key.{name as #plan-without-table}
+use Rattle.probe.proofs.table.plan_without_table as it
+use Rattle.probe.proofs.table.plan_without_table.Statement as stated
+use Rattle.probe.proofs.table.plan_without_table.Code as code
 
 -- the table's type, its records and its machine value
 abbrev Table : RattleType
@@ -262,10 +262,10 @@ module _ {M : Type 1} (𝓤 : URA M) (H : Heap 𝓤) (A : Atoms 𝓤) (W : Given
   ) (it.clauses 𝓤 H A at-mem run)
       (WpFn 𝓤 H (𝓣 .C) (𝓣 .Λ) code.function) (WpFn-mono 𝓤 H (W .laws) 𝓣 code.function) it-walks
 
-pub bare-spec : {M : Type 1} → stated.statement M
+pub plan-without-table-spec : {M : Type 1} → stated.statement M
 unfolding code.routine tablesOf
-bare-spec 𝓤 H 𝓜 𝓖 𝓡 =
+plan-without-table-spec 𝓤 H 𝓜 𝓖 𝓡 =
     entered 𝓤 H (tripleOf 𝓤 H (𝓖 .A) it.signature (it.spec 𝓤 H (𝓖 .A) (𝓜 .mem) (𝓡 .run)))
-    (tables 𝓤 H 𝓜 𝓡 code.env .C) (tables 𝓤 H 𝓜 𝓡 code.env .Λ) #bare code.function (code.unfolded 𝓤 H 𝓜 𝓡)
+    (tables 𝓤 H 𝓜 𝓡 code.env .C) (tables 𝓤 H 𝓜 𝓡 code.env .Λ) #plan-without-table code.function (code.unfolded 𝓤 H 𝓜 𝓡)
     (it-meets 𝓤 H (𝓖 .A) (givenOf 𝓤 H 𝓜 𝓖) (𝓜 .mem) (𝓡 .run) (tablesOf 𝓤 H 𝓜 (tables 𝓤 H 𝓜 𝓡 code.env))
     (cited 𝓤 H (Fmmus 𝓤 H (𝓖 .A) (𝓜 .mem) (𝓡 .run)) 𝓜 𝓡 code.env #fmmus fmmus-def.routine code.calls-lent·configure-fmmus (fmmus-thm.met 𝓤 H 𝓜 𝓖 𝓡)))
