@@ -29,7 +29,7 @@ fn reads(direction: PdoDirection) -> bool
     }
 }
 
-// An enabled entry only has the size added.
+// An enabled entry only has the size added, for which it has room.
 fn grown(before: Fmmu, size: ByteLen) -> Fmmu
     requires { ⌜ before .«length_bytes» .0 + size .0 ≤ 65535 ⌝ }
     ensures { λ r. ⌜ r ≡ Entries.grown before (size .0) ⌝ }
