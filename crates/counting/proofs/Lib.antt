@@ -1,3 +1,4 @@
 -- Laws that belong to no one function.
 pub mod Counting
+pub mod Same
 pub mod Unique

@@ -38,7 +38,7 @@ abbrev pub countRefusals : List ℕ → List ℕ → PdoDirection → ℕ → Li
 countRefusals sheet ws r offset =
     sheetRefusals sheet ++ (wantedRefusals (sheetData sheet) ws r ++ (when 9 (pastEnd (offset + sizeOf (sheetData sheet) ws r)) ∷ []))
 
--- the whole call; `ws` has one multiplier for each PDO, `offset` is the pass's start
+-- the whole call; `ws` has a multiplier for each PDO, as for a pass, `offset` is the pass's start
 unfoldable pub count : PdoDirection → ℕ → List ℕ → List ℕ → ℕ → Outcome (Option Spot)
 count r a sheet ws offset = decide (countRefusals sheet ws r offset) (spotIn offset (piecesOf (sheetData sheet) ws r) a)
 

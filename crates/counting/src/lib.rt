@@ -1,9 +1,8 @@
 // Counting through the sync managers: from a logical address to a sync manager's byte. Added by design; the crate has none.
 ghost use mathlib.Core.Path.{_≡_};
 ghost use Rattle.wire.specs.Outcome as Outcome;
-ghost use Rattle.grammar.specs.Grammar.{managerPlace, pdoCount};
+ghost use Rattle.grammar.specs.Grammar.{managerPlace};
 ghost use Rattle.sheet.specs.Sheet.{managerAt, managersIn};
-ghost use Rattle.pdo.specs.Bits.{perPdo};
 ghost use Rattle.passes.specs.Handed.{piecesBy};
 ghost use Rattle.counting.specs.Count as meaning;
 ghost use Rattle.counting.specs.Found.{spotHere, earlierOf, LaysOut};
@@ -88,7 +87,7 @@ pub fn count(
     direction: PdoDirection,
     address: u32,
 ) -> Counted
-    ensures { λ r. ⌜ countedOf r ≡ meaning.count direction address (now (sheet .entry)) (perPdo (pdoCount (now (sheet .entry))) (now (multipliers .entry))) (offset .«start_address») ⌝ }
+    ensures { λ r. ⌜ countedOf r ≡ meaning.count direction address (now (sheet .entry)) (now (multipliers .entry)) (offset .«start_address») ⌝ }
 {
     let wanted = wanted::wanted_of(sheet, multipliers, direction);
     let answer = wanted.answer;

@@ -31,10 +31,10 @@ use denote.Triple.Statement.{Contract}
 use denote.Triple.Clauses.{ensured, lasts}
 use Rattle.wire.specs.Image.{Bytes}
 use Rattle.wire.specs.Room.{over}
-use Rattle.grammar.specs.Grammar.{pdoCount}
 use Rattle.sheet.specs.Sheet.{sheetData}
 use Rattle.pdo.specs.declared.Oversampling.{Oversampling}
-use Rattle.pdo.specs.Bits.{multipliersOf, perPdo}
+use Rattle.pdo.specs.Bits.{multipliersOf, bitsOf}
+use Rattle.pdo.proofs.Lacking.{SameBits}
 use Rattle.pdo.proofs.Oversampling as O
 use Rattle.oversampling.proofs.Local.{cell, lay, apart, together}
 use Rattle.oversampling.proofs.Made.{made}
@@ -55,12 +55,12 @@ array-at l γ ws = record { ptr = (l, 0); name = γ; now = ws }
 abbrev pub of-array : List ℕ → Val
 of-array ws = arrayVal (map (vint w8) ws)
 
--- what it holds once it is filled, and its front
+-- what it holds once it is filled, and that it gives the exact bits of the table's multipliers
 abbrev pub Filled : List Oversampling → List ℕ → List ℕ → Type 0
 Filled t s ws = ws ≡ over (multipliersOf t (sheetData s .pdos)) Ones
 
-pub fronted : (t : List Oversampling) (s ws : List ℕ) → Bytes s → Filled t s ws → perPdo (pdoCount s) ws ≡ multipliersOf t (sheetData s .pdos)
-fronted t s ws small e = ap (perPdo (pdoCount s)) e ∙ made t s (small .below 10)
+pub fronted : (t : List Oversampling) (s ws : List ℕ) → Bytes s → Filled t s ws → SameBits (sheetData s .pdos) ws (multipliersOf t (sheetData s .pdos))
+fronted t s ws small e kind k = ap (bitsOf kind k (sheetData s .pdos)) e ∙ made t s (small .below 10) kind k
 
 -- the array as a slice, and what its lender has again once the loan is over
 module _ {M : Type 1} (𝓤 : URA M) (H : Heap 𝓤) (A : Atoms 𝓤) (W : Given 𝓤 H A) (l : ℕ) (ws : List ℕ) where

@@ -1,18 +1,13 @@
 -- A pass by value, as the pass that is lent its offset answers it: each case.
 -- Assumes nothing.
-use mathlib.Core.Path.{_≡_, sym, _∙_, ap, subst}
-use mathlib.Core.List.{List, []}
+use mathlib.Core.Path.{_≡_, sym, _∙_, ap}
+use mathlib.Core.List.{List}
 use Prim.Native.Nat.{ℕ}
 use Rattle.wire.specs.Outcome.{Outcome}
-use Rattle.grammar.specs.Grammar.{pdoCount}
-use Rattle.sheet.specs.Sheet.{sheetData}
 use Rattle.pdi.specs.declared.PdiOffset.{PdiOffset}
 use Rattle.pdi.specs.declared.PdiSegment.{PdiSegment}
-use Rattle.pdi.specs.declared.Placed.{Placed}
 use Rattle.pdi.specs.declared.Placed.the-variants.{Segment, Refused}
 use Rattle.pdo.specs.declared.PdoDirection.{PdoDirection}
-use Rattle.pdo.specs.Bits.{multipliersOf, perPdo}
-use Rattle.pdo.proofs.PerPdo.{perPdo-none}
 use Rattle.passes.specs.declared.Configured.{Configured}
 use Rattle.passes.specs.declared.Configured.the-variants.{Mapped}
 use Rattle.passes.specs.declared.Configured.the-variants.{Refused as Stopped}
@@ -30,10 +25,3 @@ module _ {sheet ws : List ℕ} {r : PdoDirection} (offset : PdiOffset) {group : 
   stopped n e =
       let o = sym (ap configuredOf e) ∙ c .says in
       record { says = ap segmentAlone o; moves = ap (λ (p : Outcome Planned). offsetAfter p offset) o; entries = c .entries; images = c .images }
-
--- no multiplier is lent: each PDO has the one of a table without records
-pub without-table : {sheet : List ℕ} {r : PdoDirection} {offset : PdiOffset} {group : ℕ} {fmmus channels : List ℕ} {answer : Placed} {next : PdiOffset} {fmmusThen channelsThen : List ℕ}
-    → Passes sheet (perPdo (pdoCount sheet) []) r offset group fmmus channels answer next fmmusThen channelsThen
-    → Passes sheet (multipliersOf [] (sheetData sheet .pdos)) r offset group fmmus channels answer next fmmusThen channelsThen
-without-table {sheet} {r} {offset} {group} {fmmus} {channels} {answer} {next} {fmmusThen} {channelsThen} =
-    subst (λ (ws : List ℕ). Passes sheet ws r offset group fmmus channels answer next fmmusThen channelsThen) (perPdo-none sheet)

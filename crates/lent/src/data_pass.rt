@@ -1,8 +1,7 @@
 // The data pass, lent its offset and its oversampling table.
 ghost use mathlib.Core.List.{[]};
-ghost use Rattle.grammar.specs.Grammar.{pdoCount};
 ghost use Rattle.sheet.specs.Sheet.{sheetData};
-ghost use Rattle.pdo.specs.Bits.{perPdo, multipliersOf};
+ghost use Rattle.pdo.specs.Bits.{multipliersOf};
 ghost use Rattle.passes.specs.Pass.{Passes};
 use passes::Configured;
 use passes::Place;
@@ -26,7 +25,7 @@ fn passed(
     place: Place,
     direction: PdoDirection,
 ) -> Done
-    ensures { λ r. ⌜ Passes (now (sheet .entry)) (perPdo (pdoCount (now (sheet .entry))) (now (multipliers .entry))) direction (place .offset) (place .group) (now (fmmus .entry)) (now (channels .entry)) (r .answer) (r .next) (now (fmmus .exit)) (now (channels .exit)) ⌝ }
+    ensures { λ r. ⌜ Passes (now (sheet .entry)) (now (multipliers .entry)) direction (place .offset) (place .group) (now (fmmus .entry)) (now (channels .entry)) (r .answer) (r .next) (now (fmmus .exit)) (now (channels .exit)) ⌝ }
 {
     let start = place.offset;
     match subdevice::pass(sheet, multipliers, fmmus, channels, place, direction) {

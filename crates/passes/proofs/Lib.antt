@@ -2,3 +2,4 @@
 pub mod Pieces
 pub mod Kept
 pub mod Once
+pub mod Same

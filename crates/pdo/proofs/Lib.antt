@@ -3,6 +3,6 @@ pub mod Part
 pub mod Records
 pub mod Some
 pub mod Bits
-pub mod PerPdo
+pub mod Lacking
 pub mod Sums
 pub mod Unique

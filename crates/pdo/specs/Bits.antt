@@ -2,7 +2,7 @@
 -- Assumes nothing.
 use mathlib.Core.Bool.{Bool, cond, _&&_}
 use mathlib.Core.List.{List, [], _∷_, map}
-use Prim.Native.Nat.{ℕ, zero, suc, _+_, _*_}
+use Prim.Native.Nat.{ℕ, suc, _+_, _*_}
 use lib.Dec.{eqb, ltb}
 use Rattle.sheet.specs.Device.{Pdo, Data}
 use Rattle.wire.specs.Lists.{someOf, sum}
@@ -28,11 +28,6 @@ firstOf (w ∷ ws) = w
 abbrev pub othersOf : List ℕ → List ℕ
 othersOf [] = []
 othersOf (w ∷ ws) = ws
-
--- one for each of n PDOs: those of a list, then 1
-unfoldable pub perPdo : ℕ → List ℕ → List ℕ
-perPdo zero ws = []
-perPdo (suc n) ws = firstOf ws ∷ perPdo n (othersOf ws)
 
 -- some sync manager has the usage
 abbrev pub someUsage : ℕ → List SyncManager → Bool
@@ -70,6 +65,6 @@ piecesFrom usage bits k (m ∷ ms) =
     (record { number = k; bits = bits k; address = m .«start_addr» } ∷ piecesFrom usage bits (suc k) ms)
     (piecesFrom usage bits (suc k) ms)
 
--- `ws` has one multiplier for each PDO
+-- `ws` has a multiplier for each PDO; one that is lacking is 1, and what is left over counts nowhere
 unfoldable pub piecesOf : Data → List ℕ → PdoDirection → List Piece
 piecesOf d ws r = piecesFrom (usageOf r) (λ k. bitsOf (pathKind d r) k (d .pdos) ws) 0 (d .managers)

@@ -1,6 +1,4 @@
 // src/subdevice/configuration.rs: a data pass of either direction, with the offset by value.
-ghost use Rattle.grammar.specs.Grammar.{pdoCount};
-ghost use Rattle.pdo.specs.Bits.{perPdo};
 ghost use Rattle.passes.specs.Pass.{Configures};
 use passes::Configured;
 use passes::Place;
@@ -16,7 +14,7 @@ pub fn pass(
     place: Place,
     direction: PdoDirection,
 ) -> Configured
-    ensures { λ r. ⌜ Configures (now (sheet .entry)) (perPdo (pdoCount (now (sheet .entry))) (now (multipliers .entry))) direction (place .offset .«start_address») (place .group) (now (fmmus .entry)) (now (channels .entry)) r (now (fmmus .exit)) (now (channels .exit)) ⌝ }
+    ensures { λ r. ⌜ Configures (now (sheet .entry)) (now (multipliers .entry)) direction (place .offset .«start_address») (place .group) (now (fmmus .entry)) (now (channels .entry)) r (now (fmmus .exit)) (now (channels .exit)) ⌝ }
 {
     if fmmus.len() != 256 {
         return Configured::Refused(1);

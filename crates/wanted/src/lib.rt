@@ -8,10 +8,9 @@ ghost use lib.Dec.{eqb};
 ghost use Rattle.wire.specs.Lists.{sum};
 ghost use Rattle.wire.specs.Outcome as Outcome;
 ghost use Rattle.wire.specs.Outcome.{when, decide};
-ghost use Rattle.grammar.specs.Grammar.{usageCount, pdoCount, usagesPlace, nextPdo, kindFits, broken};
+ghost use Rattle.grammar.specs.Grammar.{usageCount, usagesPlace, nextPdo, kindFits, broken};
 ghost use Rattle.sheet.specs.Device.{pdoAt};
 ghost use Rattle.sheet.specs.Sheet.{sheetData, answerOf};
-ghost use Rattle.pdo.specs.Bits.{perPdo};
 ghost use Rattle.passes.specs.Use.{firstWith};
 ghost use Rattle.passes.specs.Handed.{hasUsage};
 ghost use Rattle.wanted.specs.ByKind.{bitsIn, someTooWide, sizesIn, someSize, routedOf};
@@ -87,7 +86,7 @@ fn multiplier_at(multipliers: &[u8], i: usize) -> u8
 // The exact bits of each sync manager of the usage: over the PDOs that are of the kind, bits times multiplier.
 fn tally(sheet: &[u8], kind: u8, usage: u8, multipliers: &[u8]) -> [BitLen; 16]
     requires { ⌜ (length (now sheet) ≤ 16386) × (broken (now sheet) ≡ false) ⌝ }
-    ensures { λ r. ⌜ r ≡ bitsIn (now (sheet .entry)) kind usage (perPdo (pdoCount (now (sheet .entry))) (now (multipliers .entry))) ⌝ }
+    ensures { λ r. ⌜ r ≡ bitsIn (now (sheet .entry)) kind usage (now (multipliers .entry)) ⌝ }
 {
     let mut sums = [BitLen(0); 16];
     let mut place = grammar::pdos_place(sheet);
@@ -131,7 +130,7 @@ struct Sizes {
 
 fn sizes_of(sheet: &[u8], kind: u8, usage: u8, multipliers: &[u8]) -> Sizes
     requires { ⌜ (length (now sheet) ≤ 16386) × (broken (now sheet) ≡ false) ⌝ }
-    ensures { λ r. ⌜ (answerOf {A = Unit {0}} (r .answer) tt ≡ decide (when 6 (someTooWide (now (sheet .entry)) kind usage (perPdo (pdoCount (now (sheet .entry))) (now (multipliers .entry)))) ∷ []) tt) × (r .list ≡ cond (someTooWide (now (sheet .entry)) kind usage (perPdo (pdoCount (now (sheet .entry))) (now (multipliers .entry)))) noSizes (sizesIn (now (sheet .entry)) kind usage (perPdo (pdoCount (now (sheet .entry))) (now (multipliers .entry))))) ⌝ }
+    ensures { λ r. ⌜ (answerOf {A = Unit {0}} (r .answer) tt ≡ decide (when 6 (someTooWide (now (sheet .entry)) kind usage (now (multipliers .entry))) ∷ []) tt) × (r .list ≡ cond (someTooWide (now (sheet .entry)) kind usage (now (multipliers .entry))) noSizes (sizesIn (now (sheet .entry)) kind usage (now (multipliers .entry)))) ⌝ }
 {
     let bits = tally(sheet, kind, usage, multipliers);
     let mut list = [ByteLen(0); 16];
@@ -229,7 +228,7 @@ fn routed(sheet: &[u8], coe: bool, usage: u8, sizes: [ByteLen; 16]) -> Wanted
 
 // What a direction's pass of a sheet wants. Lent a multiplier for each PDO; one that is lacking is 1.
 pub fn wanted_of(sheet: &[u8], multipliers: &[u8], direction: PdoDirection) -> Wanted
-    ensures { λ r. ⌜ Wants (now (sheet .entry)) (perPdo (pdoCount (now (sheet .entry))) (now (multipliers .entry))) direction r ⌝ }
+    ensures { λ r. ⌜ Wants (now (sheet .entry)) (now (multipliers .entry)) direction r ⌝ }
 {
     let sound = sheet::check(sheet);
     if let Answer::Refused(number) = sound {

@@ -4,8 +4,6 @@ use mathlib.Core.Path.{sym, _∙_, ap}
 use denote.Ref.{now}
 use borrow.Author.Needs.{needs}
 use Rattle.pdi.specs.Offset.{movedOf}
-use Rattle.sheet.specs.Sheet.{pdoCount}
-use Rattle.pdo.specs.Bits.{perPdo}
 use Rattle.pdo.specs.declared.Terms.{Terms}
 use Rattle.counting.proofs.Counting.{unwanted-counts, nine-counts, found-counts}
 use Rattle.counting.proofs.count.Statement.{statement}
@@ -22,7 +20,7 @@ returns c =
     let v = c .before .before .before in
     let a = v .before .before .before .args in
     let n = c .before .answer .given in
-    unwanted-counts (now (a .sheet)) (perPdo (pdoCount (now (a .sheet))) (now (a .multipliers))) (a .direction) (a .offset .«start_address») (a .address)
+    unwanted-counts (now (a .sheet)) (now (a .multipliers)) (a .direction) (a .offset .«start_address») (a .address)
     (v .wanted-of .result) (v .wanted-of .ensures) (n .0 .0) (n .1)
 
 enum-told : tie.Need-enum-told
@@ -48,7 +46,7 @@ returns-2 c =
     let v = e .before .before in
     let a = v .before .before .before .args in
     let n = c .before .number .given in
-    nine-counts (now (a .sheet)) (perPdo (pdoCount (now (a .sheet))) (now (a .multipliers))) (a .direction) (a .offset .«start_address») (a .address)
+    nine-counts (now (a .sheet)) (now (a .multipliers)) (a .direction) (a .offset .«start_address») (a .address)
     (v .wanted-of .result) (v .wanted-of .ensures) (e .enum-told .given .1) (ap (λ (t : Terms). t .usage) (l .before .filter-terms .ensures)) (l .lay-out .ensures)
     (n .0 .0) (sym (ap movedOf (n .1)) ∙ p .at .ensures)
 
@@ -63,7 +61,7 @@ returns-3 c =
     let v = e .before .before in
     let a = v .before .before .before .args in
     let o = c .enum-told2 .given in
-    found-counts (now (a .sheet)) (perPdo (pdoCount (now (a .sheet))) (now (a .multipliers))) (a .direction) (a .offset .«start_address») (a .address)
+    found-counts (now (a .sheet)) (now (a .multipliers)) (a .direction) (a .offset .«start_address») (a .address)
     (v .wanted-of .result) (v .wanted-of .ensures) (e .enum-told .given .1) (ap (λ (t : Terms). t .usage) (l .before .filter-terms .ensures)) (l .lay-out .ensures)
     (o .0 .0 .«start_address») (sym (ap movedOf (o .1)) ∙ p .at .ensures)
 

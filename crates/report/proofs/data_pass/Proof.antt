@@ -1,12 +1,12 @@
 -- `report::data_pass`: a pass that is lent no multiplier counts each PDO once.
 -- Assumes nothing.
-use mathlib.Core.Path.{subst}
-use mathlib.Core.List.{List}
-use Prim.Native.Nat.{ℕ}
+use mathlib.Core.List.{[]}
 use denote.Ref.{now}
 use borrow.Author.Needs.{needs}
-use Rattle.pdo.proofs.PerPdo.{perPdo-none}
-use Rattle.passes.specs.Pass.{Configures}
+use Rattle.sheet.specs.Sheet.{sheetData}
+use Rattle.pdo.proofs.Lacking.{bits-none}
+use Rattle.passes.proofs.Same.{configures-same}
+use Rattle.report.specs.Plan.{once}
 use Rattle.report.proofs.data_pass.Statement.{statement}
 use Rattle.report.proofs.data_pass.Tie as tie
 
@@ -27,11 +27,7 @@ returns c =
     let p = c .before .before .before .before in
     let a = p .before .before .before .before .before .before .before .args in
     let s = now (a .sheet) in
-    subst
-    (λ (ws : List ℕ).
-    Configures s ws (a .direction) (a .offset .«start_address») 0 (now (a .fmmus)) (now (a .channels)) (p .pass .result) (p .pass .last .1 .1 .0) (p .pass .last .1 .1 .1 .0))
-    (perPdo-none s)
-    (p .pass .ensures)
+    configures-same s [] (once s) (a .direction) (bits-none (sheetData s .pdos)) (p .pass .ensures)
 
 pub data-pass-spec : {M : Type 1} → statement M
 data-pass-spec = tie.close (tie.spec slice-aggregate-pass pass-requires same-length same-length-2 returns)

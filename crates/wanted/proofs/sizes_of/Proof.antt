@@ -1,15 +1,13 @@
 -- `wanted::sizes_of`: after k turns k sizes stand there, and none of them is too wide.
 -- Assumes nothing.
 use mathlib.Core.Path.{_≡_, sym, _∙_, ap}
-use mathlib.Core.List.{List}
-use Prim.Native.Nat.{ℕ, _-_, _≤_}
+use Prim.Native.Nat.{_-_, _≤_}
 use native.Mathlib.Omega.{arith}
 use denote.Ref.{now}
 use borrow.Author.Needs.{needs}
 use Rattle.pdi.specs.Unit.{roundedOf}
-use Rattle.grammar.specs.Grammar.{managerCount, pdoCount}
+use Rattle.grammar.specs.Grammar.{managerCount}
 use Rattle.grammar.proofs.Broken.{kept}
-use Rattle.pdo.specs.Bits.{perPdo}
 use Rattle.wanted.specs.ByKind.{bitsAt, bitsIn}
 use Rattle.wanted.proofs.Sums.{sumAt}
 use Rattle.wanted.proofs.Sized.{Rounding, rounding-start, bits-read, rounding-turn, rounding-refused, rounding-end}
@@ -18,25 +16,21 @@ use Rattle.wanted.proofs.sizes_of.Tie as tie
 
 abbrev Inv-loop : tie.InvT-loop
 Inv-loop sheet kind usage multipliers bits list₀ n k₀ list k =
-    (k ≤ n) × (n ≡ managerCount sheet) × (n ≤ 16) × (bits ≡ bitsIn sheet kind usage (perPdo (pdoCount sheet) multipliers))
-    × Rounding sheet kind usage (perPdo (pdoCount sheet) multipliers) list k
+    (k ≤ n) × (n ≡ managerCount sheet) × (n ≤ 16) × (bits ≡ bitsIn sheet kind usage multipliers)
+    × Rounding sheet kind usage multipliers list k
 
 abbrev μ-loop : tie.MeasureT-loop
 μ-loop sheet kind usage multipliers bits list₀ n k₀ list k = n - k
-
--- the multipliers that count
-abbrev multipliersOf : tie.Start Inv-loop μ-loop → List ℕ
-multipliersOf c = perPdo (pdoCount (now (c .args .sheet))) (now (c .args .multipliers))
 
 -- the bits that are rounded up are those of the number
 of-number :
     (c : tie.In-loop Inv-loop μ-loop)
     → sumAt (c .before .before .before .before .tally .result) (c .before .loop .k)
     ≡ bitsAt (now (c .before .before .before .before .before .before .before .args .sheet)) (c .before .before .before .before .before .before .before .args .kind)
-    (c .before .before .before .before .before .before .before .args .usage) (multipliersOf (c .before .before .before .before .before .before .before)) (c .before .loop .k)
+    (c .before .before .before .before .before .before .before .args .usage) (now (c .before .before .before .before .before .before .before .args .multipliers)) (c .before .loop .k)
 of-number c =
     let b = c .before .before .before .before .before .before .before in
-    bits-read (now (b .args .sheet)) (b .args .kind) (b .args .usage) (multipliersOf b) _ (c .before .loop .k) (c .before .loop .inv .3) (omega arith)
+    bits-read (now (b .args .sheet)) (b .args .kind) (b .args .usage) (now (b .args .multipliers)) _ (c .before .loop .k) (c .before .loop .inv .3) (omega arith)
 
 tally-requires : tie.Need-tally-requires Inv-loop μ-loop
 tally-requires c κs = c .before .before .pre
@@ -81,7 +75,7 @@ returns c =
     let l = u .before .before .before .loop in
     let b = u .before .before .before .before .before .before .before .before .before in
     let n = c .before .number .given in
-    rounding-refused (now (b .args .sheet)) (b .args .kind) (b .args .usage) (multipliersOf b) (l .k) _ (n .0 .0) (omega arith) (of-number (u .before .before))
+    rounding-refused (now (b .args .sheet)) (b .args .kind) (b .args .usage) (now (b .args .multipliers)) (l .k) _ (n .0 .0) (omega arith) (of-number (u .before .before))
     (sym (ap roundedOf (n .1)) ∙ u .round-up .ensures)
 
 add-k : tie.Need-add-k Inv-loop μ-loop
@@ -96,7 +90,7 @@ loop-again c =
     let l = u .before .before .before .loop in
     let b = u .before .before .before .before .before .before .before .before .before in
     let w = c .before .size .given in
-    let t = rounding-turn (now (b .args .sheet)) (b .args .kind) (b .args .usage) (multipliersOf b) (l .list) (l .k) _ (w .0 .0) (omega arith) (of-number (u .before .before))
+    let t = rounding-turn (now (b .args .sheet)) (b .args .kind) (b .args .usage) (now (b .args .multipliers)) (l .list) (l .k) _ (w .0 .0) (omega arith) (of-number (u .before .before))
     (sym (ap roundedOf (w .1)) ∙ u .round-up .ensures) (l .inv .4) in
     (omega arith, l .inv .1, l .inv .2, l .inv .3, t)
 
@@ -104,7 +98,7 @@ returns-2 : tie.Need-returns-2 Inv-loop μ-loop
 returns-2 c =
     let l = c .before .loop in
     let b = c .before .before .before .before .before .before .before in
-    rounding-end (now (b .args .sheet)) (b .args .kind) (b .args .usage) (multipliersOf b) (l .list) (l .k) (omega arith) (omega arith) (l .inv .4)
+    rounding-end (now (b .args .sheet)) (b .args .kind) (b .args .usage) (now (b .args .multipliers)) (l .list) (l .k) (omega arith) (omega arith) (l .inv .4)
 
 pub sizes-of-spec : {M : Type 1} → statement M
 sizes-of-spec =

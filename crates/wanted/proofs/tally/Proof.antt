@@ -12,8 +12,6 @@ use Rattle.grammar.proofs.Broken.{kept}
 use Rattle.sheet.specs.Sheet.{sheetData}
 use Rattle.sheet.proofs.Sound.{Fits}
 use Rattle.pdo.proofs.Records.{product-bounded}
-use Rattle.pdo.specs.Bits.{perPdo}
-use Rattle.pdo.proofs.PerPdo.{perPdo-at}
 use Rattle.passes.specs.Handed.{hasUsage}
 use Rattle.wanted.proofs.Managers.{counts-kind, counts-there}
 use Rattle.wanted.proofs.Sums.{Tallied, fits-as, tallied-start, next-fits, tallied-here, tallied-on, tallied-end}
@@ -23,7 +21,7 @@ use Rattle.wanted.proofs.tally.Tie as tie
 abbrev Inv-loop : tie.InvT-loop
 Inv-loop sheet kind usage multipliers sums₀ place₀ i₀ count sums place i =
     (length sheet ≤ 16386) × (managerCount sheet ≤ 16) × (usagesPlace sheet ≤ length sheet) × (count ≡ pdoCount sheet) × (count ≤ 255)
-    × Tallied sheet (perPdo (pdoCount sheet) multipliers) kind (hasUsage usage (sheetData sheet .managers)) (pdoCount sheet) (pdosPlace sheet) sums place i
+    × Tallied sheet multipliers kind (hasUsage usage (sheetData sheet .managers)) (pdoCount sheet) (pdosPlace sheet) sums place i
 
 abbrev μ-loop : tie.MeasureT-loop
 μ-loop sheet kind usage multipliers sums₀ place₀ i₀ count sums place i = count - i
@@ -137,16 +135,14 @@ loop-again : tie.Need-loop-again Inv-loop μ-loop
 loop-again c =
     let j = c .before .before in
     let l = j .before .before .before .loop in
-    let a = start (j .before .before .before) .args in
     let i = l .inv in
     let next = l .place + 5 + c .wide3 .result in
     let e = sym (j .before .counts .ensures) in
-    let w = sym (perPdo-at (pdoCount (now (a .sheet))) (now (a .multipliers)) (l .i) (omega arith)) in
     let t =
     ⊎-elim
     (λ h.
     tallied-here _ _ _ _ (i .5) next (omega arith) (omega arith) (h .2 .result) (h .3 .result) (h .4 .result) _ (e ∙ h .0 .taken) (h .2 .ensures .0)
-    (let z = low (record { before = j .before; if1 = h .0 }) in omega arith) (h .3 .ensures .0) (h .4 .ensures ∙ w) (h .3 .ensures .1) (omega arith) (h .5))
+    (let z = low (record { before = j .before; if1 = h .0 }) in omega arith) (h .3 .ensures .0) (h .4 .ensures) (h .3 .ensures .1) (omega arith) (h .5))
     (λ h. tallied-on _ _ _ _ (i .5) next (omega arith) (omega arith) _ (e ∙ h .0 .left) (h .1)) (j .if1 .came) in
     (i .0, i .1, i .2, i .3, i .4, t)
 

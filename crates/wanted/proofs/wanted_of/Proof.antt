@@ -1,23 +1,15 @@
 -- `wanted::wanted_of`: the sheet's refusals, then 6, then 7; what is worked out before each return decides it.
 -- Assumes nothing.
 use mathlib.Core.Path.{sym, _∙_, ap}
-use mathlib.Core.List.{List}
-use Prim.Native.Nat.{ℕ}
 use denote.Ref.{now}
 use borrow.Author.Needs.{needs}
-use Rattle.grammar.specs.Grammar.{pdoCount}
 use Rattle.sheet.specs.Sheet.{answerOf}
 use Rattle.sheet.specs.declared.Answer.{Answer}
 use Rattle.sheet.specs.declared.Answer.the-variants.{Accepted}
 use Rattle.sheet.proofs.Reading.{Checked, checked-case, checked-accepts}
-use Rattle.pdo.specs.Bits.{perPdo}
 use Rattle.wanted.proofs.Wanting.{sheet-wants, six-wants, routed-wants}
 use Rattle.wanted.proofs.wanted_of.Statement.{statement}
 use Rattle.wanted.proofs.wanted_of.Tie as tie
-
--- the multipliers that count
-abbrev multipliersOf : tie.Start → List ℕ
-multipliersOf c = perPdo (pdoCount (now (c .args .sheet))) (now (c .args .multipliers))
 
 -- from here on the sheet keeps every rule
 keeps : (c : tie.After-enum-told) → Checked (now (c .before .before .before .before .before .args .sheet)) Accepted
@@ -37,7 +29,7 @@ returns c =
     let k = c .before .before .before .before in
     let b = k .before .before .before in
     let n = c .before .before .sound .given in
-    sheet-wants (now (b .args .sheet)) (multipliersOf b) (b .args .direction) (n .0 .0) (c .refused .result) (checked-case _ (k .check .ensures) (n .1)) (c .refused .ensures)
+    sheet-wants (now (b .args .sheet)) (now (b .args .multipliers)) (b .args .direction) (n .0 .0) (c .refused .result) (checked-case _ (k .check .ensures) (n .1)) (c .refused .ensures)
 
 enum-told : tie.Need-enum-told
 enum-told c = search needs
@@ -69,7 +61,7 @@ returns-2 c =
     let e = p .before .before .before in
     let b = e .before .before .before .before .before in
     let n = c .before .before .answer .given in
-    six-wants (now (b .args .sheet)) (multipliersOf b) (b .args .direction) (keeps e) (p .before .coe-on .result) (p .before .before .filter-terms .result) (p .path-kind .result)
+    six-wants (now (b .args .sheet)) (now (b .args .multipliers)) (b .args .direction) (keeps e) (p .before .coe-on .result) (p .before .before .filter-terms .result) (p .path-kind .result)
     (p .before .coe-on .ensures) (p .before .before .filter-terms .ensures) (p .path-kind .ensures) (n .0 .0) (c .refused2 .result)
     (sym (ap (λ (x : Answer). answerOf {A = Unit {0}} x tt) (n .1)) ∙ z .sizes-of .ensures .0) (c .refused2 .ensures)
 
@@ -86,7 +78,7 @@ returns-3 c =
     let p = z .before in
     let e = p .before .before .before in
     let b = e .before .before .before .before .before in
-    routed-wants (now (b .args .sheet)) (multipliersOf b) (b .args .direction) (keeps e) (p .before .coe-on .result) (p .before .before .filter-terms .result) (p .path-kind .result)
+    routed-wants (now (b .args .sheet)) (now (b .args .multipliers)) (b .args .direction) (keeps e) (p .before .coe-on .result) (p .before .before .filter-terms .result) (p .path-kind .result)
     (p .before .coe-on .ensures) (p .before .before .filter-terms .ensures) (p .path-kind .ensures) (z .sizes-of .result .list) (c .routed .result)
     (sym (ap (λ (x : Answer). answerOf {A = Unit {0}} x tt) (t .enum-told2 .given .1)) ∙ z .sizes-of .ensures .0) (z .sizes-of .ensures .1) (c .routed .ensures)
 

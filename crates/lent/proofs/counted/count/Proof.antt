@@ -1,7 +1,7 @@
 -- `lent::count` meets its contract: a walk of its MIR, by hand. The table and the sheet are passed on: what a shared slice owns is copied, one copy for each call and one for the exit.
 -- Where the table has a record a local array is lent twice, each time for a lifetime of the call: `&mut` to be filled, then shared, as a slice.
 -- All that the proof knows of the three callees is that each meets its contract. Assumes nothing.
-use mathlib.Core.Path.{_≡_, refl, subst}
+use mathlib.Core.Path.{_≡_, refl, _∙_, subst}
 use Prim.Native.Nat.{ℕ, _<_, _^_}
 use mathlib.Core.List.{[], _∷_, List}
 use lib.Dec.{lit<}
@@ -46,7 +46,6 @@ use denote.Triple.Clauses.{ensured, lasts}
 use denote.Triple.Table.{entered, cited}
 use denote.Triple.Walked.{says, Stays, stay-none, stay-none-slice, walkOf, goes-none, goes-none-slice, Walks, ends-at, walked, walk-meets}
 use denote.Exit.{yes}
-use Rattle.grammar.specs.Grammar.{pdoCount}
 use Rattle.sheet.specs.Device.{Pdo}
 use Rattle.sheet.specs.Sheet.{sheetData}
 use Rattle.pdi.specs.declared.PdiOffset.{PdiOffset}
@@ -54,7 +53,7 @@ use Rattle.pdi.proofs.PdiOffset as P
 use Rattle.pdi.proofs.PdiOffset.Laws as P′
 use Rattle.pdo.specs.declared.Oversampling.{Oversampling}
 use Rattle.pdo.specs.declared.PdoDirection.{PdoDirection}
-use Rattle.pdo.specs.Bits.{multipliersOf, perPdo}
+use Rattle.pdo.specs.Bits.{multipliersOf}
 use Rattle.pdo.proofs.Oversampling as O
 use Rattle.pdo.proofs.PdoDirection as D
 use Rattle.pdo.proofs.PdoDirection.Laws as D′
@@ -67,6 +66,7 @@ use Rattle.counting.specs.Count as meaning
 use Rattle.counting.specs.Count.{countedOf}
 use Rattle.counting.proofs.Counted as S
 use Rattle.counting.proofs.Counted.Laws as S′
+use Rattle.counting.proofs.Same.{count-same}
 use Rattle.counting.proofs.count as by-value
 use Rattle.counting.proofs.count.Symbol as by-value-def
 use Rattle.counting.proofs.count.Symbol.{name as #by-value}
@@ -187,8 +187,8 @@ module _ {M : Type 1} (𝓤 : URA M) (H : Heap 𝓤) (A : Atoms 𝓤) (W : Given
       move ! (4 ∷ 0 ∷ []) $ fjoin ! $ move ! (3 ∷ 0 ∷ []) $ fjoin ! $ nothing ! $ move ! (3 ∷ 0 ∷ []) $ join ! $ move ! (2 ∷ 0 ∷ []) $ join ! $ move ! (0 ∷ 1 ∷ []) $ join ! $ frame ! $ done !
 
   said-count : (μ l : ℕ) (δ : GName) (ws : List ℕ) (r : Counted)
-      → ent 𝓤 (ensured 𝓤 H A by-value.ended (by-value.clauses 𝓤 H A at-mem run) (over-count μ) (given-to l δ ws) tt r) (fact 𝓤 (Counts (perPdo (pdoCount (x .now)) ws) r))
-  said-count μ l δ ws r = exE 𝓤 _ (λ ls. snd∗ 𝓤 (sem 𝓤 H A (lasts by-value.ended (over-count μ) (given-to l δ ws) ls)) (fact 𝓤 (Counts (perPdo (pdoCount (x .now)) ws) r)))
+      → ent 𝓤 (ensured 𝓤 H A by-value.ended (by-value.clauses 𝓤 H A at-mem run) (over-count μ) (given-to l δ ws) tt r) (fact 𝓤 (Counts ws r))
+  said-count μ l δ ws r = exE 𝓤 _ (λ ls. snd∗ 𝓤 (sem 𝓤 H A (lasts by-value.ended (over-count μ) (given-to l δ ws) ls)) (fact 𝓤 (Counts ws r)))
 
   exits : (r : Counted) (w : Val) → Counts (multipliersOf (t .now) pdos) r → ent 𝓤 (⋆ 𝓤 H A (‵ (S.the-row .own r (w ∷ [])) ∷ ‵ (flft κ₀ q₀) ∷ ‵ (flft κ₁ q₁) ∷ ‵ X ∷ ‵ TT ∷ [])) (Post w)
   exits r w e =
@@ -282,8 +282,8 @@ module _ {M : Type 1} (𝓤 : URA M) (H : Heap 𝓤) (A : Atoms 𝓤) (W : Given
         (no-more !)))))) (λ c₂.
         use1 W (later (some (λ (r : Counted). ((‵ (flft κ₀ q₀) ⊛ ‵ (flft (μ ∷ []) fullShare) ⊛ ‵ ftrue) ⊛ ‵ (S.the-row .own r (c₂ ∷ []))) ⊛ raw (ensured 𝓤 H A by-value.ended
         (by-value.clauses 𝓤 H A at-mem run) (over-count μ) (given-to l₆ δ (ks .1 .1 .0)) tt r)))) (id⊢ 𝓤 _) $ await ! tt $
-        pick ! (λ r. split ! $ move ! (1 ∷ []) $ use1 W (raw (fact 𝓤 (Counts (perPdo (pdoCount (x .now)) (ks .1 .1 .0)) r))) (said-count μ l₆ δ (ks .1 .1 .0) r) $
-        heard ! (Counts (perPdo (pdoCount (x .now)) (ks .1 .1 .0)) r) (λ counted. split ! $ move ! (1 ∷ []) $ peeks ! S.the-row (Is S.the-row) (shows 𝓤 H A S.the-row) r (c₂ ∷ []) (λ is₂.
+        pick ! (λ r. split ! $ move ! (1 ∷ []) $ use1 W (raw (fact 𝓤 (Counts (ks .1 .1 .0) r))) (said-count μ l₆ δ (ks .1 .1 .0) r) $
+        heard ! (Counts (ks .1 .1 .0) r) (λ counted. split ! $ move ! (1 ∷ []) $ peeks ! S.the-row (Is S.the-row) (shows 𝓤 H A S.the-row) r (c₂ ∷ []) (λ is₂.
         land ! (from ! (stop !)) (init ! 31 refl (EL.lawful S.the-type S′.the-laws 𝓤 H A W tt .typed r _ is₂ .0)) $ move ! (1 ∷ []) $ split ! $ move ! (1 ∷ []) $ split ! $
         -- the array comes back
         move ! (0 ∷ []) $ lft-end ! tt $ move ! (0 ∷ 5 ∷ []) $ lent-back ! tt $
@@ -293,7 +293,8 @@ module _ {M : Type 1} (𝓤 : URA M) (H : Heap 𝓤) (A : Atoms 𝓤) (W : Given
         move ! (28 ∷ 29 ∷ []) $ free1 ! $ move ! (26 ∷ 27 ∷ []) $ free1 ! $ move ! (24 ∷ 25 ∷ []) $ free1 ! $ move ! (22 ∷ 23 ∷ []) $ free1 ! $ move ! (0 ∷ 21 ∷ []) $ free1 ! $
         move ! (18 ∷ 19 ∷ []) $ free1 ! $ move ! (16 ∷ 17 ∷ []) $ free1 ! $ move ! (14 ∷ 15 ∷ []) $ free1 ! $ move ! (12 ∷ 13 ∷ []) $ free1 ! $ move ! (10 ∷ 11 ∷ []) $ free1 ! $ move ! (8 ∷ 9 ∷ []) $
         free1 ! $ free0 ! $ keep ! (2 ∷ 1 ∷ 4 ∷ 3 ∷ 5 ∷ []) $
-        by ! (exits r c₂ (subst (λ (ws : List ℕ). Counts ws r) (fronted (t .now) (x .now) (ks .1 .1 .0) small filled) counted)))))))))))))))))))))))))))))))
+        by ! (exits r c₂ (counted ∙ count-same (x .now) (ks .1 .1 .0) (multipliersOf (t .now) pdos) d z (h .«start_address»)
+        (fronted (t .now) (x .now) (ks .1 .1 .0) small filled))))))))))))))))))))))))))))))))
 
 module _ {M : Type 1} (𝓤 : URA M) (H : Heap 𝓤) (A : Atoms 𝓤) (W : Given 𝓤 H A) (at-mem : Memory → SProp 𝓤) (run : Routine → Fun 𝓤) (𝓣 : Tables 𝓤 H)
     (known-fill : Triple 𝓤 (𝓣 .C #multipliers-for) (tripleOf 𝓤 H A multipliers-for.signature (multipliers-for.spec 𝓤 H A at-mem run)))

@@ -1,11 +1,12 @@
 -- `without_table`: counting that is lent no multiplier.
 -- Assumes nothing.
-use mathlib.Core.Path.{_∙_, ap}
-use mathlib.Core.List.{List}
-use Prim.Native.Nat.{ℕ}
+use mathlib.Core.Path.{_∙_}
+use mathlib.Core.List.{[]}
 use borrow.Author.Needs.{needs}
-use Rattle.pdo.proofs.PerPdo.{perPdo-none}
-use Rattle.counting.specs.Count as meaning
+use Rattle.sheet.specs.Sheet.{sheetData}
+use Rattle.pdo.specs.Bits.{multipliersOf}
+use Rattle.pdo.proofs.Lacking.{bits-none}
+use Rattle.counting.proofs.Same.{count-same}
 use Rattle.lent.proofs.counted.without_table.Statement.{statement}
 use Rattle.lent.proofs.counted.without_table.Tie as tie
 
@@ -19,7 +20,8 @@ returns : tie.Need-returns
 returns c =
     let a = c .before .before .before .args in
     let s = a .sheet .now in
-    c .count .ensures ∙ ap (λ (ws : List ℕ). meaning.count (a .direction) (a .address) s ws (a .offset .«start_address»)) (perPdo-none s)
+    let pdos = sheetData s .pdos in
+    c .count .ensures ∙ count-same s [] (multipliersOf [] pdos) (a .direction) (a .address) (a .offset .«start_address») (bits-none pdos)
 
 pub without-table-spec : {M : Type 1} → statement M
 without-table-spec = tie.close (tie.spec slice-aggregate-count count-requires returns)

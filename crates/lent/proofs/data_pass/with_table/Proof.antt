@@ -1,7 +1,7 @@
 -- `with_table` meets its contract: a walk of its MIR, by hand. A local array is lent twice, each time for a lifetime of the call: `&mut` to be filled, then shared, as a slice.
 -- The areas are lent on; of what the sheet and the table own a copy goes to each call, and one is kept for the exit.
 -- All that the proof knows of the two callees is that each meets its contract. Assumes nothing.
-use mathlib.Core.Path.{_≡_, refl, subst}
+use mathlib.Core.Path.{_≡_, refl}
 use Prim.Native.Nat.{ℕ}
 use mathlib.Core.List.{[], _∷_, List}
 use lib.Dec.{lit<}
@@ -47,16 +47,16 @@ use denote.Triple.Clauses.{ensured, lasts}
 use denote.Triple.Table.{entered, cited}
 use denote.Triple.Walked.{says, Stays, stay-none, stay-none-slice, gave-slice, walkOf, goes-none, goes-none-slice, goes-gave-slice, Walks, ends-at, walked, walk-meets}
 use denote.Exit.{yes}
-use Rattle.grammar.specs.Grammar.{pdoCount}
 use Rattle.sheet.specs.Sheet.{sheetData}
 use Rattle.pdo.specs.declared.Oversampling.{Oversampling}
 use Rattle.pdo.specs.declared.PdoDirection.{PdoDirection}
-use Rattle.pdo.specs.Bits.{multipliersOf, perPdo}
+use Rattle.pdo.specs.Bits.{multipliersOf}
 use Rattle.pdo.proofs.Oversampling as O
 use Rattle.pdo.proofs.PdoDirection as D
 use Rattle.pdo.proofs.PdoDirection.Laws as D′
 use Rattle.passes.specs.declared.Place.{Place}
 use Rattle.passes.specs.Pass.{Passes}
+use Rattle.passes.proofs.Same.{passes-same}
 use Rattle.passes.proofs.Place as P
 use Rattle.passes.proofs.Place.Laws as P′
 use Rattle.oversampling.proofs.multipliers_for as multipliers-for
@@ -257,8 +257,8 @@ module _ {M : Type 1} (𝓤 : URA M) (H : Heap 𝓤) (A : Atoms 𝓤) (W : Given
         (ensured 𝓤 H A passed.ended (passed.clauses 𝓤 H A at-mem run) (over-pass μ) (given-to l₇ δ (ks .1 .1 .0)) tt r)))) (id⊢ 𝓤 _) $ await ! tt $
         pick ! (λ r. split ! $ move ! (1 ∷ []) $
         use1 W (some (λ (zs : Unit {0} × (Unit {0} × (List ℕ × (List ℕ × (Unit {0} × (Unit {0} × Unit {0})))))). ‵ (lasts passed.ended (over-pass μ) (given-to l₇ δ (ks .1 .1 .0)) zs) ⊛ raw (fact 𝓤
-        (Said (perPdo (pdoCount (x .now)) (ks .1 .1 .0)) r (zs .1 .1 .0) (zs .1 .1 .1 .0))))) (id⊢ 𝓤 _) $
-        pick ! (λ zs. split ! $ move ! (1 ∷ []) $ heard ! (Said (perPdo (pdoCount (x .now)) (ks .1 .1 .0)) r (zs .1 .1 .0) (zs .1 .1 .1 .0)) (λ said. fsplit ! $ drop ! $ fsplit ! $ drop ! $
+        (Said (ks .1 .1 .0) r (zs .1 .1 .0) (zs .1 .1 .1 .0))))) (id⊢ 𝓤 _) $
+        pick ! (λ zs. split ! $ move ! (1 ∷ []) $ heard ! (Said (ks .1 .1 .0) r (zs .1 .1 .0) (zs .1 .1 .1 .0)) (λ said. fsplit ! $ drop ! $ fsplit ! $ drop ! $
         fsplit ! $ fsplit ! $ move ! (1 ∷ []) $ feqL ! (λ lf. move ! (1 ∷ []) $ fsplit ! $ fsplit ! $ move ! (1 ∷ []) $ feqL ! (λ lc. move ! (3 ∷ []) $ split ! $ move ! (1 ∷ []) $
         peeks ! S.the-row (Is S.the-row) (shows 𝓤 H A S.the-row) r (c₂ ∷ []) (λ is₂. land ! (from ! (stop !)) (init ! 40 refl (LL.lawful S.the-type S′.the-laws 𝓤 H A W .typed r _ is₂ .0)) $
         move ! (1 ∷ []) $ split ! $ move ! (1 ∷ []) $ split ! $ move ! (1 ∷ []) $ split ! $ move ! (1 ∷ []) $ split ! $
@@ -271,7 +271,7 @@ module _ {M : Type 1} (𝓤 : URA M) (H : Heap 𝓤) (A : Atoms 𝓤) (W : Given
         move ! (33 ∷ 34 ∷ []) $ free1 ! $ move ! (31 ∷ 32 ∷ []) $ free1 ! $ move ! (0 ∷ 30 ∷ []) $ free1 ! $ move ! (27 ∷ 28 ∷ []) $ free1 ! $ move ! (25 ∷ 26 ∷ []) $ free1 ! $
         move ! (23 ∷ 24 ∷ []) $ free1 ! $ move ! (21 ∷ 22 ∷ []) $ free1 ! $ move ! (19 ∷ 20 ∷ []) $ free1 ! $ move ! (17 ∷ 18 ∷ []) $ free1 ! $ move ! (15 ∷ 16 ∷ []) $ free1 ! $
         move ! (13 ∷ 14 ∷ []) $ free1 ! $ free0 ! $ keep ! (4 ∷ 3 ∷ 9 ∷ 2 ∷ 0 ∷ 8 ∷ 10 ∷ 7 ∷ 5 ∷ []) $
-        by ! (exits r c₂ (zs .1 .1 .0) (zs .1 .1 .1 .0) (subst (λ (ws : List ℕ). Said ws r (zs .1 .1 .0) (zs .1 .1 .1 .0)) (fronted (t .now) (x .now)
+        by ! (exits r c₂ (zs .1 .1 .0) (zs .1 .1 .1 .0) (passes-same (x .now) (ks .1 .1 .0) (multipliersOf (t .now) (sheetData (x .now) .pdos)) d (fronted (t .now) (x .now)
         (ks .1 .1 .0) small filled) said) lf lc)))))))))))))))))))))))))))))))))))
 
 module _ {M : Type 1} (𝓤 : URA M) (H : Heap 𝓤) (A : Atoms 𝓤) (W : Given 𝓤 H A) (at-mem : Memory → SProp 𝓤) (run : Routine → Fun 𝓤) (𝓣 : Tables 𝓤 H)
