@@ -1,4 +1,4 @@
--- A local array of 255 ones, lent to `multipliers_for` to be filled and taken back, then lent as a slice: what both functions that do so have in common.
+-- A local array of 255 ones, lent to `multipliers_for` to be filled and taken back, then lent as a slice: what both functions that do so have in common, and when they do not: a table of no records is the empty one.
 -- Assumes nothing.
 use mathlib.Core.Path.{_≡_, refl, sym, _∙_, ap, subst}
 use mathlib.Core.List.{List, [], _∷_, map}
