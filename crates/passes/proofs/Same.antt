@@ -1,27 +1,25 @@
 -- All that a data pass means looks at the multipliers through the exact bits alone.
 -- Assumes nothing.
 use mathlib.Core.Path.{_≡_, refl, _∙_, ap}
-use mathlib.Core.Bool.{cond, _&&_}
-use mathlib.Core.List.{List, [], _∷_, _++_}
+use mathlib.Core.Bool.{cond}
+use mathlib.Core.List.{List, _∷_, _++_}
 use mathlib.Core.Option.{none, some}
 use Prim.Native.Nat.{ℕ}
-use lib.ListN.{length}
-use lib.Dec.{eqb, ltb}
-use Rattle.wire.specs.Lists.{someOf}
+use lib.Dec.{eqb}
 use Rattle.wire.specs.Outcome.{Outcome, refused, accepted, when, decide}
-use Rattle.pdi.specs.Unit.{bytesOf, tooManyBits}
+use Rattle.pdi.specs.Unit.{bytesOf}
 use Rattle.pdi.specs.declared.PdiOffset.{PdiOffset}
 use Rattle.pdi.specs.declared.Placed.{Placed}
 use Rattle.sheet.specs.Device.{Data}
 use Rattle.sheet.specs.Sheet.{sheetRefusals, sheetData}
 use Rattle.pdo.specs.declared.PdoDirection.{PdoDirection}
 use Rattle.pdo.specs.Direction.{usageOf}
-use Rattle.pdo.specs.Bits.{Piece, byCoe, pathKind, piecesFrom, piecesOf}
+use Rattle.pdo.specs.Bits.{pathKind, piecesFrom, piecesOf}
 use Rattle.pdo.proofs.Lacking.{SameBits}
 use Rattle.area.specs.Area.{entriesOf, flat}
 use Rattle.channels.specs.Channels.{channelsAfter}
 use Rattle.passes.specs.declared.Configured.{Configured}
-use Rattle.passes.specs.Use.{own, given, coeEntry, usesOf, total, sizeOf}
+use Rattle.passes.specs.Use.{usesOf, sizeOf}
 use Rattle.passes.specs.Entries.{Planned, planned, entryRefusals, entryArea}
 use Rattle.passes.specs.Pass.{notAreas, someTooMany, noEntry, wantedRefusals, dataPass, dataSize, entriesAfter, channelAreaAfter, Configures, segmentAlone, offsetAfter, Passes}
 
@@ -36,18 +34,15 @@ module _ (sheet ws vs : List ℕ) (r : PdoDirection) (same : SameBits (sheetData
 
   pub size-same : sizeOf d ws r ≡ sizeOf d vs r
   unfolding sizeOf
-  size-same = λ i. total (own (pieces-same i))
+  size-same = rw pieces-same
 
   pub wanted-same : wantedRefusals d ws r ≡ wantedRefusals d vs r
   unfolding someTooMany noEntry
-  wanted-same =
-      λ i.
-      when 6 (someOf (λ (p : Piece). tooManyBits (p .bits)) (pieces-same i))
-      ∷ when 7 (byCoe d && (someOf (λ (p : Piece). ltb 0 (p .bits)) (pieces-same i) && eqb (coeEntry d r) (length (d .usages)))) ∷ []
+  wanted-same = rw pieces-same
 
   uses-same : usesOf d ws r ≡ usesOf d vs r
   unfolding usesOf
-  uses-same = λ i. cond (byCoe d) (given (λ number. coeEntry d r) (pieces-same i)) (own (pieces-same i))
+  uses-same = rw pieces-same
 
   -- the size in bytes of each image
   sizes-same : dataSize d ws r ≡ dataSize d vs r
