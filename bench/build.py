@@ -154,6 +154,19 @@ def probed(data):
     return head + sheet + table
 
 
+def in_portions(data, size):
+    """The same for the letter H: the sheet taken so many times in portions of so many bytes, and read at the end."""
+    sheet = data[6:]
+    counts = len(sheet), 0, 0, 0
+    room, size = len(sheet).to_bytes(2, "big"), size.to_bytes(4, "big")
+    head = b"H\0" + room + size + data[0:4] + size + bytes(4) + b"".join(count.to_bytes(2, "big") for count in counts)
+    return head + sheet
+
+
+def c_portions(size):
+    return c_program(f"portions-{size}", f"-DPORTION={size}")
+
+
 def probe_answer(text):
     """What the probe answers where C says this: both segments, or the refusal."""
     *_, last = lines = text.splitlines()

@@ -1,10 +1,15 @@
 /* A planner in plain C, written from document 01: the yardstick that bench/count holds the others to.
    Input and answer are those of README.md. Where READ_IN_EACH_PASS is defined, each pass reads the sheet itself, as entry
-   points do that take a sheet; otherwise a plan reads it once. */
+   points do that take a sheet; otherwise a plan reads it once. Where PORTION isn't 0, nothing is planned: the sheet is taken into
+   room in portions of so many bytes (document 02, 1/13), and read at the end. */
 #include <stdbool.h>
 #include <stdint.h>
 #include <stdio.h>
 #include <string.h>
+
+#ifndef PORTION
+#define PORTION 0
+#endif
 
 enum {
     MANAGERS = 16,
@@ -395,6 +400,35 @@ static __attribute__((noinline)) void plan(bool last)
     }
 }
 
+/* ---- the sheet in portions */
+
+static struct {
+    uint8_t room[2 + MOST_FOLLOWING];
+    size_t held;
+    bool surplus;
+} arrival;
+
+static __attribute__((noinline)) void take(const uint8_t *portion, size_t length)
+{
+    size_t left = sizeof arrival.room - arrival.held;
+    size_t n = length < left ? length : left;
+    memcpy(arrival.room + arrival.held, portion, n);
+    arrival.held += n;
+    arrival.surplus |= n < length;
+}
+
+/* The whole sheet once, from its first portion; the last time its end is said. */
+static void arrive(bool last)
+{
+    arrival.held = 0;
+    arrival.surplus = false;
+    for (size_t at = 0; at < input.length; at += PORTION)
+        take(input.sheet + at, input.length - at < PORTION ? input.length - at : PORTION);
+    int number = arrival.surplus ? 2 : read_sheet(arrival.room, arrival.held, &device);
+    if (last)
+        printf(number ? "r%d\n" : "ok\n", number);
+}
+
 /* How often to plan, from the head of the input; the table and the sheet are set. */
 static bool read_input(uint32_t *times)
 {
@@ -422,7 +456,10 @@ int main(void)
         return 2;
     }
     while (times-- > 0) {
-        plan(times == 0);
+        if (PORTION)
+            arrive(times == 0);
+        else
+            plan(times == 0);
         /* each plan is made anew: the compiler may keep nothing of the one before */
         __asm__ volatile("" ::: "memory");
     }

@@ -115,4 +115,7 @@ REFUSED = [
     Row("refused 4: 16 KiB, its last byte is missing", with_length(coe(16 * KIB, MANY)[:-1])),
     Row("refused 7: 16 KiB, no FMMU of the usage", coe(16 * KIB, MANY, usages=(0, 0))),
 ]
+# the longest sheet in portions of so many bytes, and at once
+PORTIONS = [1, 16, 4096, 16386]
+IN_PORTIONS = Row("the longest sheet in portions", coe(16 * KIB, MANY))
 ROWS = SMALL + BY_LENGTH + BY_PDOS + EEPROM + TABLES + REFUSED

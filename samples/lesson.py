@@ -141,6 +141,7 @@ CALLS = [
     ("translate with an enabled input entry of bits 0 to 0", Request("T", fmmus=area(entry(0, 0, 0, bits=(0, 0, 0))))),
     ("PdiSegment::fmt of (empty) into room of 6 bytes", Request("s", room=6)),
     ("Fmmu::pack_to_slice of a record with start bit 8", Request("W", room=16, fmmus=START_BIT_8)),
+    ("portions::end with room of 16,385 bytes", Request("t", room=16_385)),
 ]
 
 

@@ -18,6 +18,7 @@ from pathlib import Path
 
 import model
 from build import SAMPLE, area, coe, entry, on_coe
+from portions import KEPT
 from stream import BadRequest, Request, requests
 
 ROOT = Path(__file__).resolve().parent.parent
@@ -82,7 +83,7 @@ def parts():
     yield between("all at their most", longest("R"), "refused 1")
     past = {"room": ROOM + 1, "sheet": bytes(SHEET + 1), "fmmus": bytes(FMMUS + 1), "channels": bytes(CHANNELS + 1)}
     past["table"] = last[:1] + last
-    for letter in "sprz":
+    for letter in "sprtHz":
         for part, value in past.items():
             yield refused(f"{letter}, {part} past its limit", Request(letter, **{part: value}).bytes() + GOOD)
 
@@ -130,9 +131,55 @@ def refusals():
     yield between("no such letter, with parts", strange, "no such entry point")
 
 
+# calls of t, all but the first cut short, with their answers; a room of 0x4002 bytes is enough, one of 0x4001 isn't
+CUT_CALLS = {
+    "4002 0000": "ok/0/0 refused 2 -",
+    "40": "r14/0/0 refused 2 -",
+    "41": "ok/0/0 refused 2 -",
+    "4002": "ok/0/0 refused 2 -",
+    "4002 01": "ok/0/0 refused 2 -",
+    "4002 0003": "ok/0/0 refused 2 -",
+    "4002 0003 0102": "ok/2/0 refused 2 0 0102",
+    "4002 0001 01 40": "ok/1/0 r14/1/0 refused 2 0 01",
+    "4002 0001 01 4001 0001": "ok/1/0 r14/1/0 refused 2 0 01",
+}
+
+
+def calls():
+    """Calls of t that are cut short, and its numbers at their most."""
+    for text, line in CUT_CALLS.items():
+        yield between(f"the calls {text}", Request("t", room=KEPT, sheet=bytes.fromhex(text)), line)
+    yield between("no call and no room", Request("t"), "refused 14 -")
+    one = bytes.fromhex("ffff 0001 07")
+    yield between("a call's room at its most", Request("t", room=ROOM, sheet=one), "ok/1/0 refused 2 0 07")
+    many = "r14/0/0 " * (SHEET // 4)  # all of them in no room, with no byte
+    yield between("the most calls", Request("t", room=ROOM, sheet=bytes(SHEET)), many + "refused 2 -")
+    whole = bytes.fromhex("4002 ffff").ljust(SHEET, b"\7")
+    yield between("the longest portion", Request("t", room=KEPT, sheet=whole), f"ok/{KEPT}/1 refused 2 0 {'07' * KEPT}")
+    behind = Request("t", b=FMMUS, room=KEPT, sheet=one, fmmus=bytes(FMMUS))
+    yield between("a byte behind the longest FMMU part", behind, f"ok/{FMMUS + 1}/0 refused 2 {FMMUS} 07")
+    made_up = Request("t", 255, KEPT, 1, 2, sheet=one)
+    yield between("both halves of held", made_up, "ok/4294967298/1 refused 2 -")
+    yield between("held at its most", made_up._replace(a=LAST, b=LAST), f"ok/{2**64 - 1}/1 refused 2 -")
+    yield between("calls under times", Request("t", c=7, times=3, room=KEPT, sheet=one), "7: ok/1/0 refused 2 0 07")
+
+
+def in_portions():
+    """The numbers of H at their limits and past the sheet's end."""
+    asked, accepted = Request("H", 1, ROOM, 1, c=1, sheet=SAMPLE), "same ok 58/0 0"
+    for part, value in (("a", 0), ("a", LAST), ("b", 0), ("b", 3), ("c", 0), ("c", 58), ("c", 59), ("c", LAST)):
+        yield between(f"in portions, {part} is {value}", asked._replace(**{part: value}), accepted)
+    yield between("cut at every place", asked._replace(c=0, times=60), f"0: {accepted}")
+    yield between("cut past the last value", asked._replace(c=LAST - 1, times=4), f"{LAST - 1}: {accepted}")
+    for room, line in ((0, "differ r14 0/0 0"), (KEPT - 1, "differ r14 0/0 0"), (KEPT, accepted)):
+        yield between(f"in portions, room {room}", asked._replace(room=room), line)
+    yield between("no sheet in portions", asked._replace(sheet=b""), "same r2 0/0 0")
+    yield between("the longest sheet in portions", asked._replace(sheet=bytes(SHEET)), f"same r2 {KEPT}/1 0")
+
+
 def streams():
     """Each stream with its name and the lines that answer it."""
-    for group in (cut_short, parts, records, repetitions, refusals):
+    for group in (cut_short, parts, records, repetitions, refusals, calls, in_portions):
         yield from group()
 
 

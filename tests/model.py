@@ -1,5 +1,5 @@
 #!/usr/bin/env python3
-"""Answers the requests of docs/PROBE.md from document 01 alone: what crates/probe must write.
+"""Answers the requests of docs/PROBE.md from documents 01 and 02 alone: what crates/probe must write.
 
 Run `python3 tests/model.py < crates/probe/stdin > crates/probe/stdout` to make the stored answers again.
 """
@@ -7,10 +7,11 @@ Run `python3 tests/model.py < crates/probe/stdin > crates/probe/stdout` to make 
 import sys
 
 import planning
+import portions
 import registers as reg
 from registers import LIMIT, Refused
 from sheet import COE, COMPLETE_ACCESS, MAILBOX, read_sheet
-from stream import BadRequest, channel_record, fmmu_record, requests
+from stream import BadRequest, calls, channel_record, fmmu_record, requests
 
 
 def listed(values):
@@ -54,8 +55,7 @@ def control_answer(byte):
     return byte_answer(reg.CONTROL, bytes([byte]))
 
 
-def sheet_answer(data):
-    sheet = read_sheet(data)
+def device_text(sheet):
     flags = [sheet.flag(flag) for flag in (MAILBOX, COE, COMPLETE_ACCESS)]
     managers = [f"{m.start}/{m.control & 0x7F:02x}/{m.enable}/{m.usage}" for m in sheet.managers]
     return listed(
@@ -94,10 +94,10 @@ def count_answer(q):
     return f"{manager} {byte} {or_none(address)}"
 
 
-def side(address):
-    """A device address by one of the two ways, or its refusal."""
+def side(call):
+    """What one of two calls that are compared answers, or its refusal."""
     try:
-        return or_none(address())
+        return call()
     except Refused as refused:
         return f"r{refused.args[0]}"
 
@@ -107,7 +107,8 @@ def both_answer(q):
         found = planning.count(q.write, q.a, q.sheet, q.table, q.c)
         return None if found is None else found[2]
 
-    translated, counting = side(lambda: planning.translate(q.write, q.fmmus, q.c)), side(counted)
+    translated = side(lambda: or_none(planning.translate(q.write, q.fmmus, q.c)))
+    counting = side(lambda: or_none(counted()))
     return "same" if translated == counting else f"differ {translated} {counting}"
 
 
@@ -117,6 +118,70 @@ def again_answer(q):
         return "none"
     inputs, outputs, _, _ = planning.plan(q.sheet, q.table)
     return listed([*inputs, *outputs])
+
+
+# ---- a sheet that comes in portions
+
+BUFFER = 20_480  # bytes; the letter t lends its front
+
+
+def handed_over(state, portion, room):
+    """What a portion's call answers, and the state behind it: where it refuses, the one that it was given."""
+    try:
+        return "ok", portions.take(state, portion, room)
+    except Refused as refused:
+        return f"r{refused.args[0]}", state
+
+
+def state_text(state):
+    return f"{state.held}/{int(state.surplus)}"
+
+
+def ended(state, room):
+    try:
+        return device_text(portions.end(state, room))
+    except Refused as refused:
+        return f"refused {refused.args[0]}"
+
+
+def written(before, after):
+    """The first byte that changed, with its place, up to the last."""
+    changed = [place for place, (old, new) in enumerate(zip(before, after)) if old != new]
+    return f"{changed[0]} {after[changed[0] : changed[-1] + 1].hex()}" if changed else "-"
+
+
+def calls_answer(q):
+    state = portions.State(q.a * 2**32 + q.b, q.write != 0)
+    buffer = bytearray(q.fmmus.ljust(BUFFER, b"\xff"))
+    before, items = bytes(buffer), []
+    for size, portion in calls(q.sheet):
+        answer, state = handed_over(state, portion, memoryview(buffer)[:size])
+        items.append(f"{answer}/{state_text(state)}")
+    items.append(ended(state, memoryview(buffer)[: q.room]))
+    return listed([*items, written(before, buffer)])
+
+
+def cut(q):
+    """The sheet of the letter H in portions: the first, the later ones, and an empty one behind each if asked."""
+    rest = q.sheet[q.c :]
+    size = q.a or len(rest)
+    later = [rest[at : at + size] for at in range(0, len(rest), max(1, size))]
+    for portion in [q.sheet[: q.c], *later]:
+        yield portion
+        if q.write:
+            yield b""
+
+
+def portions_answer(q):
+    """Done over and over, all of it answers as once."""
+    state, room = portions.State(), bytearray(b"\xff" * q.room)
+    for portion in cut(q):
+        _, state = handed_over(state, portion, room)
+    at_once, at_the_end = side(lambda: read_sheet(q.sheet)), side(lambda: portions.end(state, room))
+    right = q.sheet[: state.held].ljust(q.room, b"\xff")[: q.room]
+    wrong = 0 if room == right else sum(new != old for new, old in zip(room, right))
+    same, told = at_the_end == at_once, at_the_end if isinstance(at_the_end, str) else "ok"
+    return f"{'same' if same else 'differ'} {told} {state_text(state)} {wrong}"
 
 
 ANSWERS = {
@@ -135,7 +200,7 @@ ANSWERS = {
     "k": lambda q: control_answer(q.c % 256),
     "j": lambda q: byte_answer(reg.STATUS, bytes([q.c % 256])),
     "e": lambda q: byte_answer(reg.ENABLE, (q.c % 65_536).to_bytes(2, "little")),
-    "d": lambda q: sheet_answer(q.sheet),
+    "d": lambda q: device_text(read_sheet(q.sheet)),
     "m": mailbox_answer,
     "p": pass_answer,
     "T": lambda q: or_none(planning.translate(q.write, q.fmmus, q.c)),
@@ -143,6 +208,8 @@ ANSWERS = {
     "A": both_answer,
     "L": lambda q: "\n".join(planning.lockerplan(q.sheet)),
     "B": again_answer,
+    "t": calls_answer,
+    "H": portions_answer,
 }
 
 

@@ -10,6 +10,7 @@ import sys
 from pathlib import Path
 
 import ask_passes
+import ask_portions
 import ask_registers
 import ask_sheets
 import ask_sides
@@ -67,7 +68,8 @@ def others():
 
 def ask():
     """Each request with its name, in the order of the stream."""
-    for part in (ask_registers.ask, ask_sheets.ask, ask_passes.ask, ask_sides.ask, lessons, programs, crate, others):
+    files = (ask_registers, ask_sheets, ask_portions, ask_passes, ask_sides)
+    for part in (*(file.ask for file in files), lessons, programs, crate, others):
         yield from part()
 
 

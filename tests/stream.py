@@ -5,7 +5,7 @@ from typing import NamedTuple
 from registers import Channel, Fmmu
 
 HEAD = [1, 1, 2, 4, 4, 4, 4, 2, 2, 2, 2]  # bytes of each number of a request's head
-MOST = [512, 16_387, 256, 512, 512]  # room, bytes of the sheet, records of the table, bytes of the two parts
+MOST = [20_480, 20_480, 256, 512, 512]  # room, bytes of the sheet, records of the table, bytes of the two parts
 FMMU_RECORD = [4, 2, 1, 1, 2, 1, 1, 1, 1]
 CHANNEL_RECORD = [2, 2] + [1] * 17
 
@@ -73,6 +73,14 @@ def requests(stream):
         sheet, records, fmmus, channels = [take(stream, n) for n in (sheet, 3 * table, fmmus, channels)]
         table = [tuple(numbers(records[i : i + 3], [2, 1])) for i in range(0, len(records), 3)]
         yield Request(chr(letter), write, room, a, b, c, times, sheet, table, fmmus, channels)
+
+
+def calls(data):
+    """The calls of the letter t, each the length of its room and its portion; what is cut short lacks zeros or bytes."""
+    while data:
+        room, size = numbers(data[:4].ljust(4, b"\0"), [2, 2])
+        yield room, data[4 : 4 + size]
+        data = data[4 + size :]
 
 
 def fmmu_record(data):

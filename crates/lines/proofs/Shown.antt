@@ -3,10 +3,9 @@
 use mathlib.Core.Path.{_≡_, refl, sym, _∙_, ap}
 use mathlib.Core.Bool.{Bool, true, false, cond}
 use mathlib.Core.List.{List, [], _∷_, _++_}
-use Prim.Native.Nat.{ℕ, zero, suc, _≤_, min}
-use native.Mathlib.Nat.{zero-min, suc-min-suc}
+use Prim.Native.Nat.{ℕ, _≤_, min}
 use lib.ListN.{length, take, drop}
-use lib.Seq.{take-nil, take-append-seam}
+use lib.Seq.{take-append-seam}
 use native.Mathlib.Omega.{arith}
 use lib.Dec.{ltb}
 use borrow.Author.Tests.{le-ltb, ltb-false}
@@ -16,15 +15,10 @@ use Rattle.wire.specs.Text.{Page, Types}
 use Rattle.wire.specs.declared.Written.{Written}
 use Rattle.wire.specs.declared.Written.the-variants.{Len, Refused}
 use Rattle.wire.proofs.Copied.{over-front}
+use Rattle.wire.proofs.Lists.{take-least}
 use Rattle.wire.proofs.Order.{never}
 use Rattle.wire.proofs.Typing.{then, types}
 use Rattle.lines.specs.Text.{line, shown}
-
--- as much of a list as it has
-take-least : (n : ℕ) (l : List ℕ) → take (min n (length l)) l ≡ take n l
-take-least zero l = rw zero-min refl
-take-least (suc n) [] = take-nil (min (suc n) 0)
-take-least (suc n) (x ∷ l) = rw suc-min-suc (ap (λ (t : List ℕ). x ∷ t) (take-least n l))
 
 module _ (l : List ℕ) (n m : ℕ) {w : Written} {p q r : Page} where
   -- the front of a text, then the newline

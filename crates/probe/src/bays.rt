@@ -16,6 +16,7 @@ use pdo::Oversampling;
 use pdo::PdoDirection;
 use sheet::Answer;
 use sheet::Device;
+use sheet::SheetRead;
 use sheet::SyncManager;
 use translation::Reached;
 use translation::Translated;
@@ -69,14 +70,18 @@ fn device(d: Device) {
     say::item(d.p as u64);
 }
 
-pub fn read(request: &[u8]) {
-    let read = sheet::read(parts::sheet(request));
+// What reading a sheet answered.
+pub fn tell_read(read: SheetRead) {
     let answer = read.answer;
     let d = read.device;
     match answer {
         Answer::Refused(number) => say::refuse(number),
         Answer::Accepted => device(d),
     }
+}
+
+pub fn read(request: &[u8]) {
+    tell_read(sheet::read(parts::sheet(request)));
 }
 
 // A mailbox: address, size, sync manager.

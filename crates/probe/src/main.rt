@@ -1,4 +1,5 @@
 // Answers requests for every entry point of the library: docs/PROBE.md says how a request looks, and what is answered.
+mod arrivals;
 mod bays;
 mod numbers;
 mod parts;
@@ -16,6 +17,7 @@ fn line_of(letter: u8, request: &[u8], c: u32) -> Line {
         b'T' => bays::translated(bays::translate(request, c)),
         b'C' => bays::counted(bays::count(request, c)),
         b'A' => bays::agree(bays::translate(request, c), bays::count(request, c)),
+        b'H' => arrivals::beside(request, c),
         _ => numbers::answer(
             letter,
             parts::number4(request, 4),
@@ -70,6 +72,7 @@ fn answer(letter: u8, request: &[u8], c: u32, times: u32) {
         b'R' => records::fmmu_read(request),
         b'Q' => records::channel_read(request),
         b'd' => bays::read(request),
+        b't' => arrivals::calls(request),
         b'm' => bays::mailboxes(request),
         b'p' => bays::pass(request),
         b'B' => bays::again(request),
@@ -89,7 +92,7 @@ fn respond(request: &[u8]) {
 
 // Whether there is room for what is asked.
 fn fits(room: u16, sheet: u16, records: u16, fmmus: u16, channels: u16) -> bool {
-    room <= 512 && sheet <= 16387 && records <= 256 && fmmus <= 512 && channels <= 512
+    room <= 20480 && sheet <= 20480 && records <= 256 && fmmus <= 512 && channels <= 512
 }
 
 // Whether a record's part has the record's length; images and areas may have any.
@@ -150,8 +153,8 @@ fn serve(request: &mut [u8]) -> bool {
 }
 
 fn main() {
-    // The longest request: a head of 28 bytes, a sheet of 16,387, a table of 768 and both areas of 512.
-    let mut request = [0u8; 18207];
+    // The longest request: a head of 28 bytes, a sheet of 20,480, a table of 768 and both areas of 512.
+    let mut request = [0u8; 22300];
     let mut turns = u64::MAX;
     while 0 < turns && serve(&mut request) {
         turns -= 1;

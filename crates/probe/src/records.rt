@@ -188,7 +188,7 @@ fn filler(image: bool) -> u8 {
 // The entry points that are lent room, filled with 0xff first for an image and with `~` for a text.
 pub fn roomed(letter: u8, request: &[u8]) {
     let image = writes_image(letter);
-    let mut space = [filler(image); 512];
+    let mut space = [filler(image); 20480];
     let room = parts::front_mut(&mut space, parts::number2(request, 2) as usize);
     let segment = PdiSegment {
         start: parts::number4(request, 4),

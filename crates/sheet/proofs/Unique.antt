@@ -8,8 +8,8 @@ use Rattle.wire.proofs.Pins.{Pins, same, same-by}
 use Rattle.sheet.specs.declared.Answer.{Answer}
 use Rattle.sheet.specs.declared.Answer.the-variants.{Accepted, Refused}
 use Rattle.sheet.specs.declared.SheetRead.{SheetRead}
-use Rattle.sheet.specs.Device.{dataOf}
-use Rattle.sheet.specs.Sheet.{answerOf, ReadsAs}
+use Rattle.sheet.specs.Device.{Data, dataOf}
+use Rattle.sheet.specs.Sheet.{answerOf, Reads}
 use Rattle.sheet.proofs.check.Reads as check
 use Rattle.sheet.proofs.has_mailbox.Reads as has-mailbox
 use Rattle.sheet.proofs.coe_protocol.Reads as coe-protocol
@@ -21,9 +21,10 @@ use Rattle.sheet.proofs.usage_of.Reads as usage-of
 use Rattle.sheet.proofs.start_of.Reads as start-of
 use Rattle.sheet.proofs.manager.Reads as manager
 use Rattle.sheet.proofs.read.Reads as read
+use Rattle.sheet.proofs.refused.Reads as refusing
 
 -- the number determines the answer
-abbrev answer-back : {A : Type 0} → Outcome A → Answer
+abbrev pub answer-back : {A : Type 0} → Outcome A → Answer
 answer-back (refused n) = Refused n
 answer-back (accepted x) = Accepted
 
@@ -59,7 +60,7 @@ pub manager-pins : Pins manager.Post (λ κs r s. r)
 manager-pins κs a x y s t p q = same p q
 
 -- of reading: its number, and every field of the device
-same-read : (s : List ℕ) (x y : SheetRead) → ReadsAs s x → ReadsAs s y → x ≡ y
+pub same-read : {o : Outcome Data} (s : List ℕ) (x y : SheetRead) → Reads o s x → Reads o s y → x ≡ y
 same-read s x y p q =
     let a : x .answer ≡ y .answer =
     sym (answer-determined (x .answer) (dataOf (x .device) s)) ∙ ap answer-back (same (p .says) (q .says)) ∙ answer-determined (y .answer) (dataOf (y .device) s) in
@@ -67,6 +68,9 @@ same-read s x y p q =
 
 pub read-pins : Pins read.Post (λ κs r s. r)
 read-pins κs a x y s t p q = same-read _ x y p q
+
+pub refused-pins : Pins refusing.Post (λ κs r s. r)
+refused-pins κs a x y s t p q = same p q
 
 pub front-count-pins : Pins front-count.Post (λ κs r s. r)
 front-count-pins κs a x y s t p q = same p q

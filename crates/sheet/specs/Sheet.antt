@@ -115,11 +115,15 @@ abbrev pub sheetReadOf : Outcome Device → SheetRead
 sheetReadOf (refused n) = record { answer = Refused n; device = noDevice }
 sheetReadOf (accepted d) = record { answer = Accepted; device = d }
 
--- the promise of reading: the grammar's answer, and nothing beside a refusal
+-- the promise of a call with this outcome that reads these bytes: its answer, and nothing beside a refusal
 abbrev pub deviceAfter : Outcome Data → List ℕ → Device
 deviceAfter (refused n) s = noDevice
 deviceAfter (accepted d) s = deviceOf s
 
-pub record ReadsAs (s : List ℕ) (r : SheetRead) : Type 0 where
-  pub says : answerOf (r .answer) (dataOf (r .device) s) ≡ readSheet s
-  pub holds : r .device ≡ deviceAfter (readSheet s) s
+pub record Reads (outcome : Outcome Data) (s : List ℕ) (r : SheetRead) : Type 0 where
+  pub says : answerOf (r .answer) (dataOf (r .device) s) ≡ outcome
+  pub holds : r .device ≡ deviceAfter outcome s
+
+-- the promise of reading: the grammar's answer
+abbrev pub ReadsAs : List ℕ → SheetRead → Type 0
+ReadsAs s r = Reads (readSheet s) s r

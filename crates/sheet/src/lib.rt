@@ -197,7 +197,7 @@ fn usages_of(sheet: &[u8], at: usize, f: usize) -> [u8; 16]
 }
 
 // A refusal has nothing beside it.
-fn refused(number: u8) -> SheetRead
+pub fn refused(number: u8) -> SheetRead
     ensures { λ r. ⌜ r ≡ sheetReadOf (Outcome.refused number) ⌝ }
 {
     SheetRead {

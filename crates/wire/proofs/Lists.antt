@@ -4,12 +4,12 @@ use mathlib.Core.Path.{_≡_, refl, sym, _∙_, ap}
 use mathlib.Core.Bool.{Bool, true, false, _||_, false≢true}
 use mathlib.Core.List.{List, [], _∷_, _++_}
 use mathlib.Core.Logic.{_⊎_, inl, inr}
-use Prim.Native.Nat.{ℕ, zero, suc, _+_, _-_, _<_}
-use native.Mathlib.Nat.{not-suc-le-zero, le-of-suc-le-suc, eq-or-lt-of-le}
+use Prim.Native.Nat.{ℕ, zero, suc, _+_, _-_, _<_, min}
+use native.Mathlib.Nat.{not-suc-le-zero, le-of-suc-le-suc, eq-or-lt-of-le, zero-min, suc-min-suc}
 use native.Mathlib.Numerals.{add-one}
 use native.Mathlib.Omega.{arith}
-use lib.ListN.{length, getD, set, replicate, length-append, List·getD-append}
-use lib.Seq.{set-at, append-snoc, getD-at}
+use lib.ListN.{length, getD, set, take, replicate, length-append, List·getD-append}
+use lib.Seq.{set-at, append-snoc, getD-at, take-nil}
 use Rattle.wire.specs.Lists.{listOf, someBelow}
 
 -- within the list it doesn't matter what would stand past its end
@@ -17,6 +17,12 @@ pub getD-any : {A : Type 0} (l : List A) (k : ℕ) (d e : A) → k < length l �
 getD-any [] k d e h = absurd (not-suc-le-zero h)
 getD-any (x ∷ l) zero d e h = refl
 getD-any (x ∷ l) (suc k) d e h = getD-any l k d e (le-of-suc-le-suc h)
+
+-- as much of a list as it has
+pub take-least : (n : ℕ) (l : List ℕ) → take (min n (length l)) l ≡ take n l
+take-least zero l = rw zero-min refl
+take-least (suc n) [] = take-nil (min (suc n) 0)
+take-least (suc n) (x ∷ l) = rw suc-min-suc (ap (λ (t : List ℕ). x ∷ t) (take-least n l))
 
 or-left : (a b : Bool) → a ≡ true → a || b ≡ true
 or-left true b e = refl

@@ -14,6 +14,7 @@ use Rattle.wire.proofs.flag.Reads as flag
 use Rattle.wire.proofs.bit_of.Reads as bit-of
 use Rattle.wire.proofs.wide.Reads as wide
 use Rattle.wire.proofs.byte_at.Reads as byte-at
+use Rattle.wire.proofs.front.Reads as front
 use Rattle.wire.proofs.le16.Reads as le16
 use Rattle.wire.proofs.le32.Reads as le32
 use Rattle.wire.proofs.be16.Reads as be16
@@ -55,6 +56,9 @@ wide-pins κs a x y s t p q = same (p .0) (q .0)
 
 pub byte-at-pins : Pins byte-at.Post (λ κs r s. r)
 byte-at-pins κs a x y s t p q = same p q
+
+pub front-pins : Pins front.Post (λ κs r s. now r)
+front-pins κs a x y s t p q = same p q
 
 pub le16-pins : Pins le16.Post (λ κs r s. r)
 le16-pins κs a x y s t p q = same p q

@@ -15,9 +15,9 @@ abbrev pub over : List ℕ → List ℕ → List ℕ
 over s room = take (min (length s) (length room)) s ++ drop (min (length s) (length room)) room
 
 -- what the room holds after a call with this outcome
-abbrev pub roomAfter : Outcome ℕ → List ℕ → List ℕ → List ℕ
+abbrev pub roomAfter : {A : Type 0} → Outcome A → List ℕ → List ℕ → List ℕ
 roomAfter (refused n) s room = room
-roomAfter (accepted n) s room = over s room
+roomAfter (accepted x) s room = over s room
 
 -- what the cases of `Written` say
 abbrev pub writtenOf : Written → Outcome ℕ

@@ -4,7 +4,7 @@ ghost use mathlib.Core.Path.{_≡_};
 ghost use mathlib.Core.Bool.{cond};
 ghost use mathlib.Core.List.{[], _∷_, _++_};
 ghost use Prim.Native.Nat.{_<_, _≤_, _^_, _/_, min};
-ghost use lib.ListN.{getD};
+ghost use lib.ListN.{getD, take};
 ghost use Rattle.wire.specs.Field.{bit, flagAt};
 ghost use Rattle.wire.specs.Number.{littleAt, littleOf, bigAt};
 ghost use Rattle.wire.specs.Room.{over, InRoom, textIn};
@@ -42,6 +42,16 @@ pub fn byte_at(bytes: &[u8], at: usize) -> u8
         return bytes[at];
     }
     0
+}
+
+// The front of a slice, as far as it goes.
+pub fn front(bytes: &[u8], count: usize) -> &[u8]
+    ensures { λ r. ⌜ now r ≡ take count (now (bytes .entry)) ⌝ }
+{
+    if bytes.len() < count {
+        return bytes;
+    }
+    &bytes[..count]
 }
 
 // Two bytes as a number, the low one first.

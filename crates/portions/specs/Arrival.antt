@@ -1,0 +1,106 @@
+-- The theorem of document 02, 1/13, in words of the calls: read this first. However a sheet is cut, the end answers what reading all that was taken answers.
+-- Each `promise` is the function's own `ensures`, at the values of the call: `Contracts` in proofs/ makes these records of the contracts.
+-- Assumes nothing.
+use mathlib.Core.Path.{_≡_}
+use mathlib.Core.Bool.{true, false}
+use mathlib.Core.List.{List, [], _∷_, _++_}
+use Prim.Native.Nat.{ℕ}
+use lib.ListN.{length, take}
+use Rattle.wire.specs.Outcome.{refused}
+use Rattle.wire.specs.Room.{over}
+use Rattle.sheet.specs.declared.Answer.{Answer}
+use Rattle.sheet.specs.declared.Answer.the-variants.{Accepted, Refused}
+use Rattle.sheet.specs.declared.SheetRead.{SheetRead}
+use Rattle.sheet.specs.Sheet.{sheetReadOf, ReadsAs}
+use Rattle.portions.specs.declared.State.{State}
+use Rattle.portions.specs.declared.Taken.{Taken}
+use Rattle.portions.specs.Portions.{begun, heldIn, shortRoom, Takes, Ends}
+
+-- a call of `take`: what it was handed and lent, what it answered, and what it left in the room
+pub record Call : Type 0 where
+  pub given : State
+  pub portion : List ℕ
+  pub room : List ℕ
+  pub answer : Taken
+  pub left : List ℕ
+  pub promise : Takes given portion room answer left
+
+-- a portion that is refused isn't taken
+abbrev pub takenBy : Answer → List ℕ → List ℕ
+takenBy Accepted portion = portion
+takenBy (Refused n) portion = []
+
+abbrev pub takenIn : Call → List ℕ
+takenIn c = takenBy (c .answer .answer) (c .portion)
+
+-- the taken portions joined
+abbrev pub joined : List Call → List ℕ
+joined [] = []
+joined (c ∷ cs) = takenIn c ++ joined cs
+
+-- where a list of calls stands: the state that was handed back last, and the bytes that the last call that took a portion left at the room's front
+pub record Standing : Type 0 where
+  pub state : State
+  pub bytes : List ℕ
+
+abbrev pub atFirst : Standing
+atFirst = record { state = begun; bytes = [] }
+
+abbrev pub bytesAfter : Answer → State → List ℕ → List ℕ → List ℕ
+bytesAfter Accepted st left bytes = heldIn st left
+bytesAfter (Refused n) st left bytes = bytes
+
+abbrev pub afterCall : Standing → Call → Standing
+afterCall w c = record { state = c .answer .state; bytes = bytesAfter (c .answer .answer) (c .answer .state) (c .left) (w .bytes) }
+
+abbrev pub afterCalls : Standing → List Call → Standing
+afterCalls w [] = w
+afterCalls w (c ∷ cs) = afterCalls (afterCall w c) cs
+
+-- nobody else writes the room: one that is enough begins with those bytes, whatever its length and whatever follows them
+abbrev pub Untouched : Standing → List ℕ → Type 0
+Untouched w room = shortRoom room ≡ false → heldIn (w .state) room ≡ w .bytes
+
+-- each call is handed the state that the one before handed back, and an untouched room
+abbrev pub InTurn : Standing → List Call → Type 0
+InTurn w [] = Unit {0}
+InTurn w (c ∷ cs) = (c .given ≡ w .state) × Untouched w (c .room) × InTurn (afterCall w c) cs
+
+-- any list of calls of `take`, from the first portion on, and the call of `end` behind them
+pub record Arrival : Type 0 where
+  pub calls : List Call
+  pub in-turn : InTurn atFirst calls
+  pub room : List ℕ
+  pub untouched : Untouched (afterCalls atFirst calls) room
+  pub read : SheetRead
+  pub promise : Ends (afterCalls atFirst calls .state) room read
+
+-- what each call leaves in its room: the joined bytes so far, at most 16,386 of them, and the rest as it was; where it is refused, the room as it was
+abbrev pub leftBy : Answer → List ℕ → List ℕ → List ℕ
+leftBy Accepted came room = over (take 16386 came) room
+leftBy (Refused n) came room = room
+
+abbrev pub RoomsHold : List ℕ → List Call → Type 0
+RoomsHold came [] = Unit {0}
+RoomsHold came (c ∷ cs) = (c .left ≡ leftBy (c .answer .answer) (came ++ takenIn c) (c .room)) × RoomsHold (came ++ takenIn c) cs
+
+-- the end answers for the joined portions what `sheet::read` promises of them, the same device data or the same refusal; its room, if enough, holds them, also
+-- where it refuses; a short room gives 14
+pub record Whole (a : Arrival) : Type 0 where
+  pub answer : shortRoom (a .room) ≡ false → ReadsAs (joined (a .calls)) (a .read)
+  pub held : afterCalls atFirst (a .calls) .state .held ≡ length (take 16386 (joined (a .calls)))
+  pub sheet : shortRoom (a .room) ≡ false → heldIn (afterCalls atFirst (a .calls) .state) (a .room) ≡ take 16386 (joined (a .calls))
+  pub rooms : RoomsHold [] (a .calls)
+  pub short : shortRoom (a .room) ≡ true → a .read ≡ sheetReadOf (refused 14)
+
+abbrev pub HoweverCut : Type 0
+HoweverCut = (a : Arrival) → Whole a
+
+-- one room throughout: each call, and the end, is lent it as the call before left it
+abbrev pub OneRoom : List ℕ → List Call → List ℕ → Type 0
+OneRoom room [] end = end ≡ room
+OneRoom room (c ∷ cs) end = (c .room ≡ room) × OneRoom (c .left) cs end
+
+-- it then holds the joined bytes, at most 16,386 of them, and its rest is as it was at the first call
+abbrev pub RestStays : Type 0
+RestStays = (a : Arrival) (room : List ℕ) → OneRoom room (a .calls) (a .room) → a .room ≡ over (take 16386 (joined (a .calls))) room
