@@ -1,3 +1,7 @@
 -- Laws that belong to no one function.
 pub mod Front
 pub mod Steps
+pub mod Whole
+pub mod Rest
+pub mod Contracts
+pub mod Unique

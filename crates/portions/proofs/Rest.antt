@@ -1,0 +1,58 @@
+-- One room throughout: it ends with the joined bytes over its front and the rest as it was; and then nobody else writes it.
+-- Assumes nothing.
+use mathlib.Core.Path.{_≡_, refl, sym, _∙_, ap, ap₂}
+use mathlib.Core.List.{List, [], _∷_, _++_, append-assoc, append-nil}
+use Prim.Native.Nat.{ℕ, _+_, _-_, _≤_, min}
+use native.Mathlib.Nat.{zero-min}
+use native.Mathlib.Omega.{arith}
+use lib.ListN.{length, take, drop, length-take, length-drop, length-append}
+use lib.Seq.{take-nil, drop-drop, drop-append-add}
+use Rattle.wire.specs.Room.{over}
+use Rattle.sheet.specs.declared.Answer.{Answer}
+use Rattle.sheet.specs.declared.Answer.the-variants.{Accepted, Refused}
+use Rattle.portions.specs.Arrival.{Call, takenBy, takenIn, joined, leftBy, RoomsHold, Arrival, OneRoom, RestStays}
+use Rattle.portions.proofs.Whole.{however-cut}
+
+-- writing over no less than was written before: as if that had not been
+over-over : (s t room : List ℕ) → length s ≤ length t → over t (over s room) ≡ over t room
+over-over s t room h =
+    let m = min (length s) (length room) in
+    let n = min (length t) (length room) in
+    let front : length (take m s) ≡ m = length-take m s ∙ (let z : min m (length s) ≡ m = omega arith in z) in
+    let long : length (over s room) ≡ length room =
+    length-append (take m s) (drop m room) ∙ ap₂ (λ (a b : ℕ). a + b) front (length-drop m room) ∙ (let z : m + (length room - m) ≡ length room = omega arith in z) in
+    let past : drop n (over s room) ≡ drop n room =
+    ap (λ (k : ℕ). drop k (over s room)) (let z : n ≡ length (take m s) + (n - m) = omega (arith, front) in z)
+    ∙ drop-append-add (take m s) (drop m room) (n - m)
+    ∙ drop-drop (n - m) m room
+    ∙ ap (λ (k : ℕ). drop k room) (let z : m + (n - m) ≡ n = omega arith in z) in
+    ap (λ (k : ℕ). take (min (length t) k) t ++ drop (min (length t) k) (over s room)) long ∙ ap (λ (l : List ℕ). take n t ++ l) past
+
+-- what came is no longer than what came with more behind it
+take-grows : (n : ℕ) (x y : List ℕ) → length (take n x) ≤ length (take n (x ++ y))
+take-grows n x y =
+    let a = length-take n x in
+    let b = length-take n (x ++ y) in
+    let c = length-append x y in
+    omega arith
+
+-- the room from call to call
+stays : (first came now : List ℕ) (cs : List Call) (end : List ℕ) → now ≡ over (take 16386 came) first → RoomsHold came cs → OneRoom now cs end
+    → end ≡ over (take 16386 (came ++ joined cs)) first
+stays first came now [] end e h o = o ∙ e ∙ ap (λ (l : List ℕ). over (take 16386 l) first) (sym (append-nil came))
+stays first came now (c ∷ cs) end e h o =
+    stays first (came ++ takenIn c) (c .left) cs end (go (c .answer .answer) (h .0)) (h .1) (o .1)
+    ∙ ap (λ (l : List ℕ). over (take 16386 l) first) (append-assoc came (takenIn c) (joined cs))
+  where
+    go : (a : Answer) → c .left ≡ leftBy a (came ++ takenBy a (c .portion)) (c .room) → c .left ≡ over (take 16386 (came ++ takenBy a (c .portion))) first
+    go Accepted p =
+        p
+        ∙ ap (λ (l : List ℕ). over (take 16386 (came ++ c .portion)) l) (o .0 ∙ e)
+        ∙ over-over (take 16386 came) (take 16386 (came ++ c .portion)) first (take-grows 16386 came (c .portion))
+    go (Refused n) p = p ∙ o .0 ∙ e ∙ ap (λ (l : List ℕ). over (take 16386 l) first) (sym (append-nil came))
+
+over-nothing : (room : List ℕ) → room ≡ over (take 16386 []) room
+over-nothing room = sym (ap (λ (l : List ℕ). over l room) (take-nil 16386) ∙ rw zero-min refl)
+
+pub rest-stays : RestStays
+rest-stays a room o = stays room [] room (a .calls) (a .room) (over-nothing room) (however-cut a .rooms) o
