@@ -3,5 +3,6 @@ pub mod Front
 pub mod Steps
 pub mod Whole
 pub mod Rest
+pub mod Cuts
 pub mod Contracts
 pub mod Unique

@@ -1,6 +1,7 @@
--- One room throughout: it ends with the joined bytes over its front and the rest as it was; and then nobody else writes it.
+-- One room throughout: nobody else writes it, and it ends with the joined bytes over its front and the rest as it was.
 -- Assumes nothing.
 use mathlib.Core.Path.{_≡_, refl, sym, _∙_, ap, ap₂}
+use mathlib.Core.Bool.{Bool, true, false, false≢true}
 use mathlib.Core.List.{List, [], _∷_, _++_, append-assoc, append-nil}
 use Prim.Native.Nat.{ℕ, _+_, _-_, _≤_, min}
 use native.Mathlib.Nat.{zero-min}
@@ -10,8 +11,16 @@ use lib.Seq.{take-nil, drop-drop, drop-append-add}
 use Rattle.wire.specs.Room.{over}
 use Rattle.sheet.specs.declared.Answer.{Answer}
 use Rattle.sheet.specs.declared.Answer.the-variants.{Accepted, Refused}
-use Rattle.portions.specs.Arrival.{Call, takenBy, takenIn, joined, leftBy, RoomsHold, Arrival, OneRoom, RestStays}
-use Rattle.portions.proofs.Whole.{however-cut}
+use Rattle.portions.specs.Portions.{heldIn, shortRoom}
+use Rattle.portions.specs.Arrival.{Call, takenBy, takenIn, joined, Standing, atFirst, bytesAfter, afterCall, afterCalls, Untouched, InTurn, Arrival, leftBy, RoomsHold, OneRoom, HandedOn, NobodyElse, RestStays}
+use Rattle.portions.proofs.Whole.{left, took, however-cut}
+
+-- writing over a room leaves its length
+pub length-over : (s room : List ℕ) → length (over s room) ≡ length room
+length-over s room =
+    let m = min (length s) (length room) in
+    let front : length (take m s) ≡ m = length-take m s ∙ (let z : min m (length s) ≡ m = omega arith in z) in
+    length-append (take m s) (drop m room) ∙ ap₂ (λ (a b : ℕ). a + b) front (length-drop m room) ∙ (let z : m + (length room - m) ≡ length room = omega arith in z)
 
 -- writing over no less than was written before: as if that had not been
 over-over : (s t room : List ℕ) → length s ≤ length t → over t (over s room) ≡ over t room
@@ -19,14 +28,12 @@ over-over s t room h =
     let m = min (length s) (length room) in
     let n = min (length t) (length room) in
     let front : length (take m s) ≡ m = length-take m s ∙ (let z : min m (length s) ≡ m = omega arith in z) in
-    let long : length (over s room) ≡ length room =
-    length-append (take m s) (drop m room) ∙ ap₂ (λ (a b : ℕ). a + b) front (length-drop m room) ∙ (let z : m + (length room - m) ≡ length room = omega arith in z) in
     let past : drop n (over s room) ≡ drop n room =
     ap (λ (k : ℕ). drop k (over s room)) (let z : n ≡ length (take m s) + (n - m) = omega (arith, front) in z)
     ∙ drop-append-add (take m s) (drop m room) (n - m)
     ∙ drop-drop (n - m) m room
     ∙ ap (λ (k : ℕ). drop k room) (let z : m + (n - m) ≡ n = omega arith in z) in
-    ap (λ (k : ℕ). take (min (length t) k) t ++ drop (min (length t) k) (over s room)) long ∙ ap (λ (l : List ℕ). take n t ++ l) past
+    ap (λ (k : ℕ). take (min (length t) k) t ++ drop (min (length t) k) (over s room)) (length-over s room) ∙ ap (λ (l : List ℕ). take n t ++ l) past
 
 -- what came is no longer than what came with more behind it
 take-grows : (n : ℕ) (x y : List ℕ) → length (take n x) ≤ length (take n (x ++ y))
@@ -56,3 +63,21 @@ over-nothing room = sym (ap (λ (l : List ℕ). over l room) (take-nil 16386) �
 
 pub rest-stays : RestStays
 rest-stays a room o = stays room [] room (a .calls) (a .room) (over-nothing room) (however-cut a .rooms) o
+
+-- what the next call and the end are lent is untouched
+untouched-left : (w : Standing) (c : Call) → Untouched (afterCall w c) (c .left)
+untouched-left w c e = go (shortRoom (c .room)) refl
+  where
+    go : (b : Bool) → shortRoom (c .room) ≡ b → heldIn (c .answer .state) (c .left) ≡ afterCall w c .bytes
+    go true s = absurd (false≢true (sym e ∙ ap shortRoom (left c s .room) ∙ s))
+    go false s = sym (ap (λ (a : Answer). bytesAfter a (c .answer .state) (c .left) (w .bytes)) (took c s .answer))
+
+in-one-room : (w : Standing) (room : List ℕ) (cs : List Call) (end : List ℕ) → Untouched w room → HandedOn (w .state) cs → OneRoom room cs end
+    → InTurn w cs × Untouched (afterCalls w cs) end
+in-one-room w room [] end u h o = (tt, λ e. ap (heldIn (w .state)) o ∙ u (ap shortRoom (sym o) ∙ e))
+in-one-room w room (c ∷ cs) end u h o =
+    let r = in-one-room (afterCall w c) (c .left) cs end (untouched-left w c) (h .1) (o .1) in
+    ((h .0, (λ e. ap (heldIn (w .state)) (o .0) ∙ u (ap shortRoom (sym (o .0)) ∙ e)), r .0), r .1)
+
+pub nobody-else : NobodyElse
+nobody-else room calls end h o = in-one-room atFirst room calls end (λ e. refl) h o

@@ -55,6 +55,7 @@ stored-fits st portion room h = go (16386 - st .held) refl
     none : (b : Bool) → (b ≡ true → length room < st .held) → (b ≡ false → st .held ≤ length room) → storedAt (st .held) [] room ≡ over (heldIn st room ++ []) room
     none true f g = stored-nowhere (st .held) room (f refl)
     none false f g = let e = g refl in stored-behind (st .held) [] room (omega arith)
+
     go : (k : ℕ) → 16386 - st .held ≡ k → storedAt (st .held) (take k portion) room ≡ over (heldIn st room ++ take k portion) room
     go zero e = none (ltb (length room) (st .held)) (ltb-true (length room) (st .held)) (ltb-false (length room) (st .held))
     go (suc k) e = let l = length-take (suc k) portion in stored-behind (st .held) (take (suc k) portion) room (omega arith)

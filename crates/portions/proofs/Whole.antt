@@ -3,6 +3,7 @@
 use mathlib.Core.Path.{_≡_, refl, sym, _∙_, ap, ap₂}
 use mathlib.Core.Bool.{Bool, true, false, _||_, false≢true}
 use mathlib.Core.List.{List, [], _∷_, _++_, append-assoc, append-nil}
+use mathlib.Core.Logic.{_⊎_, inl, inr}
 use Prim.Native.Nat.{ℕ, _+_, _-_, _<_, _≤_, min}
 use native.Mathlib.Omega.{arith}
 use lib.ListN.{length, take, drop, length-take, length-append}
@@ -37,12 +38,12 @@ answer-accepted Accepted x y e = refl
 answer-accepted (Refused m) x y e = absurd (never e)
 
 -- a call with a short room: refused, state and room as before
-record Left (c : Call) : Type 0 where
-  answer : c .answer .answer ≡ Refused 14
-  state : c .answer .state ≡ c .given
-  room : c .left ≡ c .room
+pub record Left (c : Call) : Type 0 where
+  pub answer : c .answer .answer ≡ Refused 14
+  pub state : c .answer .state ≡ c .given
+  pub room : c .left ≡ c .room
 
-left : (c : Call) → shortRoom (c .room) ≡ true → Left c
+pub left : (c : Call) → shortRoom (c .room) ≡ true → Left c
 left c e =
     let o = taking-short (c .given) (c .portion) (c .room) e in
     record {
@@ -52,12 +53,12 @@ left c e =
     }
 
 -- a call with enough room: what fits goes behind what is held
-record Took (c : Call) : Type 0 where
-  answer : c .answer .answer ≡ Accepted
-  state : c .answer .state ≡ stateWith (c .given) (c .portion)
-  room : c .left ≡ over (heldIn (c .given) (c .room) ++ fits (c .given) (c .portion)) (c .room)
+pub record Took (c : Call) : Type 0 where
+  pub answer : c .answer .answer ≡ Accepted
+  pub state : c .answer .state ≡ stateWith (c .given) (c .portion)
+  pub room : c .left ≡ over (heldIn (c .given) (c .room) ++ fits (c .given) (c .portion)) (c .room)
 
-took : (c : Call) → shortRoom (c .room) ≡ false → Took c
+pub took : (c : Call) → shortRoom (c .room) ≡ false → Took c
 took c e =
     let o = taking-enough (c .given) (c .portion) (c .room) e in
     record {
@@ -79,9 +80,11 @@ surplus-joined came portion fit e = go (ltb 16386 (length came)) (ltb-true 16386
   where
     all : length (came ++ portion) ≡ length came + length portion
     all = length-append came portion
+
     last : (b : Bool) → (b ≡ true → fit < length portion) → (b ≡ false → length portion ≤ fit) → length came ≤ 16386 → b ≡ ltb 16386 (length (came ++ portion))
     last true f g h = let l = f refl in sym (lt-ltb 16386 (length (came ++ portion)) (omega (arith, all, e)))
     last false f g h = let l = g refl in sym (le-ltb 16386 (length (came ++ portion)) (omega (arith, all, e)))
+
     go : (b : Bool) → (b ≡ true → 16386 < length came) → (b ≡ false → length came ≤ 16386) → b || ltb fit (length portion) ≡ ltb 16386 (length (came ++ portion))
     go true f g = let l = f refl in sym (lt-ltb 16386 (length (came ++ portion)) (omega (arith, all, e)))
     go false f g = last (ltb fit (length portion)) (ltb-true fit (length portion)) (ltb-false fit (length portion)) (g refl)
@@ -103,11 +106,11 @@ module _ (w : Standing) (came : List ℕ) (c : Call) (k : Keeps w came) (g : c .
       let st : c .answer .state ≡ w .state = l .state ∙ g in
       record {
         keeps =
-          record {
-            bytes = ap (λ (a : Answer). bytesAfter a (c .answer .state) (c .left) (w .bytes)) (l .answer) ∙ k .bytes ∙ ap (take 16386) (sym same);
-            held = ap (λ (s : State). s .held) st ∙ k .held ∙ ap (λ (x : List ℕ). length (take 16386 x)) (sym same);
-            surplus = ap (λ (s : State). s .surplus) st ∙ k .surplus ∙ ap (λ (x : List ℕ). ltb 16386 (length x)) (sym same);
-          };
+            record {
+              bytes = ap (λ (a : Answer). bytesAfter a (c .answer .state) (c .left) (w .bytes)) (l .answer) ∙ k .bytes ∙ ap (take 16386) (sym same);
+              held = ap (λ (s : State). s .held) st ∙ k .held ∙ ap (λ (x : List ℕ). length (take 16386 x)) (sym same);
+              surplus = ap (λ (s : State). s .surplus) st ∙ k .surplus ∙ ap (λ (x : List ℕ). ltb 16386 (length x)) (sym same);
+            };
         room = l .room ∙ sym (ap (λ (a : Answer). leftBy a (came ++ takenIn c) (c .room)) (l .answer));
       }
 
@@ -136,18 +139,18 @@ module _ (w : Standing) (came : List ℕ) (c : Call) (k : Keeps w came) (g : c .
       let most = length-take 16386 all in
       record {
         keeps =
-          record {
-            bytes =
-              ap (λ (a : Answer). bytesAfter a (c .answer .state) (c .left) (w .bytes)) (t .answer)
-              ∙ ap₂ (λ (n : ℕ) (x : List ℕ). take n x) many room
-              ∙ front-over (take 16386 all) (c .room) (omega arith);
-            held = many;
-            surplus =
-              ap (λ (s : State). s .surplus) (t .state)
-              ∙ ap (λ (b : Bool). b || ltb (length fit) (length (c .portion))) (ap (λ (s : State). s .surplus) g ∙ k .surplus)
-              ∙ surplus-joined came (c .portion) (length fit) size
-              ∙ ap (λ (p : List ℕ). ltb 16386 (length (came ++ p))) (sym taken);
-          };
+            record {
+              bytes =
+                  ap (λ (a : Answer). bytesAfter a (c .answer .state) (c .left) (w .bytes)) (t .answer)
+                  ∙ ap₂ (λ (n : ℕ) (x : List ℕ). take n x) many room
+                  ∙ front-over (take 16386 all) (c .room) (omega arith);
+              held = many;
+              surplus =
+                  ap (λ (s : State). s .surplus) (t .state)
+                  ∙ ap (λ (b : Bool). b || ltb (length fit) (length (c .portion))) (ap (λ (s : State). s .surplus) g ∙ k .surplus)
+                  ∙ surplus-joined came (c .portion) (length fit) size
+                  ∙ ap (λ (p : List ℕ). ltb 16386 (length (came ++ p))) (sym taken);
+            };
         room = room ∙ sym (ap (λ (a : Answer). leftBy a all (c .room)) (t .answer));
       }
 
@@ -177,9 +180,6 @@ steps w came (c ∷ cs) k t =
 nothing : Keeps atFirst []
 nothing = record { bytes = sym (take-nil 16386); held = ap length (sym (take-nil {A = ℕ} 16386)); surplus = sym (le-ltb 16386 0 (omega arith)) }
 
-kept : (a : Arrival) → Keeps (afterCalls atFirst (a .calls)) (joined (a .calls))
-kept a = steps atFirst [] (a .calls) nothing (a .in-turn) .0
-
 -- more than 16,386 bytes are no sheet
 too-long : (s : List ℕ) → 16386 < length s → readSheet s ≡ refused 2
 unfolding readSheet
@@ -190,41 +190,54 @@ too-long s h = go (wrongLength s) refl
     go false e = let l = long s e in absurd (omega arith)
 
 -- of a refusal the bytes are all the same
-refused-by : {o : Outcome Data} {n : ℕ} {s : List ℕ} (t : List ℕ) {r : SheetRead} → o ≡ refused n → Reads o s r → Reads (refused n) t r
-refused-by {o} {n} {s} t {r} e x =
+pub reads-from : {o : Outcome Data} {n : ℕ} {s t : List ℕ} {r : SheetRead} → (s ≡ t) ⊎ (o ≡ refused n) → Reads o s r → Reads o t r
+reads-from (inl q) x = reads-by refl q x
+reads-from {o} {n} {s} {t} {r} (inr e) x =
     let a : r .answer ≡ Refused n = answer-refused (r .answer) (dataOf (r .device) s) n (x .says ∙ e) in
     record {
-      says = ap (λ (y : Answer). answerOf y (dataOf (r .device) t)) a;
-      holds = x .holds ∙ ap (λ (y : Outcome Data). deviceAfter y s) e;
+      says = ap (λ (y : Answer). answerOf y (dataOf (r .device) t)) a ∙ sym e;
+      holds = x .holds ∙ ap (λ (y : Outcome Data). deviceAfter y s) e ∙ sym (ap (λ (y : Outcome Data). deviceAfter y t) e);
     }
 
--- what the end answers, by how much came
-ends : (st : State) (room came bytes : List ℕ) {r : SheetRead} → Keeps (record { state = st; bytes = bytes }) came → shortRoom room ≡ false → heldIn st room ≡ bytes → Ends st room r → ReadsAs came r
-ends st room came bytes {r} k e u x = go (ltb 16386 (length came)) refl
+-- the end's outcome is the reader's for all that came; and so are the bytes, unless that is 2
+pub record Ending (st : State) (room came : List ℕ) : Type 0 where
+  pub outcome : ending st room ≡ readSheet came
+  pub bytes : (heldIn st room ≡ came) ⊎ (readSheet came ≡ refused 2)
+
+ending-of : (st : State) (room came bytes : List ℕ) → Keeps (record { state = st; bytes = bytes }) came → shortRoom room ≡ false → heldIn st room ≡ bytes → Ending st room came
+ending-of st room came bytes k e u = go (ltb 16386 (length came)) refl
   where
-    go : (b : Bool) → ltb 16386 (length came) ≡ b → ReadsAs came r
+    go : (b : Bool) → ltb 16386 (length came) ≡ b → Ending st room came
     go true f =
+        let two = too-long came (ltb-true 16386 (length came) f) in
         let many : tooMany st ≡ true = rw (k .surplus ∙ f) refl in
-        reads-by (sym (too-long came (ltb-true 16386 (length came) f))) refl (refused-by came (ending-many st room e many) x)
+        record { outcome = ending-many st room e many ∙ sym two; bytes = inr two }
     go false f =
         let few = ltb-false 16386 (length came) f in
         let all : take 16386 came ≡ came = take-all 16386 came few in
         let none : ltb 16386 (st .held) ≡ false = let h = k .held ∙ ap length all in le-ltb 16386 (st .held) (omega arith) in
         let right : tooMany st ≡ false = rw (k .surplus ∙ f, none) refl in
         let whole : heldIn st room ≡ came = u ∙ k .bytes ∙ all in
-        reads-by (ending-reads st room e right ∙ ap readSheet whole) whole x
+        record { outcome = ending-reads st room e right ∙ ap readSheet whole; bytes = inl whole }
+
+-- of calls in turn, and of a room that nobody else wrote
+pub ending-after : (calls : List Call) (room : List ℕ) → InTurn atFirst calls → Untouched (afterCalls atFirst calls) room → shortRoom room ≡ false → Ending (afterCalls atFirst calls .state) room (joined calls)
+ending-after calls room t u e =
+    let w = afterCalls atFirst calls in
+    ending-of (w .state) room (joined calls) (w .bytes) (steps atFirst [] calls nothing t .0) e (u e)
 
 -- the theorem
 pub however-cut : HoweverCut
 however-cut a =
     let w = afterCalls atFirst (a .calls) in
-    let k = kept a in
+    let s = heldIn (w .state) (a .room) in
+    let k = steps atFirst [] (a .calls) nothing (a .in-turn) in
     record {
-      answer = λ e. ends (w .state) (a .room) (joined (a .calls)) (w .bytes) k e (a .untouched e) (a .promise);
-      held = k .held;
-      sheet = λ e. a .untouched e ∙ k .bytes;
-      rooms = steps atFirst [] (a .calls) nothing (a .in-turn) .1;
-      short = λ e.
-        let s = heldIn (w .state) (a .room) in
-        same-read s (a .read) (sheetReadOf (refused 14)) (refused-by s (ending-short (w .state) (a .room) e) (a .promise)) (reads-nothing s refl refl);
+      answer = λ e.
+          let x = ending-after (a .calls) (a .room) (a .in-turn) (a .untouched) e in
+          reads-from (x .bytes) (reads-by (x .outcome) refl (a .promise));
+      held = k .0 .held;
+      sheet = λ e. a .untouched e ∙ k .0 .bytes;
+      rooms = k .1;
+      short = λ e. same-read s (a .read) (sheetReadOf (refused 14)) (reads-by (ending-short (w .state) (a .room) e) refl (a .promise)) (reads-nothing s refl refl);
     }

@@ -3,11 +3,12 @@
 -- Assumes nothing.
 use mathlib.Core.Path.{_≡_}
 use mathlib.Core.Bool.{true, false}
-use mathlib.Core.List.{List, [], _∷_, _++_}
+use mathlib.Core.List.{List, [], _∷_, _++_, map}
 use Prim.Native.Nat.{ℕ}
 use lib.ListN.{length, take}
 use Rattle.wire.specs.Outcome.{refused}
 use Rattle.wire.specs.Room.{over}
+use Rattle.area.specs.Area.{flat}
 use Rattle.sheet.specs.declared.Answer.{Answer}
 use Rattle.sheet.specs.declared.Answer.the-variants.{Accepted, Refused}
 use Rattle.sheet.specs.declared.SheetRead.{SheetRead}
@@ -101,6 +102,22 @@ abbrev pub OneRoom : List ℕ → List Call → List ℕ → Type 0
 OneRoom room [] end = end ≡ room
 OneRoom room (c ∷ cs) end = (c .room ≡ room) × OneRoom (c .left) cs end
 
--- it then holds the joined bytes, at most 16,386 of them, and its rest is as it was at the first call
+-- the states alone are handed on
+abbrev pub HandedOn : State → List Call → Type 0
+HandedOn st [] = Unit {0}
+HandedOn st (c ∷ cs) = (c .given ≡ st) × HandedOn (c .answer .state) cs
+
+-- then nobody else writes it
+abbrev pub NobodyElse : Type 0
+NobodyElse =
+    (room : List ℕ) (calls : List Call) (end : List ℕ) → HandedOn begun calls → OneRoom room calls end → InTurn atFirst calls × Untouched (afterCalls atFirst calls) end
+
+-- it ends with the joined bytes, at most 16,386 of them, over its front, and the rest as it was at the first call
 abbrev pub RestStays : Type 0
 RestStays = (a : Arrival) (room : List ℕ) → OneRoom room (a .calls) (a .room) → a .room ≡ over (take 16386 (joined (a .calls))) room
+
+-- and every cut occurs: any portions, in any room that is enough, with whatever reading them at once answers
+abbrev pub EveryCut : Type 0
+EveryCut =
+    (portions : List (List ℕ)) (room : List ℕ) (read : SheetRead) → shortRoom room ≡ false → ReadsAs (flat portions) read
+    → (a : Arrival) × (map (λ (c : Call). c .portion) (a .calls) ≡ portions) × (a .read ≡ read)

@@ -35,10 +35,10 @@ pub fn begin() -> State
 fn fitting(held: usize, came: usize) -> usize
     ensures { λ r. ⌜ r ≡ min (16386 - held) came ⌝ }
 {
-    if MOST < held {
-        return 0;
+    if held < MOST {
+        return wire::least(MOST - held, came);
     }
-    wire::least(MOST - held, came)
+    0
 }
 
 // Takes a portion of any length, none too. The room is lent at each call; its first `held` bytes must be those that the last call left.
@@ -54,10 +54,11 @@ pub fn take(state: State, portion: &[u8], room: &mut [u8]) -> Taken
     }
     let n = fitting(state.held, portion.len());
     area::store(&portion[..n], room, state.held);
+    let held = state.held + n;
     Taken {
         answer: Answer::Accepted,
         state: State {
-            held: state.held + n,
+            held,
             surplus: state.surplus || n < portion.len(),
         },
     }

@@ -242,7 +242,11 @@ fn wrong(sheet: &[u8], held: usize, room: &[u8]) -> u64 {
     let mut count = 0u64;
     let mut i = 0;
     while i < room.len() {
-        let right = if i < held { wire::byte_at(sheet, i) } else { 0xff };
+        let right = if i < held {
+            wire::byte_at(sheet, i)
+        } else {
+            0xff
+        };
         if room[i] != right {
             count += 1;
         }
@@ -270,7 +274,11 @@ pub fn beside(request: &[u8], c: u32) -> Line {
     let read = arrived.read;
     let answer = read.answer;
     [
-        if alike(read, sheet::read(sheet)) { say::SAME } else { say::DIFFER },
+        if alike(read, sheet::read(sheet)) {
+            say::SAME
+        } else {
+            say::DIFFER
+        },
         short(answer),
         state.held as u64,
         say::SLASH + (state.surplus as u64),

@@ -23,8 +23,8 @@ slice-aggregate-store c = let e = c .before .fitting .ensures in sym (length-tak
 store-requires : tie.Need-store-requires
 store-requires c κs = search needs
 
-add-t21 : tie.Need-add-t21
-add-t21 c = search needs
+add-held : tie.Need-add-held
+add-held c = search needs
 
 same-length : tie.Need-same-length
 same-length c = search needs
@@ -54,7 +54,7 @@ take-spec =
     fitting-requires
     slice-aggregate-store
     store-requires
-    add-t21
+    add-held
     same-length
     returns-2
     same-length-2
