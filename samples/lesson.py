@@ -6,6 +6,7 @@
     python3 samples/lesson.py group         an input pass in a group that doesn't begin at 0
     python3 samples/lesson.py exercise-6    the pass of docs/EXERCISES.md's exercise 6
     python3 samples/lesson.py exercise-7    that of exercise 7
+    python3 samples/lesson.py portions      the sheet of bay.hex in portions, one of them into too short a room
     python3 samples/lesson.py refused       the smallest calls for the numbers that a sheet alone can't cause
 
 The program is built first where that is needed, which takes minutes the first time.
@@ -126,6 +127,30 @@ def exercise_7(ask):
     return in_group(ask, 0x200, 0x20C)
 
 
+# bytes of a portion, and of the room lent for it: the second call is refused, and its portion sent again
+SENT = [(20, 16_386), (20, 16_385), (20, 16_386), (18, 16_386)]
+
+
+def sent():
+    """The calls: each room's length, each portion's, and the portion."""
+    at, calls = 0, b""
+    for size, room in SENT:
+        calls += packed([room, size], [2, 2]) + SAMPLE[at : at + size]
+        at += size if room >= 16_386 else 0
+    return calls
+
+
+def portions(ask):
+    [[line]] = ask([("portions: the sheet of bay.hex", Request("t", room=16_386, sheet=sent()))])
+    words = line.split()
+    for (size, room), word in zip(SENT, words):
+        answer, held, _ = word.split("/")
+        said = "taken" if answer == "ok" else f"refused {answer[1:]}"
+        yield f"{size} bytes into room of {room:,}: {said}, {held} held"
+    managers, usages, pdos = (words.index(name) for name in ("managers", "usages", "pdos"))
+    yield f"the end: {usages - managers - 1} sync managers, {pdos - usages - 1} FMMU usages, {words[pdos + 1]} PDOs"
+
+
 # one input of one bit, on entry 0
 ONE_BIT = on_eeprom(eeprom(1, 0, 0x1A00, 1), rows=managers((0x1180, 0x20, 1, 4)))
 NO_PARTS = sheet(0, 0, 0)
@@ -156,6 +181,7 @@ LESSONS = {
     "group": group,
     "exercise-6": exercise_6,
     "exercise-7": exercise_7,
+    "portions": portions,
     "refused": refused,
 }
 

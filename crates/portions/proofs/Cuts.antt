@@ -5,17 +5,15 @@ use mathlib.Core.Bool.{false}
 use mathlib.Core.List.{List, [], _∷_, _++_, map}
 use mathlib.Core.Logic.{_⊎_, inl, inr}
 use Prim.Native.Nat.{ℕ}
-use lib.ListN.{length}
 use lib.Dec.{ltb}
 use Rattle.wire.specs.Outcome.{Outcome, refused, accepted}
 use Rattle.wire.specs.Room.{roomAfter}
 use Rattle.area.specs.Area.{flat}
-use Rattle.sheet.specs.declared.Answer.{Answer}
 use Rattle.sheet.specs.Sheet.{readSheet, answerOf}
 use Rattle.sheet.proofs.Unique.{answer-back}
 use Rattle.portions.specs.declared.State.{State}
-use Rattle.portions.specs.Portions.{begun, heldIn, fits, stateWith, shortRoom, taking, stateAfter}
-use Rattle.portions.specs.Arrival.{Call, takenBy, takenIn, joined, atFirst, afterCalls, OneRoom, HandedOn, EveryCut}
+use Rattle.portions.specs.Portions.{begun, heldIn, fits, shortRoom, taking, stateAfter}
+use Rattle.portions.specs.Arrival.{Call, takenBy, joined, OneRoom, HandedOn, EveryCut}
 use Rattle.portions.proofs.Steps.{taking-enough, reads-by}
 use Rattle.portions.proofs.Whole.{reads-from, ending-after}
 use Rattle.portions.proofs.Rest.{length-over, nobody-else}

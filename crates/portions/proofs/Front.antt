@@ -1,12 +1,11 @@
 -- The front of a room that a portion goes behind, over any lengths.
 -- Assumes nothing.
-use mathlib.Core.Path.{_≡_, refl, sym, _∙_, ap, ap₂}
+use mathlib.Core.Path.{_≡_, refl, sym, _∙_, ap}
 use mathlib.Core.List.{List, [], _∷_, _++_, append-assoc, append-nil}
-use Prim.Native.Nat.{ℕ, zero, suc, _+_, _-_, _<_, _≤_, min}
-use native.Mathlib.Nat.{min-eq-left, min-eq-right}
+use Prim.Native.Nat.{ℕ, zero, suc, _+_, _-_, _<_, _≤_}
 use native.Mathlib.Omega.{arith}
-use lib.ListN.{length, take, drop, length-append, length-take}
-use lib.Seq.{take-all, take-nil, length-take-le}
+use lib.ListN.{length, take, drop, length-append}
+use lib.Seq.{take-all, length-take-le}
 use Rattle.wire.specs.Room.{over}
 use Rattle.wire.proofs.Copied.{over-front, over-same}
 use Rattle.area.specs.Area.{storedAt}

@@ -12,7 +12,7 @@ use Rattle.wire.specs.Room.{over}
 use Rattle.sheet.specs.declared.Answer.{Answer}
 use Rattle.sheet.specs.declared.Answer.the-variants.{Accepted, Refused}
 use Rattle.portions.specs.Portions.{heldIn, shortRoom}
-use Rattle.portions.specs.Arrival.{Call, takenBy, takenIn, joined, Standing, atFirst, bytesAfter, afterCall, afterCalls, Untouched, InTurn, Arrival, leftBy, RoomsHold, OneRoom, HandedOn, NobodyElse, RestStays}
+use Rattle.portions.specs.Arrival.{Call, takenBy, takenIn, joined, Standing, atFirst, bytesAfter, afterCall, afterCalls, Untouched, InTurn, leftBy, RoomsHold, OneRoom, HandedOn, NobodyElse, RestStays}
 use Rattle.portions.proofs.Whole.{left, took, however-cut}
 
 -- writing over a room leaves its length

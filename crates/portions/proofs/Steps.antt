@@ -2,7 +2,7 @@
 -- Assumes nothing.
 use mathlib.Core.Path.{_≡_, refl, sym, _∙_, ap, ap₂}
 use mathlib.Core.Bool.{Bool, true, false, _||_}
-use mathlib.Core.List.{List, [], _∷_, _++_}
+use mathlib.Core.List.{List, [], _++_}
 use Prim.Native.Nat.{ℕ, zero, suc, _+_, _-_, _<_, _≤_, min}
 use native.Mathlib.Omega.{arith}
 use lib.ListN.{length, take, length-take}
@@ -17,8 +17,7 @@ use Rattle.sheet.specs.declared.SheetRead.{SheetRead}
 use Rattle.sheet.specs.Device.{Data, dataOf}
 use Rattle.sheet.specs.Sheet.{readSheet, answerOf, sheetReadOf, deviceAfter, Reads}
 use Rattle.portions.specs.declared.State.{State}
-use Rattle.portions.specs.declared.Taken.{Taken}
-use Rattle.portions.specs.Portions.{heldIn, fits, stateWith, shortRoom, taking, stateAfter, Takes, tooMany, ending, Ends}
+use Rattle.portions.specs.Portions.{heldIn, fits, stateWith, shortRoom, taking, stateAfter, Takes, tooMany, ending}
 use Rattle.portions.proofs.Front.{stored-behind, stored-nowhere}
 
 -- a room is short, or it is enough

@@ -1,7 +1,7 @@
 -- However a sheet is cut: by induction over the calls, from what each promises.
 -- Assumes nothing.
 use mathlib.Core.Path.{_≡_, refl, sym, _∙_, ap, ap₂}
-use mathlib.Core.Bool.{Bool, true, false, _||_, false≢true}
+use mathlib.Core.Bool.{Bool, true, false, _||_}
 use mathlib.Core.List.{List, [], _∷_, _++_, append-assoc, append-nil}
 use mathlib.Core.Logic.{_⊎_, inl, inr}
 use Prim.Native.Nat.{ℕ, _+_, _-_, _<_, _≤_, min}
@@ -20,11 +20,11 @@ use Rattle.sheet.specs.declared.Answer.{Answer}
 use Rattle.sheet.specs.declared.Answer.the-variants.{Accepted, Refused}
 use Rattle.sheet.specs.declared.SheetRead.{SheetRead}
 use Rattle.sheet.specs.Device.{Data, dataOf}
-use Rattle.sheet.specs.Sheet.{readSheet, answerOf, sheetReadOf, deviceAfter, Reads, ReadsAs}
+use Rattle.sheet.specs.Sheet.{readSheet, answerOf, sheetReadOf, deviceAfter, Reads}
 use Rattle.sheet.proofs.Unique.{same-read}
 use Rattle.portions.specs.declared.State.{State}
-use Rattle.portions.specs.Portions.{begun, heldIn, fits, stateWith, shortRoom, taking, stateAfter, tooMany, ending, Ends}
-use Rattle.portions.specs.Arrival.{Call, takenBy, takenIn, joined, Standing, atFirst, bytesAfter, afterCall, afterCalls, Untouched, InTurn, Arrival, leftBy, RoomsHold, Whole, HoweverCut, OneRoom, RestStays}
+use Rattle.portions.specs.Portions.{heldIn, fits, stateWith, shortRoom, stateAfter, tooMany, ending}
+use Rattle.portions.specs.Arrival.{Call, takenBy, takenIn, joined, Standing, atFirst, bytesAfter, afterCall, afterCalls, Untouched, InTurn, leftBy, RoomsHold, HoweverCut}
 use Rattle.portions.proofs.Front.{take-joined}
 use Rattle.portions.proofs.Steps.{taking-short, taking-enough, ending-short, ending-many, ending-reads, reads-by, reads-nothing}
 

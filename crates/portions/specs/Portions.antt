@@ -6,7 +6,7 @@ use mathlib.Core.List.{List, [], _∷_, _++_}
 use Prim.Native.Nat.{ℕ, _+_, _-_}
 use lib.ListN.{length, take}
 use lib.Dec.{ltb}
-use Rattle.wire.specs.Outcome.{Outcome, refused, accepted, Refusal, when, first, decide}
+use Rattle.wire.specs.Outcome.{Outcome, refused, accepted, when, first, decide}
 use Rattle.wire.specs.Room.{roomAfter}
 use Rattle.sheet.specs.declared.SheetRead.{SheetRead}
 use Rattle.sheet.specs.Device.{Data}

@@ -41,7 +41,7 @@ fn fitting(held: usize, came: usize) -> usize
     0
 }
 
-// Takes a portion of any length, none too. The room is lent at each call; its first `held` bytes must be those that the last call left.
+// Takes a portion of any length, none too. The room is lent at each call, with the bytes that are held at its front.
 // 14: the room is under 16,386 bytes; the portion isn't taken, and the next call with enough room goes on. Nothing else is refused here.
 pub fn take(state: State, portion: &[u8], room: &mut [u8]) -> Taken
     ensures { λ r. ⌜ Takes state (now (portion .entry)) (now (room .entry)) r (now (room .exit)) ⌝ }
