@@ -1,4 +1,4 @@
--- The calls of `Arrival` are calls of the functions: arguments, answer and room at exit that keep a function's own contract, as it is generated from the source
+-- The calls of `Arrival` are calls of the functions, and what the end is held to is what `sheet::read` promises: arguments, answer and room at exit that keep a function's own contract, as it is generated from the source
 -- (`Post`), make the record that the theorem is about. So a changed `ensures` breaks this file.
 -- Assumes nothing.
 use mathlib.Core.Path.{_≡_}
@@ -7,6 +7,9 @@ use denote.Ref.{now}
 use denote.Triple.Clauses.{AtExit}
 use denote.Triple.Entry.{Args}
 use Rattle.sheet.specs.declared.SheetRead.{SheetRead}
+use Rattle.sheet.specs.Sheet.{ReadsAs}
+use Rattle.sheet.proofs.read as reading
+use Rattle.sheet.proofs.read.Reads as reads
 use Rattle.portions.specs.declared.State.{State}
 use Rattle.portions.specs.declared.Taken.{Taken}
 use Rattle.portions.specs.Portions.{begun, Ends}
@@ -37,3 +40,7 @@ call-of κs a answer s kept =
 -- `portions::end`: state, room
 pub end-of : (κs : Lfts 1) (a : Args ending.signature κs) (answer : SheetRead) (s : AtExit ending.ended κs) → ends.Post κs a answer s → Ends (a .0) (now (a .1 .0)) answer
 end-of κs a answer s kept = kept
+
+-- `sheet::read`: the sheet at once
+pub read-of : (κs : Lfts 1) (a : Args reading.signature κs) (answer : SheetRead) (s : AtExit reading.ended κs) → reads.Post κs a answer s → ReadsAs (now (a .0)) answer
+read-of κs a answer s kept = kept

@@ -12,7 +12,7 @@ use Rattle.area.specs.Area.{flat}
 use Rattle.sheet.specs.Sheet.{readSheet, answerOf}
 use Rattle.sheet.proofs.Unique.{answer-back}
 use Rattle.portions.specs.declared.State.{State}
-use Rattle.portions.specs.Portions.{begun, heldIn, fits, shortRoom, taking, stateAfter}
+use Rattle.portions.specs.Portions.{begun, heldIn, stored, shortRoom, taking, stateAfter}
 use Rattle.portions.specs.Arrival.{Call, takenBy, joined, OneRoom, HandedOn, EveryCut}
 use Rattle.portions.proofs.Steps.{taking-enough, reads-by}
 use Rattle.portions.proofs.Whole.{reads-from, ending-after}
@@ -30,7 +30,7 @@ callOf st portion room =
       portion = portion;
       room = room;
       answer = record { answer = answer-back (taking st portion room); state = stateAfter (taking st portion room) st };
-      left = roomAfter (taking st portion room) (heldIn st room ++ fits st portion) room;
+      left = roomAfter (taking st portion room) (heldIn st room ++ stored st portion) room;
       promise = record { says = answer-by (taking st portion room) st; state = refl; holds = refl };
     }
 
@@ -58,8 +58,8 @@ their-portions st room (p ∷ ps) = ap (λ (l : List (List ℕ)). p ∷ l) (thei
 -- a room that is enough stays so, and every portion is taken
 still-enough : (st : State) (p room : List ℕ) → shortRoom room ≡ false → shortRoom (callOf st p room .left) ≡ false
 still-enough st p room e =
-    ap (λ (o : Outcome State). shortRoom (roomAfter o (heldIn st room ++ fits st p) room)) (taking-enough st p room e)
-    ∙ ap (λ (n : ℕ). ltb n 16386) (length-over (heldIn st room ++ fits st p) room)
+    ap (λ (o : Outcome State). shortRoom (roomAfter o (heldIn st room ++ stored st p) room)) (taking-enough st p room e)
+    ∙ ap (λ (n : ℕ). ltb n 16386) (length-over (heldIn st room ++ stored st p) room)
     ∙ e
 
 enough-at-the-end : (st : State) (room : List ℕ) (ps : List (List ℕ)) → shortRoom room ≡ false → shortRoom (endOf st room ps) ≡ false
@@ -79,20 +79,25 @@ pub every-cut : EveryCut
 every-cut portions room read e r =
     let calls = callsOf begun room portions in
     let end = endOf begun room portions in
-    let t = nobody-else room calls end (handed-on begun room portions) (one-room begun room portions) in
-    let x = ending-after calls end (t .0) (t .1) (enough-at-the-end begun room portions e) in
-    let same = all-taken begun room portions e in (
-      record {
-        calls = calls;
-        in-turn = t .0;
-        room = end;
-        untouched = t .1;
-        read = read;
-        promise = reads-by (sym (x .outcome)) refl (reads-from (back (x .bytes)) (reads-by (ap readSheet (sym same)) (sym same) r));
-      },
-      their-portions begun room portions,
-      refl,
-    )
+    let handed = handed-on begun room portions in
+    let one = one-room begun room portions in
+    let alone = nobody-else room calls end one in
+    let x = ending-after calls end handed alone (enough-at-the-end begun room portions e) in
+    let same = all-taken begun room portions e in
+    record {
+      arrival =
+          record {
+            calls = calls;
+            handed-on = handed;
+            room = end;
+            untouched = alone;
+            read = read;
+            promise = reads-by (sym (x .outcome)) refl (reads-from (back (x .bytes)) (reads-by (ap readSheet (sym same)) (sym same) r));
+          };
+      sent = their-portions begun room portions;
+      lent = one;
+      answered = refl;
+    }
   where
     back : {B : Type 0} {x y : List ℕ} → (x ≡ y) ⊎ B → (y ≡ x) ⊎ B
     back (inl q) = inl (sym q)

@@ -9,10 +9,11 @@ use native.Mathlib.Omega.{arith}
 use lib.ListN.{length, take, drop, length-take, length-drop, length-append}
 use lib.Seq.{take-nil, drop-drop, drop-append-add}
 use Rattle.wire.specs.Room.{over}
+use Rattle.area.specs.Area.{flat}
 use Rattle.sheet.specs.declared.Answer.{Answer}
 use Rattle.sheet.specs.declared.Answer.the-variants.{Accepted, Refused}
 use Rattle.portions.specs.Portions.{heldIn, shortRoom}
-use Rattle.portions.specs.Arrival.{Call, takenBy, takenIn, joined, Standing, atFirst, bytesAfter, afterCall, afterCalls, Untouched, InTurn, leftBy, RoomsHold, OneRoom, HandedOn, NobodyElse, RestStays}
+use Rattle.portions.specs.Arrival.{Call, takenBy, takenIn, joined, Standing, atFirst, bytesAfter, afterCall, Untouched, EachUntouched, leftBy, RoomsHold, OneRoom, NobodyElse, RestStays}
 use Rattle.portions.proofs.Whole.{left, took, however-cut}
 
 -- writing over a room leaves its length
@@ -46,6 +47,7 @@ take-grows n x y =
 -- the room from call to call
 stays : (first came now : List ℕ) (cs : List Call) (end : List ℕ) → now ≡ over (take 16386 came) first → RoomsHold came cs → OneRoom now cs end
     → end ≡ over (take 16386 (came ++ joined cs)) first
+unfolding flat
 stays first came now [] end e h o = o ∙ e ∙ ap (λ (l : List ℕ). over (take 16386 l) first) (sym (append-nil came))
 stays first came now (c ∷ cs) end e h o =
     stays first (came ++ takenIn c) (c .left) cs end (go (c .answer .answer) (h .0)) (h .1) (o .1)
@@ -72,12 +74,10 @@ untouched-left w c e = go (shortRoom (c .room)) refl
     go true s = absurd (false≢true (sym e ∙ ap shortRoom (left c s .room) ∙ s))
     go false s = sym (ap (λ (a : Answer). bytesAfter a (c .answer .state) (c .left) (w .bytes)) (took c s .answer))
 
-in-one-room : (w : Standing) (room : List ℕ) (cs : List Call) (end : List ℕ) → Untouched w room → HandedOn (w .state) cs → OneRoom room cs end
-    → InTurn w cs × Untouched (afterCalls w cs) end
-in-one-room w room [] end u h o = (tt, λ e. ap (heldIn (w .state)) o ∙ u (ap shortRoom (sym o) ∙ e))
-in-one-room w room (c ∷ cs) end u h o =
-    let r = in-one-room (afterCall w c) (c .left) cs end (untouched-left w c) (h .1) (o .1) in
-    ((h .0, (λ e. ap (heldIn (w .state)) (o .0) ∙ u (ap shortRoom (sym (o .0)) ∙ e)), r .0), r .1)
+in-one-room : (w : Standing) (room : List ℕ) (cs : List Call) (end : List ℕ) → Untouched w room → OneRoom room cs end → EachUntouched w cs end
+in-one-room w room [] end u o = λ e. ap (heldIn (w .state)) o ∙ u (ap shortRoom (sym o) ∙ e)
+in-one-room w room (c ∷ cs) end u o =
+    ((λ e. ap (heldIn (w .state)) (o .0) ∙ u (ap shortRoom (sym (o .0)) ∙ e)), in-one-room (afterCall w c) (c .left) cs end (untouched-left w c) (o .1))
 
 pub nobody-else : NobodyElse
-nobody-else room calls end h o = in-one-room atFirst room calls end (λ e. refl) h o
+nobody-else room calls end o = in-one-room atFirst room calls end (λ e. refl) o

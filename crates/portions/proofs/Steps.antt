@@ -17,7 +17,7 @@ use Rattle.sheet.specs.declared.SheetRead.{SheetRead}
 use Rattle.sheet.specs.Device.{Data, dataOf}
 use Rattle.sheet.specs.Sheet.{readSheet, answerOf, sheetReadOf, deviceAfter, Reads}
 use Rattle.portions.specs.declared.State.{State}
-use Rattle.portions.specs.Portions.{heldIn, fits, stateWith, shortRoom, taking, stateAfter, Takes, tooMany, ending}
+use Rattle.portions.specs.Portions.{heldIn, stored, stateWith, shortRoom, taking, stateAfter, Takes, tooMany, ending}
 use Rattle.portions.proofs.Front.{stored-behind, stored-nowhere}
 
 -- a room is short, or it is enough
@@ -43,14 +43,14 @@ takes-nothing st portion room h =
     record {
       says = sym o;
       state = ap (λ (x : Outcome State). stateAfter x st) (sym o);
-      holds = ap (λ (x : Outcome State). roomAfter x (heldIn st room ++ fits st portion) room) (sym o);
+      holds = ap (λ (x : Outcome State). roomAfter x (heldIn st room ++ stored st portion) room) (sym o);
     }
 
 -- what is stored goes behind what is held, whatever the state says
-pub stored-fits : (st : State) (portion room : List ℕ) → 16386 ≤ length room → storedAt (st .held) (fits st portion) room ≡ over (heldIn st room ++ fits st portion) room
-stored-fits st portion room h = go (16386 - st .held) refl
+pub stored-behind-held : (st : State) (portion room : List ℕ) → 16386 ≤ length room → storedAt (st .held) (stored st portion) room ≡ over (heldIn st room ++ stored st portion) room
+stored-behind-held st portion room h = go (16386 - st .held) refl
   where
-    -- nothing fits: the state may hold more than the room has
+    -- nothing stored: the state may hold more than the room has
     none : (b : Bool) → (b ≡ true → length room < st .held) → (b ≡ false → st .held ≤ length room) → storedAt (st .held) [] room ≡ over (heldIn st room ++ []) room
     none true f g = stored-nowhere (st .held) room (f refl)
     none false f g = let e = g refl in stored-behind (st .held) [] room (omega arith)
@@ -65,15 +65,15 @@ pub takes-portion :
     → left ≡ storedAt (st .held) (take n portion) room → Takes st portion room (record { answer = Accepted; state = record { held = st .held + n; surplus = b } }) left
 takes-portion st portion room left n b h e t p =
     let o = taking-enough st portion room (enough room h) in
-    let f : take n portion ≡ fits st portion = ap (λ (k : ℕ). take k portion) e ∙ take-least (16386 - st .held) portion in
-    let m : n ≡ length (fits st portion) = e ∙ sym (length-take (16386 - st .held) portion) in
-    let more : b ≡ st .surplus || ltb (length (fits st portion)) (length portion) = t ∙ ap (λ (k : ℕ). st .surplus || ltb k (length portion)) m in
+    let f : take n portion ≡ stored st portion = ap (λ (k : ℕ). take k portion) e ∙ take-least (16386 - st .held) portion in
+    let m : n ≡ length (stored st portion) = e ∙ sym (length-take (16386 - st .held) portion) in
+    let more : b ≡ st .surplus || ltb (length (stored st portion)) (length portion) = t ∙ ap (λ (k : ℕ). st .surplus || ltb k (length portion)) m in
     let s : _≡_ {A = State} (record { held = st .held + n; surplus = b }) (stateWith st portion) = λ i. record { held = st .held + m i; surplus = more i } in
     record {
       says = ap accepted s ∙ sym o;
       state = s ∙ ap (λ (x : Outcome State). stateAfter x st) (sym o);
-      holds = p ∙ ap (λ (l : List ℕ). storedAt (st .held) l room) f ∙ stored-fits st portion room h
-          ∙ ap (λ (x : Outcome State). roomAfter x (heldIn st room ++ fits st portion) room) (sym o);
+      holds = p ∙ ap (λ (l : List ℕ). storedAt (st .held) l room) f ∙ stored-behind-held st portion room h
+          ∙ ap (λ (x : Outcome State). roomAfter x (heldIn st room ++ stored st portion) room) (sym o);
     }
 
 -- the end by its tests

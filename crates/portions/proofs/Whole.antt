@@ -12,19 +12,21 @@ use lib.Dec.{ltb}
 use borrow.Author.Tests.{lt-ltb, le-ltb, ltb-true, ltb-false}
 use Rattle.wire.specs.Outcome.{Outcome, refused, accepted}
 use Rattle.wire.specs.Room.{over, roomAfter}
+use Rattle.wire.specs.Lists.{Each}
 use Rattle.wire.proofs.Order.{never}
 use Rattle.wire.proofs.Copied.{over-front}
+use Rattle.area.specs.Area.{flat}
 use Rattle.grammar.specs.Length.{wrongLength}
 use Rattle.grammar.proofs.Length.{long}
 use Rattle.sheet.specs.declared.Answer.{Answer}
 use Rattle.sheet.specs.declared.Answer.the-variants.{Accepted, Refused}
 use Rattle.sheet.specs.declared.SheetRead.{SheetRead}
 use Rattle.sheet.specs.Device.{Data, dataOf}
-use Rattle.sheet.specs.Sheet.{readSheet, answerOf, sheetReadOf, deviceAfter, Reads}
+use Rattle.sheet.specs.Sheet.{readSheet, answerOf, sheetReadOf, deviceAfter, Reads, ReadsAs}
 use Rattle.sheet.proofs.Unique.{same-read}
 use Rattle.portions.specs.declared.State.{State}
-use Rattle.portions.specs.Portions.{heldIn, fits, stateWith, shortRoom, stateAfter, tooMany, ending}
-use Rattle.portions.specs.Arrival.{Call, takenBy, takenIn, joined, Standing, atFirst, bytesAfter, afterCall, afterCalls, Untouched, InTurn, leftBy, RoomsHold, HoweverCut}
+use Rattle.portions.specs.Portions.{begun, heldIn, stored, stateWith, shortRoom, stateAfter, tooMany, ending}
+use Rattle.portions.specs.Arrival.{Call, takenBy, takenIn, joined, Standing, atFirst, bytesAfter, afterCall, afterCalls, HandedOn, Untouched, EachUntouched, Arrival, last, found, OnlyShort, leftBy, RoomsHold, HoweverCut}
 use Rattle.portions.proofs.Front.{take-joined}
 use Rattle.portions.proofs.Steps.{taking-short, taking-enough, ending-short, ending-many, ending-reads, reads-by, reads-nothing}
 
@@ -49,14 +51,14 @@ left c e =
     record {
       answer = answer-refused (c .answer .answer) (c .answer .state) 14 (c .promise .says ∙ o);
       state = c .promise .state ∙ ap (λ (x : Outcome State). stateAfter x (c .given)) o;
-      room = c .promise .holds ∙ ap (λ (x : Outcome State). roomAfter x (heldIn (c .given) (c .room) ++ fits (c .given) (c .portion)) (c .room)) o;
+      room = c .promise .holds ∙ ap (λ (x : Outcome State). roomAfter x (heldIn (c .given) (c .room) ++ stored (c .given) (c .portion)) (c .room)) o;
     }
 
--- a call with enough room: what fits goes behind what is held
+-- a call with enough room: what stored goes behind what is held
 pub record Took (c : Call) : Type 0 where
   pub answer : c .answer .answer ≡ Accepted
   pub state : c .answer .state ≡ stateWith (c .given) (c .portion)
-  pub room : c .left ≡ over (heldIn (c .given) (c .room) ++ fits (c .given) (c .portion)) (c .room)
+  pub room : c .left ≡ over (heldIn (c .given) (c .room) ++ stored (c .given) (c .portion)) (c .room)
 
 pub took : (c : Call) → shortRoom (c .room) ≡ false → Took c
 took c e =
@@ -64,7 +66,7 @@ took c e =
     record {
       answer = answer-accepted (c .answer .answer) (c .answer .state) (stateWith (c .given) (c .portion)) (c .promise .says ∙ o);
       state = c .promise .state ∙ ap (λ (x : Outcome State). stateAfter x (c .given)) o;
-      room = c .promise .holds ∙ ap (λ (x : Outcome State). roomAfter x (heldIn (c .given) (c .room) ++ fits (c .given) (c .portion)) (c .room)) o;
+      room = c .promise .holds ∙ ap (λ (x : Outcome State). roomAfter x (heldIn (c .given) (c .room) ++ stored (c .given) (c .portion)) (c .room)) o;
     }
 
 -- what the calls keep: after `came` the first 16,386 of its bytes are held, and whether there were more is remembered
@@ -119,7 +121,7 @@ module _ (w : Standing) (came : List ℕ) (c : Call) (k : Keeps w came) (g : c .
       let t = took c e in
       let st = c .given in
       let all = came ++ takenIn c in
-      let fit = fits st (c .portion) in
+      let fit = stored st (c .portion) in
       let taken : takenIn c ≡ c .portion = ap (λ (a : Answer). takenBy a (c .portion)) (t .answer) in
       let was : heldIn st (c .room) ≡ take 16386 came = ap (λ (s : State). heldIn s (c .room)) g ∙ untouched ∙ k .bytes in
       let held : st .held ≡ length (take 16386 came) = ap (λ (s : State). s .held) g ∙ k .held in
@@ -170,12 +172,31 @@ keeps-by e k =
       surplus = k .surplus ∙ ap (λ (l : List ℕ). ltb 16386 (length l)) e;
     }
 
-steps : (w : Standing) (came : List ℕ) (cs : List Call) → Keeps w came → InTurn w cs → Keeps (afterCalls w cs) (came ++ joined cs) × RoomsHold came cs
-steps w came [] k t = (keeps-by (sym (append-nil came)) k, tt)
-steps w came (c ∷ cs) k t =
-    let s = step w came c k (t .0) (t .1) in
-    let r = steps (afterCall w c) (came ++ takenIn c) cs (s .keeps) (t .2) in
+steps : (w : Standing) (came : List ℕ) (cs : List Call) (end : List ℕ) → Keeps w came → HandedOn (w .state) cs → EachUntouched w cs end
+    → Keeps (afterCalls w cs) (came ++ joined cs) × RoomsHold came cs
+unfolding flat
+steps w came [] end k h u = (keeps-by (sym (append-nil came)) k, tt)
+steps w came (c ∷ cs) end k h u =
+    let s = step w came c k (h .0) (u .0) in
+    let r = steps (afterCall w c) (came ++ takenIn c) cs end (s .keeps) (h .1) (u .1) in
     (keeps-by (append-assoc came (takenIn c) (joined cs)) (r .0), (s .room, r .1))
+
+-- the room lent to the end
+end-untouched : (w : Standing) (cs : List Call) (end : List ℕ) → EachUntouched w cs end → Untouched (afterCalls w cs) end
+end-untouched w [] end u = u
+end-untouched w (c ∷ cs) end u = end-untouched (afterCall w c) cs end (u .1)
+
+-- nothing but 14 is reported
+only-short : (c : Call) → OnlyShort c
+only-short c = go (shortRoom (c .room)) refl
+  where
+    go : (b : Bool) → shortRoom (c .room) ≡ b → OnlyShort c
+    go true e = left c e .answer ∙ rw e refl
+    go false e = took c e .answer ∙ rw e refl
+
+all-only-short : (cs : List Call) → Each OnlyShort cs
+all-only-short [] = tt
+all-only-short (c ∷ cs) = (only-short c, all-only-short cs)
 
 nothing : Keeps atFirst []
 nothing = record { bytes = sym (take-nil 16386); held = ap length (sym (take-nil {A = ℕ} 16386)); surplus = sym (le-ltb 16386 0 (omega arith)) }
@@ -220,24 +241,49 @@ ending-of st room came bytes k e u = go (ltb 16386 (length came)) refl
         let whole : heldIn st room ≡ came = u ∙ k .bytes ∙ all in
         record { outcome = ending-reads st room e right ∙ ap readSheet whole; bytes = inl whole }
 
--- of calls in turn, and of a room that nobody else wrote
-pub ending-after : (calls : List Call) (room : List ℕ) → InTurn atFirst calls → Untouched (afterCalls atFirst calls) room → shortRoom room ≡ false → Ending (afterCalls atFirst calls .state) room (joined calls)
-ending-after calls room t u e =
+-- of calls that are handed on, and rooms that nobody else writes
+pub ending-after : (calls : List Call) (room : List ℕ) → HandedOn begun calls → EachUntouched atFirst calls room → shortRoom room ≡ false
+    → Ending (afterCalls atFirst calls .state) room (joined calls)
+ending-after calls room h u e =
     let w = afterCalls atFirst calls in
-    ending-of (w .state) room (joined calls) (w .bytes) (steps atFirst [] calls nothing t .0) e (u e)
+    ending-of (w .state) room (joined calls) (w .bytes) (steps atFirst [] calls room nothing h u .0) e (end-untouched atFirst calls room u e)
+
+-- where it is accepted, the bytes are all that came
+accepted-whole : {s came : List ℕ} {r : SheetRead} → (s ≡ came) ⊎ (readSheet came ≡ refused 2) → ReadsAs came r → r .answer ≡ Accepted → s ≡ came
+accepted-whole (inl q) x a = q
+accepted-whole {s} {came} {r} (inr e) x a = absurd (never (sym e ∙ sym (x .says) ∙ ap (λ (y : Answer). answerOf y (dataOf (r .device) came)) a))
+
+module _ (a : Arrival) where
+  after : shortRoom (a .room) ≡ false → Ending (last a) (a .room) (joined (a .calls))
+  after = ending-after (a .calls) (a .room) (a .handed-on) (a .untouched)
+
+  answers : shortRoom (a .room) ≡ false → ReadsAs (joined (a .calls)) (a .read)
+  answers e = reads-from (after e .bytes) (reads-by (after e .outcome) refl (a .promise))
+
+  fourteen : shortRoom (a .room) ≡ true → a .read ≡ sheetReadOf (refused 14)
+  fourteen e = same-read (found a) (a .read) (sheetReadOf (refused 14)) (reads-by (ending-short (last a) (a .room) e) refl (a .promise)) (reads-nothing (found a) refl refl)
+
+  plans : a .read .answer ≡ Accepted → found a ≡ joined (a .calls)
+  plans y = go (shortRoom (a .room)) refl
+    where
+      refuses : Refused 14 ≡ Accepted → ⊥
+      refuses z = never (ap (λ (x : Answer). answerOf {A = Unit {0}} x tt) z)
+
+      go : (b : Bool) → shortRoom (a .room) ≡ b → found a ≡ joined (a .calls)
+      go true e = absurd (refuses (sym (ap (λ (x : SheetRead). x .answer) (fourteen e)) ∙ y))
+      go false e = accepted-whole (after e .bytes) (answers e) y
 
 -- the theorem
 pub however-cut : HoweverCut
 however-cut a =
-    let w = afterCalls atFirst (a .calls) in
-    let s = heldIn (w .state) (a .room) in
-    let k = steps atFirst [] (a .calls) nothing (a .in-turn) in
+    let k = steps atFirst [] (a .calls) (a .room) nothing (a .handed-on) (a .untouched) in
     record {
-      answer = λ e.
-          let x = ending-after (a .calls) (a .room) (a .in-turn) (a .untouched) e in
-          reads-from (x .bytes) (reads-by (x .outcome) refl (a .promise));
+      answer = answers a;
+      planned = plans a;
+      sheet = λ e. end-untouched atFirst (a .calls) (a .room) (a .untouched) e ∙ k .0 .bytes;
       held = k .0 .held;
-      sheet = λ e. a .untouched e ∙ k .0 .bytes;
+      surplus = k .0 .surplus;
+      short = fourteen a;
+      reported = all-only-short (a .calls);
       rooms = k .1;
-      short = λ e. same-read s (a .read) (sheetReadOf (refused 14)) (reads-by (ending-short (w .state) (a .room) e) refl (a .promise)) (reads-nothing s refl refl);
     }

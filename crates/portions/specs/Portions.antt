@@ -18,20 +18,20 @@ use Rattle.portions.specs.declared.Taken.{Taken}
 abbrev pub begun : State
 begun = record { held = 0; surplus = false }
 
--- the bytes come so far, at most 16,386: the front of the room
+-- the bytes that are held, as many as the state says: the front of the room
 abbrev pub heldIn : State → List ℕ → List ℕ
 heldIn st room = take (st .held) room
 
 -- the bytes of a portion that are stored; surplus bytes are not
-abbrev pub fits : State → List ℕ → List ℕ
-fits st portion = take (16386 - st .held) portion
+abbrev pub stored : State → List ℕ → List ℕ
+stored st portion = take (16386 - st .held) portion
 
 -- with the portion taken: so many are held, and whether a byte was left out is remembered
 abbrev pub stateWith : State → List ℕ → State
 stateWith st portion =
     record {
-      held = st .held + length (fits st portion);
-      surplus = st .surplus || ltb (length (fits st portion)) (length portion);
+      held = st .held + length (stored st portion);
+      surplus = st .surplus || ltb (length (stored st portion)) (length portion);
     }
 
 -- 14: the room lent at this call is under 16,386 bytes
@@ -47,17 +47,17 @@ abbrev pub stateAfter : Outcome State → State → State
 stateAfter (refused n) st = st
 stateAfter (accepted new) st = new
 
--- the promise of `take`: its answer, the state, and the room, which then holds the bytes come so far; its rest stays
+-- the promise of `take`: its answer, the state, and the room, which then holds the bytes come so far at its front; its rest stays
 pub record Takes (st : State) (portion room : List ℕ) (r : Taken) (after : List ℕ) : Type 0 where
   pub says : answerOf (r .answer) (r .state) ≡ taking st portion room
   pub state : r .state ≡ stateAfter (taking st portion room) st
-  pub holds : after ≡ roomAfter (taking st portion room) (heldIn st room ++ fits st portion) room
+  pub holds : after ≡ roomAfter (taking st portion room) (heldIn st room ++ stored st portion) room
 
 -- 2 by what is remembered: a surplus byte came. A made-up state can say more than 16,386 held; that is surplus too
 abbrev pub tooMany : State → Bool
 tooMany st = st .surplus || ltb 16386 (st .held)
 
--- the end, and its refusals in their order: 14, then the reader's own of what is held, whose 2 also stands for surplus
+-- the end, and its refusals in their order: 14; 2 for surplus; then the reader's own of what is held
 unfoldable pub ending : State → List ℕ → Outcome Data
 ending st room = first (when 14 (shortRoom room) ∷ when 2 (tooMany st) ∷ []) (readSheet (heldIn st room))
 

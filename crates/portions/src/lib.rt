@@ -1,7 +1,7 @@
 // A sheet that comes in portions, as a handheld sends it over a slow line: each is taken into lent room, and the end reads what came.
 ghost use mathlib.Core.Path.{_≡_};
 ghost use Prim.Native.Nat.{min, _-_};
-ghost use Rattle.portions.specs.Portions.{begun, Takes, tooMany, Ends};
+ghost use Rattle.portions.specs.Portions.{begun, heldIn, Takes, tooMany, Ends};
 use sheet::Answer;
 use sheet::SheetRead;
 
@@ -35,10 +35,10 @@ pub fn begin() -> State
 fn fitting(held: usize, came: usize) -> usize
     ensures { λ r. ⌜ r ≡ min (16386 - held) came ⌝ }
 {
-    if held < MOST {
-        return wire::least(MOST - held, came);
+    if MOST <= held {
+        return 0;
     }
-    0
+    wire::least(MOST - held, came)
 }
 
 // Takes a portion of any length, none too. The room is lent at each call, with the bytes that are held at its front.
@@ -53,6 +53,7 @@ pub fn take(state: State, portion: &[u8], room: &mut [u8]) -> Taken
         };
     }
     let n = fitting(state.held, portion.len());
+    // they have room there: held + n is at most 16,386, or n is 0
     area::store(&portion[..n], room, state.held);
     let held = state.held + n;
     Taken {
@@ -71,8 +72,15 @@ fn too_many(state: State) -> bool
     state.surplus || MOST < state.held
 }
 
-// Declares the end: what `sheet::read` answers for all that came, or 14 where the room is under 16,386 bytes.
-// The sheet then is `&room[..held]`, and that is what is planned.
+// The sheet so far, as far as a made-up state lets it.
+fn held_in(state: State, room: &[u8]) -> &[u8]
+    ensures { λ r. ⌜ now r ≡ heldIn state (now (room .entry)) ⌝ }
+{
+    wire::front(room, state.held)
+}
+
+// Declares the end: what `sheet::read` answers for all that was taken, or 14 where the room is under 16,386 bytes.
+// Where it accepts, the sheet is `&room[..held]`, and that is what is planned.
 pub fn end(state: State, room: &[u8]) -> SheetRead
     ensures { λ r. ⌜ Ends state (now (room .entry)) r ⌝ }
 {
@@ -82,5 +90,5 @@ pub fn end(state: State, room: &[u8]) -> SheetRead
     if too_many(state) {
         return sheet::refused(2);
     }
-    sheet::read(wire::front(room, state.held))
+    sheet::read(held_in(state, room))
 }

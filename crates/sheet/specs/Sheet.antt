@@ -115,11 +115,12 @@ abbrev pub sheetReadOf : Outcome Device → SheetRead
 sheetReadOf (refused n) = record { answer = Refused n; device = noDevice }
 sheetReadOf (accepted d) = record { answer = Accepted; device = d }
 
--- the promise of a call with this outcome that reads these bytes: its answer, and nothing beside a refusal
+-- what the record holds after a call with this outcome: nothing beside a refusal
 abbrev pub deviceAfter : Outcome Data → List ℕ → Device
 deviceAfter (refused n) s = noDevice
 deviceAfter (accepted d) s = deviceOf s
 
+-- the promise of a call with this outcome that reads these bytes: its answer, and the record
 pub record Reads (outcome : Outcome Data) (s : List ℕ) (r : SheetRead) : Type 0 where
   pub says : answerOf (r .answer) (dataOf (r .device) s) ≡ outcome
   pub holds : r .device ≡ deviceAfter outcome s

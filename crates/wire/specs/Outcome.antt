@@ -1,5 +1,5 @@
 -- What a call answers: a refusal with its number and nothing beside it, or what was asked for. The refusals of a call are a list in
--- document 01's order; the first that holds is given.
+-- the order of documents 01 and 02; the first that holds is given.
 -- Assumes nothing.
 use mathlib.Core.Bool.{Bool, cond}
 use mathlib.Core.List.{List, [], _∷_}

@@ -1,5 +1,5 @@
--- An answer that is written into lent room. Where the call is accepted the answer is its length, it stands at the front, and room past it
--- stays; where the call is refused all of the room stays.
+-- Bytes that a call writes into lent room. Where the call is accepted they stand at the front, and room past them stays; where it is refused all of
+-- the room stays. A text or an image is written so, and its length is answered.
 -- Assumes nothing.
 use mathlib.Core.Path.{_≡_}
 use mathlib.Core.List.{List, [], _∷_, _++_}

@@ -30,8 +30,8 @@ returns-2 c =
     let room = now (a .room) in
     reads-nothing _ (ending-many (a .state) room (enough room (t .before .if1 .left)) (sym (t .too-many .ensures) ∙ c .before .if2 .taken)) (c .refused2 .ensures)
 
-front-requires : tie.Need-front-requires
-front-requires c κs = search needs
+held-in-requires : tie.Need-held-in-requires
+held-in-requires c κs = search needs
 
 read-requires : tie.Need-read-requires
 read-requires c κs = search needs
@@ -42,7 +42,7 @@ returns-3 c =
     let t = f .before .before in
     let a = t .before .before .before .args in
     let room = now (a .room) in
-    let held = f .front .ensures in
+    let held = f .held-in .ensures in
     reads-by (ap readSheet held ∙ sym (ending-reads (a .state) room (enough room (t .before .if1 .left)) (sym (t .too-many .ensures) ∙ f .before .if2 .left))) held (c .read .ensures)
 
 pub end-spec : {M : Type 1} → statement M
@@ -54,6 +54,6 @@ end-spec =
     too-many-requires
     refused-requires-2
     returns-2
-    front-requires
+    held-in-requires
     read-requires
     returns-3)
