@@ -1,5 +1,6 @@
 // The entry points for a sheet that comes in portions.
 use crate::bays;
+use crate::numbers;
 use crate::parts;
 use crate::say;
 use crate::say::Line;
@@ -10,22 +11,6 @@ use sheet::Answer;
 use sheet::Device;
 use sheet::SheetRead;
 use sheet::SyncManager;
-
-// The number of a refusal; 0 where there is none.
-fn number(answer: Answer) -> u8 {
-    match answer {
-        Answer::Accepted => 0,
-        Answer::Refused(number) => number,
-    }
-}
-
-// How an answer is shown beside others: `ok` or `rN`.
-fn short(answer: Answer) -> u64 {
-    match answer {
-        Answer::Accepted => say::OK,
-        Answer::Refused(number) => say::R + (number as u64),
-    }
-}
 
 // What a call answered, and the state that it handed back.
 fn tell(taken: Taken) {
@@ -46,8 +31,10 @@ fn tell(taken: Taken) {
 }
 
 // A call, which is lent the front of the room.
-fn call(state: State, portion: &[u8], room: &mut [u8], size: usize) -> Taken {
-    portions::take(state, portion, parts::front_mut(room, size))
+fn call(state: State, portion: &[u8], room: &mut [u8], size: usize) -> State {
+    let taken = portions::take(state, portion, parts::front_mut(room, size));
+    tell(taken);
+    taken.state
 }
 
 // One call after the other: the length of the room lent (2), the length of the portion (2), the portion.
@@ -58,9 +45,7 @@ fn call_by_call(first: State, calls: &[u8], room: &mut [u8]) -> State {
         let head = parts::part(calls, at, 4);
         let size = parts::number2(head, 2) as usize;
         let portion = parts::part(calls, at + 4, size);
-        let taken = call(state, portion, room, parts::number2(head, 0) as usize);
-        tell(taken);
-        state = taken.state;
+        state = call(state, portion, room, parts::number2(head, 0) as usize);
         at += 4 + size;
     }
     state
@@ -91,11 +76,10 @@ fn changed_to(first: &[u8], room: &[u8]) -> usize {
     let mut end = 0;
     let mut i = 0;
     while i < room.len() {
-        let byte = room[i];
-        i += 1;
-        if byte != was(first, i - 1) {
-            end = i;
+        if room[i] != was(first, i) {
+            end = i + 1;
         }
+        i += 1;
     }
     end
 }
@@ -109,100 +93,113 @@ fn written(first: &[u8], room: &[u8]) {
     }
     let from = changed_from(first, room);
     say::item(from as u64);
-    say::then_bytes(parts::part(parts::front(room, end), from, end));
+    say::then_bytes(parts::part(wire::front(room, end), from, end));
 }
 
 // The state that a request makes up.
 fn made_up(request: &[u8]) -> State {
-    let high = parts::number4(request, 4) as usize;
-    let low = parts::number4(request, 8) as usize;
     State {
-        held: high * 0x1_0000_0000 + low,
+        held: numbers::joined(parts::number4(request, 4), parts::number4(request, 8)) as usize,
         surplus: wire::byte_at(request, 1) != 0,
     }
 }
 
 // From a made-up state call by call, then the end.
-pub fn calls(request: &[u8]) {
+fn calls_in(request: &[u8], room: &mut [u8]) {
     let first = parts::fmmus(request);
+    wire::copy(first, room);
+    let state = call_by_call(made_up(request), parts::sheet(request), room);
+    let size = parts::number2(request, 2) as usize;
+    bays::tell_read(portions::end(state, wire::front(room, size)));
+    written(first, room);
+}
+
+pub fn calls(request: &[u8]) {
     let mut room = [0xffu8; 20480];
-    wire::copy(first, &mut room);
-    let state = call_by_call(made_up(request), parts::sheet(request), &mut room);
-    bays::tell_read(portions::end(
-        state,
-        parts::front(&room, parts::number2(request, 2) as usize),
-    ));
-    written(first, &room);
+    calls_in(request, &mut room);
 }
 
 // How a sheet is cut: the first portion, each later one, and whether an empty one follows each.
 struct Cut {
-    first: usize,
-    each: usize,
+    first: u32,
+    each: u32,
     empty: bool,
 }
 
 // A portion, and an empty one behind it where that is asked.
 fn portion(state: State, bytes: &[u8], empty: bool, room: &mut [u8]) -> State {
     let taken = portions::take(state, bytes, room);
+    let next = taken.state;
     if empty {
-        let none = portions::take(taken.state, b"", room);
-        return none.state;
+        let again = portions::take(next, b"", room);
+        return again.state;
     }
-    taken.state
+    next
 }
 
 // A whole sheet from its first portion to its last.
 fn in_portions(sheet: &[u8], cut: Cut, room: &mut [u8]) -> State {
-    let each = if cut.each == 0 { sheet.len() } else { cut.each };
-    let mut state = portion(
-        portions::begin(),
-        parts::front(sheet, cut.first),
-        cut.empty,
-        room,
-    );
-    let mut at = cut.first;
+    let each = if cut.each == 0 { u32::MAX } else { cut.each };
+    let mut at = cut.first as usize;
+    let mut state = portion(portions::begin(), wire::front(sheet, at), cut.empty, room);
     while at < sheet.len() {
-        state = portion(state, parts::part(sheet, at, each), cut.empty, room);
-        at += each;
+        state = portion(
+            state,
+            parts::part(sheet, at, each as usize),
+            cut.empty,
+            room,
+        );
+        at += each as usize;
     }
     state
 }
 
-// What is asked of a sheet in portions: the last state and the end's answer.
+// A sheet that came in portions: the last state, and the end's answer.
 struct Arrived {
     state: State,
     read: SheetRead,
 }
 
-// The same sheet over and over, for whoever counts the cost.
-fn over_and_over(sheet: &[u8], cut: Cut, room: &mut [u8], times: u32) -> Arrived {
-    let mut state = in_portions(sheet, cut, room);
-    let mut read = portions::end(state, room);
-    let mut left = times;
-    while 1 < left {
-        state = in_portions(sheet, cut, room);
-        read = portions::end(state, room);
-        left -= 1;
-    }
+fn once(sheet: &[u8], cut: Cut, room: &mut [u8]) -> Arrived {
+    let state = in_portions(sheet, cut, room);
+    let read = portions::end(state, room);
     Arrived { state, read }
 }
 
-fn heads(d: Device) -> Line {
+// The same sheet over and over, for whoever counts the cost.
+fn over_and_over(sheet: &[u8], cut: Cut, room: &mut [u8], times: u32) -> Arrived {
+    let mut last = once(sheet, cut, room);
+    let mut left = times;
+    while 1 < left {
+        last = once(sheet, cut, room);
+        left -= 1;
+    }
+    last
+}
+
+// How an answer is shown beside others: `ok` or `rN`.
+fn short(answer: Answer) -> u64 {
+    match answer {
+        Answer::Accepted => say::OK,
+        Answer::Refused(number) => say::R + (number as u64),
+    }
+}
+
+// What device data has once.
+fn single(d: Device) -> Line {
     [
-        d.has_mailbox as u64 + 2 * (d.coe_protocol as u64) + 4 * (d.complete_access as u64),
+        (wire::bit_of(d.has_mailbox) + 2 * wire::bit_of(d.coe_protocol)) as u64,
+        d.complete_access as u64,
         d.receive_size.0 as u64,
         d.send_size.0 as u64,
         d.n as u64,
         d.f as u64,
         d.pdos as u64,
         d.p as u64,
-        say::END,
     ]
 }
 
-fn managers(list: [SyncManager; 16], k: usize) -> Line {
-    let m = list[k % 16];
+fn manager(m: SyncManager) -> Line {
     let control = m.control;
     say::row(
         m.start_addr as u64,
@@ -212,16 +209,12 @@ fn managers(list: [SyncManager; 16], k: usize) -> Line {
     )
 }
 
-// Whether two records of device data have the same sync managers and usages.
-fn same_lists(a: Device, b: Device) -> bool {
-    let one = a.managers;
-    let other = b.managers;
+fn same_managers(a: [SyncManager; 16], b: [SyncManager; 16]) -> bool {
     let mut k = 0;
     while k < 16 {
-        if !say::same(managers(one, k), managers(other, k)) {
-            return false;
-        }
-        if a.usages[k] != b.usages[k] {
+        let one = a[k];
+        let other = b[k];
+        if !say::same(manager(one), manager(other)) {
             return false;
         }
         k += 1;
@@ -229,25 +222,48 @@ fn same_lists(a: Device, b: Device) -> bool {
     true
 }
 
-fn alike(a: SheetRead, b: SheetRead) -> bool {
-    let one = a.device;
-    let other = b.device;
-    number(a.answer) == number(b.answer)
-        && say::same(heads(one), heads(other))
-        && same_lists(one, other)
+fn same_usages(a: [u8; 16], b: [u8; 16]) -> bool {
+    let mut k = 0;
+    while k < 16 {
+        if a[k] != b[k] {
+            return false;
+        }
+        k += 1;
+    }
+    true
 }
 
-// How many bytes of the room are neither the sheet's, below `held`, nor what they were.
+// Whether every field is the same.
+fn same_device(a: Device, b: Device) -> bool {
+    let managers = a.managers;
+    let others = b.managers;
+    let usages = a.usages;
+    let codes = b.usages;
+    say::same(single(a), single(b)) && same_managers(managers, others) && same_usages(usages, codes)
+}
+
+fn alike(a: SheetRead, b: SheetRead) -> bool {
+    let one = a.answer;
+    let other = b.answer;
+    let device = a.device;
+    let whole = b.device;
+    short(one) == short(other) && same_device(device, whole)
+}
+
+// What a byte of the room must be once `held` bytes of the sheet have come.
+fn right(sheet: &[u8], held: usize, at: usize) -> u8 {
+    if at < held {
+        return wire::byte_at(sheet, at);
+    }
+    0xff
+}
+
+// How many bytes of the room are wrong.
 fn wrong(sheet: &[u8], held: usize, room: &[u8]) -> u64 {
-    let mut count = 0u64;
+    let mut count = 0;
     let mut i = 0;
     while i < room.len() {
-        let right = if i < held {
-            wire::byte_at(sheet, i)
-        } else {
-            0xff
-        };
-        if room[i] != right {
+        if room[i] != right(sheet, held, i) {
             count += 1;
         }
         i += 1;
@@ -255,36 +271,33 @@ fn wrong(sheet: &[u8], held: usize, room: &[u8]) -> u64 {
     count
 }
 
-// In portions beside at once.
-pub fn beside(request: &[u8], c: u32) -> Line {
-    let sheet = parts::sheet(request);
-    let mut space = [0xffu8; 20480];
-    let room = parts::front_mut(&mut space, parts::number2(request, 2) as usize);
-    let arrived = over_and_over(
-        sheet,
-        Cut {
-            first: c as usize,
-            each: parts::number4(request, 4) as usize,
-            empty: wire::byte_at(request, 1) != 0,
-        },
-        room,
-        parts::number4(request, 8),
-    );
+fn compared(sheet: &[u8], arrived: Arrived, room: &[u8]) -> Line {
     let state = arrived.state;
     let read = arrived.read;
     let answer = read.answer;
+    let same = alike(read, sheet::read(sheet));
     [
-        if alike(read, sheet::read(sheet)) {
-            say::SAME
-        } else {
-            say::DIFFER
-        },
+        if same { say::SAME } else { say::DIFFER },
         short(answer),
         state.held as u64,
-        say::SLASH + (state.surplus as u64),
+        say::SLASH + (wire::bit_of(state.surplus) as u64),
         wrong(sheet, state.held, room),
         say::END,
         say::END,
         say::END,
     ]
+}
+
+// In portions beside at once.
+pub fn beside(request: &[u8], c: u32) -> Line {
+    let sheet = parts::sheet(request);
+    let cut = Cut {
+        first: c,
+        each: parts::number4(request, 4),
+        empty: wire::byte_at(request, 1) != 0,
+    };
+    let mut space = [0xffu8; 20480];
+    let room = parts::front_mut(&mut space, parts::number2(request, 2) as usize);
+    let arrived = over_and_over(sheet, cut, room, parts::number4(request, 8));
+    compared(sheet, arrived, room)
 }

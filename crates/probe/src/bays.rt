@@ -254,7 +254,7 @@ pub fn plan(request: &[u8]) {
     let channels = [0u8; 128];
     let mut text = [0u8; 4096];
     let answer = report::report(parts::sheet(request), fmmus, channels, &mut text);
-    say::text(parts::front(&text, without_end(answer)));
+    say::text(wire::front(&text, without_end(answer)));
 }
 
 // A data pass of a plan, in group 0.

@@ -14,7 +14,7 @@ use sync_manager_channel::Enable;
 use sync_manager_channel::Status;
 
 // Two numbers of four bytes as one of eight.
-fn joined(high: u32, low: u32) -> u64 {
+pub fn joined(high: u32, low: u32) -> u64 {
     (high as u64) * 0x1_0000_0000 + (low as u64)
 }
 

@@ -28,14 +28,7 @@ pub fn rest(request: &[u8]) -> usize {
     sheet + 3 * records + fmmus + channels
 }
 
-// The front of a buffer.
-pub fn front(bytes: &[u8], count: usize) -> &[u8] {
-    if bytes.len() < count {
-        return bytes;
-    }
-    &bytes[..count]
-}
-
+// The front of a buffer that is written, as `wire::front` of one that is read.
 pub fn front_mut(bytes: &mut [u8], count: usize) -> &mut [u8] {
     if bytes.len() < count {
         return bytes;
@@ -46,7 +39,7 @@ pub fn front_mut(bytes: &mut [u8], count: usize) -> &mut [u8] {
 // `count` bytes from a place on, as far as there are any.
 pub fn part(bytes: &[u8], from: usize, count: usize) -> &[u8] {
     let start = wire::least(from, bytes.len());
-    front(&bytes[start..], count)
+    wire::front(&bytes[start..], count)
 }
 
 pub fn sheet(request: &[u8]) -> &[u8] {

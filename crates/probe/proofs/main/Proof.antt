@@ -8,7 +8,7 @@ use Rattle.probe.proofs.main.Statement.{statement}
 use Rattle.probe.proofs.main.Tie as tie
 
 abbrev Inv-loop : tie.InvT-loop
-Inv-loop request₀ turns₀ request turns = length request ≡ 18207
+Inv-loop request₀ turns₀ request turns = length request ≡ 22300
 
 abbrev μ-loop : tie.MeasureT-loop
 μ-loop request₀ turns₀ request turns = turns
