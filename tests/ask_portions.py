@@ -45,8 +45,7 @@ def beside(name, data, room=LEAST):
     """A sheet by H: cut in two at every place, then in equal portions."""
     every = dict(times=len(data) + 1, sheet=data)
     yield f"{name}, cut in two", Request("H", 0, room, **every)
-    if len(data) < 100:
-        yield f"{name}, cut in two, empty portions between", Request("H", 1, room, **every)
+    yield f"{name}, cut in two, empty portions between", Request("H", 1, room, **every)
     for size in (1, 16):
         yield f"{name}, in portions of {size}", Request("H", 0, room, size, c=size, sheet=data)
     yield f"{name}, byte by byte, empty portions between", Request("H", 255, room, 1, c=1, sheet=data)
