@@ -15,7 +15,7 @@ use Rattle.area.specs.Area.{storedAt}
 use Rattle.sheet.specs.declared.Answer.the-variants.{Accepted, Refused}
 use Rattle.sheet.specs.declared.SheetRead.{SheetRead}
 use Rattle.sheet.specs.Device.{Data, dataOf}
-use Rattle.sheet.specs.Sheet.{readSheet, answerOf, sheetReadOf, deviceAfter, Reads}
+use Rattle.sheet.specs.Sheet.{readSheet, answerOf, deviceAfter, Reads}
 use Rattle.portions.specs.declared.State.{State}
 use Rattle.portions.specs.Portions.{heldIn, stored, stateWith, shortRoom, taking, stateAfter, Takes, tooMany, ending}
 use Rattle.portions.proofs.Front.{stored-behind, stored-nowhere}
@@ -88,14 +88,6 @@ ending-many st room e t = rw (e, t) refl
 pub ending-reads : (st : State) (room : List ℕ) → shortRoom room ≡ false → tooMany st ≡ false → ending st room ≡ readSheet (heldIn st room)
 unfolding ending
 ending-reads st room e t = rw (e, t) refl
-
--- a refusal has nothing beside it, whatever the bytes
-pub reads-nothing : {o : Outcome Data} {n : ℕ} (s : List ℕ) {r : SheetRead} → o ≡ refused n → r ≡ sheetReadOf (refused n) → Reads o s r
-reads-nothing {o} {n} s {r} e p =
-    record {
-      says = ap (λ (x : SheetRead). answerOf (x .answer) (dataOf (x .device) s)) p ∙ sym e;
-      holds = ap (λ (x : SheetRead). x .device) p ∙ sym (ap (λ (x : Outcome Data). deviceAfter x s) e);
-    }
 
 -- a promise by another name of its outcome and its bytes
 pub reads-by : {o p : Outcome Data} {s t : List ℕ} {r : SheetRead} → o ≡ p → s ≡ t → Reads o s r → Reads p t r

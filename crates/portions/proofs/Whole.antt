@@ -24,11 +24,12 @@ use Rattle.sheet.specs.declared.SheetRead.{SheetRead}
 use Rattle.sheet.specs.Device.{Data, dataOf}
 use Rattle.sheet.specs.Sheet.{readSheet, answerOf, sheetReadOf, deviceAfter, Reads, ReadsAs}
 use Rattle.sheet.proofs.Unique.{same-read}
+use Rattle.sheet.proofs.Reading.{reads-nothing}
 use Rattle.portions.specs.declared.State.{State}
 use Rattle.portions.specs.Portions.{begun, heldIn, stored, stateWith, shortRoom, stateAfter, tooMany, ending}
 use Rattle.portions.specs.Arrival.{Call, takenBy, takenIn, joined, Standing, atFirst, bytesAfter, afterCall, afterCalls, HandedOn, Untouched, EachUntouched, Arrival, last, found, OnlyShort, leftBy, RoomsHold, HoweverCut}
 use Rattle.portions.proofs.Front.{take-joined}
-use Rattle.portions.proofs.Steps.{taking-short, taking-enough, ending-short, ending-many, ending-reads, reads-by, reads-nothing}
+use Rattle.portions.proofs.Steps.{taking-short, taking-enough, ending-short, ending-many, ending-reads, reads-by}
 
 -- an answer by its outcome
 answer-refused : {A : Type 0} (a : Answer) (x : A) (n : ℕ) → answerOf a x ≡ refused n → a ≡ Refused n

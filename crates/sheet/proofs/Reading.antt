@@ -18,8 +18,16 @@ use Rattle.sheet.specs.declared.Answer.{Answer}
 use Rattle.sheet.specs.declared.Answer.the-variants.{Accepted, Refused}
 use Rattle.sheet.specs.Device.{Data, pdosFrom, dataOf}
 use Rattle.sheet.specs.Sheet.{managerCount, usageCount, pdoCount, managerPlace, usagesPlace, pdosPlace, managerAt, noManager}
-use Rattle.sheet.specs.Sheet.{sheetRefusals, sheetData, readSheet, deviceOf, answerOf, sheetReadOf, deviceAfter, ReadsAs}
+use Rattle.sheet.specs.Sheet.{sheetRefusals, sheetData, readSheet, deviceOf, answerOf, sheetReadOf, deviceAfter, Reads, ReadsAs}
 use Rattle.sheet.proofs.Kept.{Accepts, accepted-accepts}
+
+-- a refusal has nothing beside it, whatever the bytes
+pub reads-nothing : {o : Outcome Data} {n : ℕ} (s : List ℕ) {r : SheetRead} → o ≡ refused n → r ≡ sheetReadOf (refused n) → Reads o s r
+reads-nothing s e p =
+    record {
+      says = ap (λ (x : SheetRead). answerOf (x .answer) (dataOf (x .device) s)) p ∙ sym e;
+      holds = ap (λ (x : SheetRead). x .device) p ∙ sym (ap (λ (x : Outcome Data). deviceAfter x s) e);
+    }
 
 -- what `check` promises of its answer
 abbrev pub Checked : List ℕ → Answer → Type 0
@@ -70,12 +78,7 @@ module _ (s : List ℕ) where
   -- reading, after a refusal
   pub reads-refused : {n : ℕ} {r : SheetRead} → Checked s (Refused n) → r ≡ sheetReadOf (refused n) → ReadsAs s r
   unfolding readSheet
-  reads-refused {n} {r} e p =
-      let o : readSheet s ≡ refused n = checked-stop (accepted (sheetData s)) e in
-      record {
-        says = ap (λ (x : SheetRead). answerOf (x .answer) (dataOf (x .device) s)) p ∙ sym o;
-        holds = ap (λ (x : SheetRead). x .device) p ∙ sym (ap (λ (x : Outcome Data). deviceAfter x s) o);
-      }
+  reads-refused e p = reads-nothing s (checked-stop (accepted (sheetData s)) e) p
 
   -- and of a sheet that keeps the rules
   pub reads-device : {d : Device} → Checked s Accepted → d ≡ deviceOf s → ReadsAs s (record { answer = Accepted; device = d })

@@ -4,7 +4,8 @@ use mathlib.Core.Path.{sym, _∙_, ap}
 use denote.Ref.{now}
 use borrow.Author.Needs.{needs}
 use Rattle.sheet.specs.Sheet.{readSheet}
-use Rattle.portions.proofs.Steps.{short, enough, ending-short, ending-many, ending-reads, reads-nothing, reads-by}
+use Rattle.sheet.proofs.Reading.{reads-nothing}
+use Rattle.portions.proofs.Steps.{short, enough, ending-short, ending-many, ending-reads, reads-by}
 use Rattle.portions.proofs.end.Statement.{statement}
 use Rattle.portions.proofs.end.Tie as tie
 
