@@ -1,4 +1,4 @@
-/* A planner in plain C, written from document 01: the yardstick that bench/count holds the others to.
+/* A planner in plain C, written from documents 01 and 02: the yardstick that bench/count holds the others to.
    Input and answer are those of README.md. Where READ_IN_EACH_PASS is defined, each pass reads the sheet itself, as entry
    points do that take a sheet; otherwise a plan reads it once. Where PORTION isn't 0, nothing is planned: the sheet is taken into
    room in portions of so many bytes (document 02, 1/13), and read at the end. */

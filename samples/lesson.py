@@ -20,6 +20,7 @@ ROOT = Path(__file__).resolve().parent.parent
 sys.path.append(str(ROOT / "tests"))
 
 from build import SAMPLE, STALE, area, eeprom, entry, managers, on_eeprom, sheet
+from portions import KEPT
 from registers import LIMIT, Fmmu, segment_text
 from stored import sample
 from stream import FMMU_RECORD, Request, packed
@@ -128,7 +129,7 @@ def exercise_7(ask):
 
 
 # bytes of a portion, and of the room lent for it: the second call is refused, and its portion sent again
-SENT = [(20, 16_386), (20, 16_385), (20, 16_386), (18, 16_386)]
+SENT = [(20, KEPT), (20, KEPT - 1), (20, KEPT), (18, KEPT)]
 
 
 def sent():
@@ -136,12 +137,12 @@ def sent():
     at, calls = 0, b""
     for size, room in SENT:
         calls += packed([room, size], [2, 2]) + SAMPLE[at : at + size]
-        at += size if room >= 16_386 else 0
+        at += size if room >= KEPT else 0
     return calls
 
 
 def portions(ask):
-    [[line]] = ask([("portions: the sheet of bay.hex", Request("t", room=16_386, sheet=sent()))])
+    [[line]] = ask([("portions: the sheet of bay.hex", Request("t", room=KEPT, sheet=sent()))])
     words = line.split()
     for (size, room), word in zip(SENT, words):
         answer, held, _ = word.split("/")
@@ -166,7 +167,7 @@ CALLS = [
     ("translate with an enabled input entry of bits 0 to 0", Request("T", fmmus=area(entry(0, 0, 0, bits=(0, 0, 0))))),
     ("PdiSegment::fmt of (empty) into room of 6 bytes", Request("s", room=6)),
     ("Fmmu::pack_to_slice of a record with start bit 8", Request("W", room=16, fmmus=START_BIT_8)),
-    ("portions::end with room of 16,385 bytes", Request("t", room=16_385)),
+    ("portions::end with room of 16,385 bytes", Request("t", room=KEPT - 1)),
 ]
 
 

@@ -4,10 +4,10 @@ from itertools import repeat
 
 from ask_sheets import SHORT, longest
 from build import SAMPLE, managers, on_eeprom, pattern, sheet
+from portions import KEPT as LEAST  # bytes of the shortest room that is enough, and of the longest sheet
 from stored import samples
 from stream import Request, packed
 
-LEAST = 16_386  # bytes of the shortest room that is enough, and of the longest sheet
 BARELY, MOST = LEAST - 1, 20_480  # one byte too little, and all that the probe lends
 LONG = longest(16_384)[:LEAST]
 SURPLUS = bytes(251 - k % 251 for k in range(4_094))  # behind the longest sheet; none of them is 0xff
@@ -52,7 +52,7 @@ def beside(name, data, room=LEAST):
 
 
 def call_by_call(name, data):
-    for place in range(len(data) + 1):
+    for place in range(len(data) + 1 if len(data) < 100 else 0):
         yield f"{name}, cut at {place}", told([data[:place], data[place:]])
     single = parts(data, 1)
     yield f"{name}, byte by byte", told(single)
@@ -66,7 +66,7 @@ def cuts():
         data = bytes.fromhex(text)
         yield f"{name}, cut in two", Request("H", 0, LEAST, times=len(data) + 1, sheet=data)
     for path, data in samples():
-        if path.stem == "bay" or path.stem.startswith("refused") and len(data) < 100:
+        if path.stem == "bay" or path.stem.startswith("refused"):
             yield from call_by_call(path.stem, data)
 
 

@@ -76,6 +76,9 @@ def parts():
     last = [(0, 0)] * (TABLE - 1) + [(0x1A00, 2)]
     counted = Request("C", c=5, sheet=SAMPLE)  # 34 bits are 5 bytes, so that byte 5 is the next sync manager's first
     yield between("the most room", Request("s", room=ROOM), f"7 |(empty){'~' * (ROOM - 7)}|")
+    for letter, part, size in (("W", "fmmus", FMMU_RECORD), ("Z", "channels", CHANNEL_RECORD)):
+        image = Request(letter, room=ROOM, **{part: bytes(size)})
+        yield between(f"the most room for an image, {letter}", image, f"refused 1 {'ff' * ROOM}")
     yield between("the longest sheet", Request("d", sheet=bytes(SHEET)), "refused 2")
     yield between("the last record of a table counts", counted._replace(table=last), "4 0 4483")
     yield between("the longest FMMU part", Request("T", fmmus=bytes(FMMUS)), "refused 1")

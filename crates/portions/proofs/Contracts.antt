@@ -1,5 +1,6 @@
--- The calls of `Arrival` are calls of the functions, and what the end is held to is what `sheet::read` promises: arguments, answer and room at exit that keep a function's own contract, as it is generated from the source
--- (`Post`), make the record that the theorem is about. So a changed `ensures` breaks this file.
+-- The calls of `Arrival` are calls of the functions: arguments, answer and room at exit that keep a function's own contract, as it is generated
+-- from the source (`Post`), make the record that the theorem is about; and what the end is held to is what `sheet::read` promises. So a changed
+-- `ensures` breaks this file.
 -- Assumes nothing.
 use mathlib.Core.Path.{_≡_}
 use contract.Lifetimes.{Lfts}
@@ -32,7 +33,7 @@ call-of κs a answer s kept =
       given = a .0;
       portion = now (a .1 .0);
       room = now (a .1 .1 .0);
-      answer = answer;
+      taken = answer;
       left = now (s .1 .1 .0);
       promise = kept;
     }

@@ -29,7 +29,7 @@ callOf st portion room =
       given = st;
       portion = portion;
       room = room;
-      answer = record { answer = answer-back (taking st portion room); state = stateAfter (taking st portion room) st };
+      taken = record { answer = answer-back (taking st portion room); state = stateAfter (taking st portion room) st };
       left = roomAfter (taking st portion room) (heldIn st room ++ stored st portion) room;
       promise = record { says = answer-by (taking st portion room) st; state = refl; holds = refl };
     }
@@ -37,23 +37,23 @@ callOf st portion room =
 -- one after the other in one room, and what that room ends as
 abbrev callsOf : State → List ℕ → List (List ℕ) → List Call
 callsOf st room [] = []
-callsOf st room (p ∷ ps) = callOf st p room ∷ callsOf (callOf st p room .answer .state) (callOf st p room .left) ps
+callsOf st room (p ∷ ps) = callOf st p room ∷ callsOf (callOf st p room .taken .state) (callOf st p room .left) ps
 
 abbrev endOf : State → List ℕ → List (List ℕ) → List ℕ
 endOf st room [] = room
-endOf st room (p ∷ ps) = endOf (callOf st p room .answer .state) (callOf st p room .left) ps
+endOf st room (p ∷ ps) = endOf (callOf st p room .taken .state) (callOf st p room .left) ps
 
 handed-on : (st : State) (room : List ℕ) (ps : List (List ℕ)) → HandedOn st (callsOf st room ps)
 handed-on st room [] = tt
-handed-on st room (p ∷ ps) = (refl, handed-on (callOf st p room .answer .state) (callOf st p room .left) ps)
+handed-on st room (p ∷ ps) = (refl, handed-on (callOf st p room .taken .state) (callOf st p room .left) ps)
 
 one-room : (st : State) (room : List ℕ) (ps : List (List ℕ)) → OneRoom room (callsOf st room ps) (endOf st room ps)
 one-room st room [] = refl
-one-room st room (p ∷ ps) = (refl, one-room (callOf st p room .answer .state) (callOf st p room .left) ps)
+one-room st room (p ∷ ps) = (refl, one-room (callOf st p room .taken .state) (callOf st p room .left) ps)
 
 their-portions : (st : State) (room : List ℕ) (ps : List (List ℕ)) → map (λ (c : Call). c .portion) (callsOf st room ps) ≡ ps
 their-portions st room [] = refl
-their-portions st room (p ∷ ps) = ap (λ (l : List (List ℕ)). p ∷ l) (their-portions (callOf st p room .answer .state) (callOf st p room .left) ps)
+their-portions st room (p ∷ ps) = ap (λ (l : List (List ℕ)). p ∷ l) (their-portions (callOf st p room .taken .state) (callOf st p room .left) ps)
 
 -- a room that is enough stays so, and every portion is taken
 still-enough : (st : State) (p room : List ℕ) → shortRoom room ≡ false → shortRoom (callOf st p room .left) ≡ false
@@ -64,7 +64,7 @@ still-enough st p room e =
 
 enough-at-the-end : (st : State) (room : List ℕ) (ps : List (List ℕ)) → shortRoom room ≡ false → shortRoom (endOf st room ps) ≡ false
 enough-at-the-end st room [] e = e
-enough-at-the-end st room (p ∷ ps) e = enough-at-the-end (callOf st p room .answer .state) (callOf st p room .left) ps (still-enough st p room e)
+enough-at-the-end st room (p ∷ ps) e = enough-at-the-end (callOf st p room .taken .state) (callOf st p room .left) ps (still-enough st p room e)
 
 all-taken : (st : State) (room : List ℕ) (ps : List (List ℕ)) → shortRoom room ≡ false → joined (callsOf st room ps) ≡ flat ps
 unfolding flat
@@ -73,7 +73,7 @@ all-taken st room (p ∷ ps) e =
     ap₂
     (λ (x y : List ℕ). x ++ y)
     (ap (λ (o : Outcome State). takenBy (answer-back o) p) (taking-enough st p room e))
-    (all-taken (callOf st p room .answer .state) (callOf st p room .left) ps (still-enough st p room e))
+    (all-taken (callOf st p room .taken .state) (callOf st p room .left) ps (still-enough st p room e))
 
 pub every-cut : EveryCut
 every-cut portions room read e r =

@@ -50,7 +50,7 @@ stays : (first came now : List ℕ) (cs : List Call) (end : List ℕ) → now �
 unfolding flat
 stays first came now [] end e h o = o ∙ e ∙ ap (λ (l : List ℕ). over (take 16386 l) first) (sym (append-nil came))
 stays first came now (c ∷ cs) end e h o =
-    stays first (came ++ takenIn c) (c .left) cs end (go (c .answer .answer) (h .0)) (h .1) (o .1)
+    stays first (came ++ takenIn c) (c .left) cs end (go (c .taken .answer) (h .0)) (h .1) (o .1)
     ∙ ap (λ (l : List ℕ). over (take 16386 l) first) (append-assoc came (takenIn c) (joined cs))
   where
     go : (a : Answer) → c .left ≡ leftBy a (came ++ takenBy a (c .portion)) (c .room) → c .left ≡ over (take 16386 (came ++ takenBy a (c .portion))) first
@@ -70,9 +70,9 @@ rest-stays a room o = stays room [] room (a .calls) (a .room) (over-nothing room
 untouched-left : (w : Standing) (c : Call) → Untouched (afterCall w c) (c .left)
 untouched-left w c e = go (shortRoom (c .room)) refl
   where
-    go : (b : Bool) → shortRoom (c .room) ≡ b → heldIn (c .answer .state) (c .left) ≡ afterCall w c .bytes
+    go : (b : Bool) → shortRoom (c .room) ≡ b → heldIn (c .taken .state) (c .left) ≡ afterCall w c .bytes
     go true s = absurd (false≢true (sym e ∙ ap shortRoom (left c s .room) ∙ s))
-    go false s = sym (ap (λ (a : Answer). bytesAfter a (c .answer .state) (c .left) (w .bytes)) (took c s .answer))
+    go false s = sym (ap (λ (a : Answer). bytesAfter a (c .taken .state) (c .left) (w .bytes)) (took c s .answer))
 
 in-one-room : (w : Standing) (room : List ℕ) (cs : List Call) (end : List ℕ) → Untouched w room → OneRoom room cs end → EachUntouched w cs end
 in-one-room w room [] end u o = λ e. ap (heldIn (w .state)) o ∙ u (ap shortRoom (sym o) ∙ e)

@@ -42,30 +42,30 @@ answer-accepted (Refused m) x y e = absurd (never e)
 
 -- a call with a short room: refused, state and room as before
 pub record Left (c : Call) : Type 0 where
-  pub answer : c .answer .answer ≡ Refused 14
-  pub state : c .answer .state ≡ c .given
+  pub answer : c .taken .answer ≡ Refused 14
+  pub state : c .taken .state ≡ c .given
   pub room : c .left ≡ c .room
 
 pub left : (c : Call) → shortRoom (c .room) ≡ true → Left c
 left c e =
     let o = taking-short (c .given) (c .portion) (c .room) e in
     record {
-      answer = answer-refused (c .answer .answer) (c .answer .state) 14 (c .promise .says ∙ o);
+      answer = answer-refused (c .taken .answer) (c .taken .state) 14 (c .promise .says ∙ o);
       state = c .promise .state ∙ ap (λ (x : Outcome State). stateAfter x (c .given)) o;
       room = c .promise .holds ∙ ap (λ (x : Outcome State). roomAfter x (heldIn (c .given) (c .room) ++ stored (c .given) (c .portion)) (c .room)) o;
     }
 
--- a call with enough room: what stored goes behind what is held
+-- a call with enough room: what is stored goes behind what is held
 pub record Took (c : Call) : Type 0 where
-  pub answer : c .answer .answer ≡ Accepted
-  pub state : c .answer .state ≡ stateWith (c .given) (c .portion)
+  pub answer : c .taken .answer ≡ Accepted
+  pub state : c .taken .state ≡ stateWith (c .given) (c .portion)
   pub room : c .left ≡ over (heldIn (c .given) (c .room) ++ stored (c .given) (c .portion)) (c .room)
 
 pub took : (c : Call) → shortRoom (c .room) ≡ false → Took c
 took c e =
     let o = taking-enough (c .given) (c .portion) (c .room) e in
     record {
-      answer = answer-accepted (c .answer .answer) (c .answer .state) (stateWith (c .given) (c .portion)) (c .promise .says ∙ o);
+      answer = answer-accepted (c .taken .answer) (c .taken .state) (stateWith (c .given) (c .portion)) (c .promise .says ∙ o);
       state = c .promise .state ∙ ap (λ (x : Outcome State). stateAfter x (c .given)) o;
       room = c .promise .holds ∙ ap (λ (x : Outcome State). roomAfter x (heldIn (c .given) (c .room) ++ stored (c .given) (c .portion)) (c .room)) o;
     }
@@ -99,18 +99,18 @@ front-over s room h = ap (take (length s)) (over-front s room h) ∙ take-append
 -- one call more
 record Step (w : Standing) (came : List ℕ) (c : Call) : Type 0 where
   keeps : Keeps (afterCall w c) (came ++ takenIn c)
-  room : c .left ≡ leftBy (c .answer .answer) (came ++ takenIn c) (c .room)
+  room : c .left ≡ leftBy (c .taken .answer) (came ++ takenIn c) (c .room)
 
 module _ (w : Standing) (came : List ℕ) (c : Call) (k : Keeps w came) (g : c .given ≡ w .state) where
   step-short : shortRoom (c .room) ≡ true → Step w came c
   step-short e =
       let l = left c e in
       let same : came ++ takenIn c ≡ came = ap (λ (a : Answer). came ++ takenBy a (c .portion)) (l .answer) ∙ append-nil came in
-      let st : c .answer .state ≡ w .state = l .state ∙ g in
+      let st : c .taken .state ≡ w .state = l .state ∙ g in
       record {
         keeps =
             record {
-              bytes = ap (λ (a : Answer). bytesAfter a (c .answer .state) (c .left) (w .bytes)) (l .answer) ∙ k .bytes ∙ ap (take 16386) (sym same);
+              bytes = ap (λ (a : Answer). bytesAfter a (c .taken .state) (c .left) (w .bytes)) (l .answer) ∙ k .bytes ∙ ap (take 16386) (sym same);
               held = ap (λ (s : State). s .held) st ∙ k .held ∙ ap (λ (x : List ℕ). length (take 16386 x)) (sym same);
               surplus = ap (λ (s : State). s .surplus) st ∙ k .surplus ∙ ap (λ (x : List ℕ). ltb 16386 (length x)) (sym same);
             };
@@ -131,7 +131,7 @@ module _ (w : Standing) (came : List ℕ) (c : Call) (k : Keeps w came) (g : c .
       ∙ sym (take-joined 16386 came (c .portion))
       ∙ ap (λ (p : List ℕ). take 16386 (came ++ p)) (sym taken) in
       let room : c .left ≡ over (take 16386 all) (c .room) = t .room ∙ ap (λ (x : List ℕ). over x (c .room)) now in
-      let many : c .answer .state .held ≡ length (take 16386 all) =
+      let many : c .taken .state .held ≡ length (take 16386 all) =
       ap (λ (s : State). s .held) (t .state)
       ∙ ap (λ (n : ℕ). n + length fit) (held ∙ sym (ap length was))
       ∙ sym (length-append (heldIn st (c .room)) fit)
@@ -144,7 +144,7 @@ module _ (w : Standing) (came : List ℕ) (c : Call) (k : Keeps w came) (g : c .
         keeps =
             record {
               bytes =
-                  ap (λ (a : Answer). bytesAfter a (c .answer .state) (c .left) (w .bytes)) (t .answer)
+                  ap (λ (a : Answer). bytesAfter a (c .taken .state) (c .left) (w .bytes)) (t .answer)
                   ∙ ap₂ (λ (n : ℕ) (x : List ℕ). take n x) many room
                   ∙ front-over (take 16386 all) (c .room) (omega arith);
               held = many;
@@ -281,7 +281,7 @@ however-cut a =
     record {
       answer = answers a;
       planned = plans a;
-      sheet = λ e. end-untouched atFirst (a .calls) (a .room) (a .untouched) e ∙ k .0 .bytes;
+      kept = λ e. end-untouched atFirst (a .calls) (a .room) (a .untouched) e ∙ k .0 .bytes;
       held = k .0 .held;
       surplus = k .0 .surplus;
       short = fourteen a;

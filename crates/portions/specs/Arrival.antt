@@ -24,9 +24,9 @@ pub record Call : Type 0 where
   pub given : State
   pub portion : List ℕ
   pub room : List ℕ
-  pub answer : Taken
+  pub taken : Taken
   pub left : List ℕ
-  pub promise : Takes given portion room answer left
+  pub promise : Takes given portion room taken left
 
 -- a portion that is refused isn't taken
 abbrev pub takenBy : Answer → List ℕ → List ℕ
@@ -34,7 +34,7 @@ takenBy Accepted portion = portion
 takenBy (Refused n) portion = []
 
 abbrev pub takenIn : Call → List ℕ
-takenIn c = takenBy (c .answer .answer) (c .portion)
+takenIn c = takenBy (c .taken .answer) (c .portion)
 
 -- the taken portions joined
 abbrev pub joined : List Call → List ℕ
@@ -53,7 +53,7 @@ bytesAfter Accepted st left bytes = heldIn st left
 bytesAfter (Refused n) st left bytes = bytes
 
 abbrev pub afterCall : Standing → Call → Standing
-afterCall w c = record { state = c .answer .state; bytes = bytesAfter (c .answer .answer) (c .answer .state) (c .left) (w .bytes) }
+afterCall w c = record { state = c .taken .state; bytes = bytesAfter (c .taken .answer) (c .taken .state) (c .left) (w .bytes) }
 
 abbrev pub afterCalls : Standing → List Call → Standing
 afterCalls w [] = w
@@ -62,7 +62,7 @@ afterCalls w (c ∷ cs) = afterCalls (afterCall w c) cs
 -- each call is handed the state that the one before handed back
 abbrev pub HandedOn : State → List Call → Type 0
 HandedOn st [] = Unit {0}
-HandedOn st (c ∷ cs) = (c .given ≡ st) × HandedOn (c .answer .state) cs
+HandedOn st (c ∷ cs) = (c .given ≡ st) × HandedOn (c .taken .state) cs
 
 -- nobody else writes the room: one that is enough begins with the bytes that are held, whatever its length and whatever follows them
 abbrev pub Untouched : Standing → List ℕ → Type 0
@@ -91,7 +91,7 @@ found a = heldIn (last a) (a .room)
 
 -- nothing but 14 is reported before the end
 abbrev pub OnlyShort : Call → Type 0
-OnlyShort c = c .answer .answer ≡ cond (shortRoom (c .room)) (Refused 14) Accepted
+OnlyShort c = c .taken .answer ≡ cond (shortRoom (c .room)) (Refused 14) Accepted
 
 -- what each call leaves in its room: the joined bytes so far, at most 16,386 of them, and the rest as it was; where it is refused, the room as it was
 abbrev pub leftBy : Answer → List ℕ → List ℕ → List ℕ
@@ -100,7 +100,7 @@ leftBy (Refused n) came room = room
 
 abbrev pub RoomsHold : List ℕ → List Call → Type 0
 RoomsHold came [] = Unit {0}
-RoomsHold came (c ∷ cs) = (c .left ≡ leftBy (c .answer .answer) (came ++ takenIn c) (c .room)) × RoomsHold (came ++ takenIn c) cs
+RoomsHold came (c ∷ cs) = (c .left ≡ leftBy (c .taken .answer) (came ++ takenIn c) (c .room)) × RoomsHold (came ++ takenIn c) cs
 
 -- what the calls come to
 pub record Whole (a : Arrival) : Type 0 where
@@ -109,7 +109,7 @@ pub record Whole (a : Arrival) : Type 0 where
   -- where it accepts, the sheet is the room's first `held` bytes
   pub planned : a .read .answer ≡ Accepted → found a ≡ joined (a .calls)
   -- also where it refuses, these are the joined bytes, at most 16,386 of them; that there were more is remembered
-  pub sheet : shortRoom (a .room) ≡ false → found a ≡ take 16386 (joined (a .calls))
+  pub kept : shortRoom (a .room) ≡ false → found a ≡ take 16386 (joined (a .calls))
   pub held : last a .held ≡ length (take 16386 (joined (a .calls)))
   pub surplus : last a .surplus ≡ ltb 16386 (length (joined (a .calls)))
   -- a short room at the end is 14, with nothing beside it

@@ -93,6 +93,7 @@ fn written(first: &[u8], room: &[u8]) {
     }
     let from = changed_from(first, room);
     say::item(from as u64);
+    // as many as there are behind `from`, which are fewer than `end`
     say::then_bytes(parts::part(wire::front(room, end), from, end));
 }
 
@@ -236,18 +237,20 @@ fn same_usages(a: [u8; 16], b: [u8; 16]) -> bool {
 // Whether every field is the same.
 fn same_device(a: Device, b: Device) -> bool {
     let managers = a.managers;
-    let others = b.managers;
+    let other_managers = b.managers;
     let usages = a.usages;
-    let codes = b.usages;
-    say::same(single(a), single(b)) && same_managers(managers, others) && same_usages(usages, codes)
+    let other_usages = b.usages;
+    say::same(single(a), single(b))
+        && same_managers(managers, other_managers)
+        && same_usages(usages, other_usages)
 }
 
 fn alike(a: SheetRead, b: SheetRead) -> bool {
-    let one = a.answer;
-    let other = b.answer;
+    let answer = a.answer;
+    let other_answer = b.answer;
     let device = a.device;
-    let whole = b.device;
-    short(one) == short(other) && same_device(device, whole)
+    let other_device = b.device;
+    short(answer) == short(other_answer) && same_device(device, other_device)
 }
 
 // What a byte of the room must be once `held` bytes of the sheet have come.

@@ -1,4 +1,4 @@
--- `portions::take`: a short room gives 14 with all as it was; else what stored is stored behind what is held.
+-- `portions::take`: a short room gives 14 with all as it was; else what has room is stored behind what is held.
 -- Assumes nothing.
 use mathlib.Core.Path.{refl, sym}
 use native.Mathlib.Omega.{arith}
