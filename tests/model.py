@@ -1,5 +1,5 @@
 #!/usr/bin/env python3
-"""Answers the requests of docs/PROBE.md from documents 01 and 02 alone: what crates/probe must write.
+"""Answers the requests of docs/PROBE.md from documents 01 and 02: what crates/probe must write.
 
 Run `python3 tests/model.py < crates/probe/stdin > crates/probe/stdout` to make the stored answers again.
 """

@@ -1,7 +1,8 @@
 """Document 02's 1/13: a sheet that comes in portions, into room that is lent at each call.
 
-Worked out from documents 01 and 02 alone: nothing here is read from the code that it is held against. A room is a
-bytearray, or a part of one as a memoryview, and is changed only where a portion is taken.
+Worked out from documents 01 and 02: nothing here is read from the code that it is held against. They don't speak of made-up
+states; what those are answered is a decision (docs/DECISIONS.md). A room is a bytearray, or a part of one as a memoryview,
+and is changed only where a portion is taken.
 """
 
 from typing import NamedTuple
