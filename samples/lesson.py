@@ -7,6 +7,7 @@
     python3 samples/lesson.py exercise-6    the pass of docs/EXERCISES.md's exercise 6
     python3 samples/lesson.py exercise-7    that of exercise 7
     python3 samples/lesson.py portions      the sheet of bay.hex in portions, one of them into too short a room
+    python3 samples/lesson.py write         the sheet of bay.hex written from its data, and what writing again changes
     python3 samples/lesson.py refused       the smallest calls for the numbers that a sheet alone can't cause
 
 The program is built first where that is needed, which takes minutes the first time.
@@ -19,7 +20,7 @@ from pathlib import Path
 ROOT = Path(__file__).resolve().parent.parent
 sys.path.append(str(ROOT / "tests"))
 
-from build import SAMPLE, STALE, area, eeprom, entry, managers, on_eeprom, sheet
+from build import SAMPLE, SAMPLE_DATA, STALE, area, device, eeprom, entry, managers, on_eeprom, sheet
 from portions import KEPT
 from registers import LIMIT, Fmmu, segment_text
 from stored import sample
@@ -152,6 +153,35 @@ def portions(ask):
     yield f"the end: {usages - managers - 1} sync managers, {pdos - usages - 1} FMMU usages, {words[pdos + 1]} PDOs"
 
 
+# one sync manager, with bits set that a sheet ignores: its control and its EEPROM enable are bytes 13 and 14
+IGNORED = sheet(0, 0, 0, managers((0x1000, 0xA6, 0xFF, 1)))
+SEVENTEEN = device(**SAMPLE_DATA | dict(n=17))
+
+
+def said(line):
+    """An answer of the letters w and v, without the bytes: the length, or the number."""
+    words = line.split()
+    return f"refused {words[1]}" if words[0] == "refused" else f"{words[0]} bytes"
+
+
+def in_sheet(line):
+    return bytes.fromhex(line.split()[1])
+
+
+def write(ask):
+    asked = [
+        ("write: bay.hex, room a byte short", Request("w", room=len(SAMPLE) - 1, sheet=SAMPLE)),
+        ("write: bay.hex", Request("w", room=len(SAMPLE), sheet=SAMPLE)),
+        ("write: bits that are ignored", Request("w", room=len(IGNORED), sheet=IGNORED)),
+        ("write: n raised to 17", Request("v", room=KEPT, sheet=SAMPLE, fmmus=SEVENTEEN)),
+    ]
+    [[short], [exact], [ignored], [raised]] = ask(asked)
+    yield f"bay.hex into room of {len(SAMPLE) - 1}: {said(short)}"
+    yield f"bay.hex into room of {len(SAMPLE)}: {said(exact)}, {'all' if in_sheet(exact) == SAMPLE else 'not all'} as they were"
+    yield f"control and EEPROM enable: {IGNORED[13:15].hex(' ')} before, {in_sheet(ignored)[13:15].hex(' ')} after"
+    yield f"bay.hex with n raised to 17: {said(raised)}"
+
+
 # one input of one bit, on entry 0
 ONE_BIT = on_eeprom(eeprom(1, 0, 0x1A00, 1), rows=managers((0x1180, 0x20, 1, 4)))
 NO_PARTS = sheet(0, 0, 0)
@@ -166,6 +196,7 @@ CALLS = [
     ("an input pass of nothing from offset 0, group start 1", input_pass(b=1, sheet=NO_PARTS)),
     ("translate with an enabled input entry of bits 0 to 0", Request("T", fmmus=area(entry(0, 0, 0, bits=(0, 0, 0))))),
     ("PdiSegment::fmt of (empty) into room of 6 bytes", Request("s", room=6)),
+    ("writer::write of data with no parts into room of 10 bytes", Request("v", room=10, fmmus=device())),
     ("Fmmu::pack_to_slice of a record with start bit 8", Request("W", room=16, fmmus=START_BIT_8)),
     ("portions::end with room of 16,385 bytes", Request("t", room=KEPT - 1)),
 ]
@@ -183,6 +214,7 @@ LESSONS = {
     "exercise-6": exercise_6,
     "exercise-7": exercise_7,
     "portions": portions,
+    "write": write,
     "refused": refused,
 }
 

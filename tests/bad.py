@@ -17,7 +17,8 @@ from collections import Counter
 from pathlib import Path
 
 import model
-from build import SAMPLE, area, coe, entry, on_coe
+from ask_sheets import longest as longest_sheet
+from build import SAMPLE, SAMPLE_DATA, area, coe, device, entry, on_coe
 from portions import KEPT
 from stream import BadRequest, Request, requests
 
@@ -44,6 +45,9 @@ def most(at):
 ROOM, SHEET, TABLE, FMMUS, CHANNELS = (most(at) for at in (2, 20, 22, 24, 26))
 FMMU_RECORD = number(r"^An FMMU record is (\d+) bytes")
 CHANNEL_RECORD = number(r"^A sync manager record is (\d+) bytes")
+DEVICE_RECORD = number(r"^A device record is (\d+) bytes")
+RECORDS = {letter: ("fmmus", FMMU_RECORD) for letter in "fW"} | {letter: ("channels", CHANNEL_RECORD) for letter in "yZ"}
+RECORDS["v"] = "fmmus", DEVICE_RECORD
 
 
 def between(name, request, *lines):
@@ -71,13 +75,19 @@ def longest(letter):
     return Request(letter, room=ROOM, **parts)
 
 
+def zeros(letter):
+    """A record of zeros, where the entry point takes one."""
+    part, size = RECORDS.get(letter, ("fmmus", 0))
+    return {part: bytes(size)}
+
+
 def parts():
     """Each limit: at it, for an entry point that takes the part; one past it, also where the part isn't taken."""
     last = [(0, 0)] * (TABLE - 1) + [(0x1A00, 2)]
     counted = Request("C", c=5, sheet=SAMPLE)  # 34 bits are 5 bytes, so that byte 5 is the next sync manager's first
     yield between("the most room", Request("s", room=ROOM), f"7 |(empty){'~' * (ROOM - 7)}|")
-    for letter, part, size in (("W", "fmmus", FMMU_RECORD), ("Z", "channels", CHANNEL_RECORD)):
-        image = Request(letter, room=ROOM, **{part: bytes(size)})
+    for letter in "WZ":
+        image = Request(letter, room=ROOM, **zeros(letter))
         yield between(f"the most room for an image, {letter}", image, f"refused 1 {'ff' * ROOM}")
     yield between("the longest sheet", Request("d", sheet=bytes(SHEET)), "refused 2")
     yield between("the last record of a table counts", counted._replace(table=last), "4 0 4483")
@@ -86,14 +96,13 @@ def parts():
     yield between("all at their most", longest("R"), "refused 1")
     past = {"room": ROOM + 1, "sheet": bytes(SHEET + 1), "fmmus": bytes(FMMUS + 1), "channels": bytes(CHANNELS + 1)}
     past["table"] = last[:1] + last
-    for letter in "sprtHz":
+    for letter in "sprtHwvz":
         for part, value in past.items():
-            yield refused(f"{letter}, {part} past its limit", Request(letter, **{part: value}).bytes() + GOOD)
+            yield refused(f"{letter}, {part} past its limit", Request(letter, **zeros(letter) | {part: value}).bytes() + GOOD)
 
 
 def records():
-    for letter in "fWyZ":
-        part, size = ("fmmus", FMMU_RECORD) if letter in "fW" else ("channels", CHANNEL_RECORD)
+    for letter, (part, size) in RECORDS.items():
         for wrong in (0, size - 1, size + 1):
             yield refused(f"{letter}, a record of {wrong}", Request(letter, **{part: bytes(wrong)}).bytes() + GOOD)
     yield between("a channel of ones", Request("Z", room=8, channels=b"\xff" * CHANNEL_RECORD), "ok ffffffff76fbc303")
@@ -180,9 +189,41 @@ def in_portions():
     yield between("the longest sheet in portions", asked._replace(sheet=bytes(SHEET)), f"same r2 {KEPT}/1 0")
 
 
+SMALLEST = "11 0009010000000000000000 0"  # how a sheet with no parts is answered
+
+
+def written_again():
+    """The sheet and the room of w at their most, and its numbers; behind a reading that refuses nothing follows."""
+    asked, whole = Request("w", room=ROOM, sheet=SAMPLE), longest_sheet(KEPT - 2)[:KEPT]
+    accepted = f"58 {SAMPLE.hex()} 0"
+    for times in (0, 1, 3):
+        yield between(f"written {times} times", asked._replace(a=times), accepted)
+    yield between("written again, any direction and b", asked._replace(write=255, b=LAST), accepted)
+    yield between("written again under times", asked._replace(c=7, times=3), f"7: {accepted}")
+    for room, line in ((0, "refused 12 0"), (57, "refused 12 0"), (58, accepted)):
+        yield between(f"written again, room {room}", asked._replace(room=room), line)
+    yield between("the longest sheet written again", asked._replace(sheet=whole, room=KEPT - 1), "refused 12 0")
+    yield between("more than the longest written again", asked._replace(sheet=bytes(SHEET)), "refused 2")
+    yield between("no sheet written again", asked._replace(sheet=b"", room=0), "refused 2")
+
+
+def by_fields():
+    """The record and the lent bytes of v at their most."""
+    ones, none = Request("v", room=ROOM, fmmus=b"\xff" * DEVICE_RECORD), Request("v", room=ROOM, **zeros("v"))
+    yield between("a device of ones", ones, "refused 2 0")
+    yield between("a device of zeros", none, SMALLEST)
+    yield between("no room for a device", none._replace(room=0), "refused 12 0")
+    last = Request("v", room=16, sheet=bytes(SHEET), fmmus=device(pdos=SHEET - 5, p=1))
+    yield between("a PDO at the end of the longest lent bytes", last, "16 000e0100000000000000010000000000 0")
+    behind = last._replace(fmmus=device(pdos=SHEET - 4, p=1))
+    yield between("a PDO past the end of the longest lent bytes", behind, "refused 4 0")
+    sample = Request("v", 255, ROOM, LAST, LAST, 7, 3, SAMPLE, fmmus=device(**SAMPLE_DATA))
+    yield between("by fields under times", sample, f"7: 58 {SAMPLE.hex()} 0")
+
+
 def streams():
     """Each stream with its name and the lines that answer it."""
-    for group in (cut_short, parts, records, repetitions, refusals, calls, in_portions):
+    for group in (cut_short, parts, records, repetitions, refusals, calls, in_portions, written_again, by_fields):
         yield from group()
 
 

@@ -1,7 +1,7 @@
 """Making sheets and register areas for the requests."""
 
 from registers import FMMU, image
-from stream import packed
+from stream import DEVICE_RECORD, MANAGER, packed
 
 # document 01's sample
 SAMPLE = bytes.fromhex(
@@ -15,7 +15,7 @@ SAMPLE = bytes.fromhex(
 
 def managers(*rows):
     """Each row: start, control, enable byte, usage."""
-    return [packed(row, [2, 1, 1, 1]) for row in rows]
+    return [packed(row, MANAGER) for row in rows]
 
 
 def coe(manager, index, *bits):
@@ -36,6 +36,9 @@ def sheet(flags, receive, send, rows=(), usages=(), pdos=(), version=1, more=0):
 # the usual two mailboxes, then outputs on sync manager 2 and inputs on 3
 BOXES = ((0x1000, 0x26, 1, 1), (0x1080, 0x22, 1, 2))
 FOUR = managers(*BOXES, (0x1100, 0x64, 1, 3), (0x1180, 0x20, 1, 4))
+# the sample's sync managers, and its data by its fields, its PDO records lying in the sample
+FIVE = (*BOXES, (0x1100, 0x64, 1, 3), (0x1180, 0x20, 1, 4), (0x1183, 0x20, 1, 4))
+SAMPLE_DATA = dict(rows=FIVE, usages=(1, 2), pdos=38, p=3, flags=3, receive=128, send=128)
 # the same process data without mailboxes: outputs on 0, inputs on 1
 TWO = managers((0x1100, 0x64, 1, 3), (0x1180, 0x20, 1, 4))
 
@@ -46,6 +49,17 @@ def on_coe(*pdos, rows=FOUR, usages=(1, 2), **words):
 
 def on_eeprom(*pdos, rows=TWO, usages=(), **words):
     return sheet(0, 0, 0, rows, usages, pdos, **words)
+
+
+def device(rows=(), usages=(), pdos=0, p=0, flags=0, receive=0, send=0, n=None, f=None, rest=0):
+    """A record of the letter v; n and f are how many rows and usages there are, if not told otherwise.
+
+    Each byte of the places past the rows and the usages holds `rest`.
+    """
+    head = [flags & 1, flags >> 1 & 1, flags >> 2 & 1, receive, send]
+    counts = [len(rows) if n is None else n, len(usages) if f is None else f, pdos, p]
+    places = b"".join(managers(*rows)).ljust(80, bytes([rest])) + bytes(usages).ljust(16, bytes([rest]))
+    return packed([*head, *counts], DEVICE_RECORD[:9]) + places
 
 
 def entry(logical, length, physical, rights=1, on=1, bits=(0, 7, 0), reserved=False):

@@ -9,9 +9,10 @@ import sys
 import planning
 import portions
 import registers as reg
+import writer
 from registers import LIMIT, Refused
 from sheet import COE, COMPLETE_ACCESS, MAILBOX, read_sheet
-from stream import BadRequest, calls, channel_record, fmmu_record, requests
+from stream import BadRequest, calls, channel_record, device_record, fmmu_record, requests
 
 
 def listed(values):
@@ -57,7 +58,7 @@ def control_answer(byte):
 
 def device_text(sheet):
     flags = [sheet.flag(flag) for flag in (MAILBOX, COE, COMPLETE_ACCESS)]
-    managers = [f"{m.start}/{m.control & 0x7F:02x}/{m.enable}/{m.usage}" for m in sheet.managers]
+    managers = [f"{m.start}/{m.control:02x}/{m.enable}/{m.usage}" for m in sheet.managers]
     return listed(
         [*flags, sheet.receive, sheet.send, "managers", *managers, "usages", *sheet.usages, "pdos", len(sheet.pdos)]
     )
@@ -184,6 +185,31 @@ def portions_answer(q):
     return f"{'same' if same else 'differ'} {told} {state_text(state)} {wrong}"
 
 
+# ---- writing sheets
+
+
+def sheet_answer(write, size):
+    """What writing into a room answers, and how many bytes of it aren't as they were but should be."""
+    room = bytearray(b"\xff" * size)
+    try:
+        length = write(room)
+        answer = f"{length} {shown(room[:length])}"
+    except Refused as refused:
+        length, answer = 0, f"refused {refused.args[0]}"
+    return f"{answer} {sum(byte != 0xFF for byte in room[length:])}"
+
+
+def again_written_answer(q):
+    """Written over and over, it answers as once; where reading refuses, that is all of the answer."""
+    sheet = read_sheet(q.sheet)
+    return sheet_answer(lambda room: writer.write_sheet(sheet, room), q.room)
+
+
+def fields_answer(q):
+    device = device_record(q.fmmus)
+    return sheet_answer(lambda room: writer.write(device, q.sheet, room), q.room)
+
+
 ANSWERS = {
     "r": lambda q: str(reg.round_up(q.wide(q.a))),
     "i": lambda q: str(reg.increment(q.a, q.c % 65_536)),
@@ -210,6 +236,8 @@ ANSWERS = {
     "B": again_answer,
     "t": calls_answer,
     "H": portions_answer,
+    "w": again_written_answer,
+    "v": fields_answer,
 }
 
 

@@ -14,6 +14,7 @@ import ask_portions
 import ask_registers
 import ask_sheets
 import ask_sides
+import ask_writer
 import model
 from bays import IN, OUT
 from build import SAMPLE, coe, on_coe
@@ -68,7 +69,7 @@ def others():
 
 def ask():
     """Each request with its name, in the order of the stream."""
-    files = (ask_registers, ask_sheets, ask_portions, ask_passes, ask_sides)
+    files = (ask_registers, ask_sheets, ask_portions, ask_writer, ask_passes, ask_sides)
     for part in (*(file.ask for file in files), lessons, programs, crate, others):
         yield from part()
 

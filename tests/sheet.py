@@ -22,7 +22,11 @@ class Pdo(NamedTuple):
     kind: int
     manager: int
     index: int
-    bits: int
+    lengths: tuple  # in bits: CoE each mapping's, EEPROM one
+
+    @property
+    def bits(self):
+        return sum(self.lengths)
 
 
 class Sheet(NamedTuple):
@@ -40,6 +44,23 @@ class Sheet(NamedTuple):
         """On CoE: both flags, and a read mailbox of length above 0."""
         reads = any(manager.usage == MAILBOX_READ for manager in self.managers)
         return bool(self.flags & MAILBOX and self.flags & COE and reads and self.send > 0)
+
+
+class Device(NamedTuple):
+    """Device data as it is handed on: `p` PDO records stand in lent bytes, from `pdos` on.
+
+    Of the sixteen managers the first n count, of the sixteen usages the first f. It is a plain value, so it can be made up.
+    """
+
+    flags: int
+    receive: int
+    send: int
+    n: int
+    f: int
+    pdos: int
+    p: int
+    managers: list
+    usages: list
 
 
 class Front:
@@ -60,7 +81,7 @@ class Front:
 def take_manager(front):
     start, control, enable, usage = front.number(2), front.number(), front.number(), front.number()
     demand({4: usage > 4})
-    return Manager(start, control, enable & 1, usage)
+    return Manager(start, control & 0x7F, enable & 1, usage)
 
 
 def take_usage(front):
@@ -72,8 +93,8 @@ def take_usage(front):
 def take_pdo(front):
     kind, manager, index, count = front.number(), front.number(), front.number(2), front.number()
     demand({4: kind > 2 or (kind > 0 and count != 2)})
-    lengths = front.take(count)
-    return Pdo(kind, manager, index, sum(lengths) if kind == 0 else int.from_bytes(lengths, "big"))
+    lengths = tuple(front.take(count)) if kind == 0 else (front.number(2),)
+    return Pdo(kind, manager, index, lengths)
 
 
 def take_parts(data):

@@ -2,12 +2,15 @@
 
 from typing import NamedTuple
 
-from registers import Channel, Fmmu
+from registers import CONTROL, DIRECTIONS, MODES, Channel, Fmmu, fields, image
+from sheet import COE, COMPLETE_ACCESS, MAILBOX, Device, Manager
 
 HEAD = [1, 1, 2, 4, 4, 4, 4, 2, 2, 2, 2]  # bytes of each number of a request's head
 MOST = [20_480, 20_480, 256, 512, 512]  # room, bytes of the sheet, records of the table, bytes of the two parts
 FMMU_RECORD = [4, 2, 1, 1, 2, 1, 1, 1, 1]
 CHANNEL_RECORD = [2, 2] + [1] * 17
+MANAGER = [2, 1, 1, 1]  # start address, control, enable, usage
+DEVICE_RECORD = [1, 1, 1, 2, 2, 8, 8, 8, 1] + MANAGER * 16 + [1] * 16
 
 
 class BadRequest(Exception):
@@ -97,3 +100,22 @@ def channel_record(data):
     start, length, mode, *flags = record
     flags = [int(flag > 0) for flag in flags]
     return Channel(start, length, 2 if mode else 0, *flags)._replace(buffer_state=record.buffer_state % 4)
+
+
+def named(control):
+    """A control byte in which a mode or direction without a name is 0, and bit 7 too."""
+    mode, direction, *events = fields(CONTROL, [control])
+    known = [mode if mode in MODES else 0, direction if direction in DIRECTIONS else 0]
+    return image(CONTROL, [*known, *events], 1)[0]
+
+
+def device_record(data):
+    if len(data) != sum(DEVICE_RECORD):
+        raise BadRequest
+    mailbox, coe, complete, receive, send, n, f, pdos, p, *places = numbers(data, DEVICE_RECORD)
+    flags = sum(flag for flag, told in ((MAILBOX, mailbox), (COE, coe), (COMPLETE_ACCESS, complete)) if told)
+    managers = []
+    for k in range(0, 64, 4):
+        start, control, enable, usage = places[k : k + 4]
+        managers.append(Manager(start, named(control), int(enable > 0), usage))
+    return Device(flags, receive, send, n, f, pdos, p, managers, places[64:])

@@ -1,7 +1,7 @@
 -- The rules of a sheet as the code finds them broken, and what a sheet that keeps them is known to hold.
 -- Assumes nothing.
 use mathlib.Core.Path.{_≡_, refl, sym, _∙_, ap}
-use mathlib.Core.Bool.{Bool, true, false, not, _||_, or-true, false≢true}
+use mathlib.Core.Bool.{Bool, true, false, not, _||_, or-true}
 use mathlib.Core.List.{List}
 use Prim.Native.Nat.{ℕ, _+_, _*_, _≤_, _<_}
 use native.Mathlib.Omega.{arith}
@@ -10,7 +10,7 @@ use lib.Dec.{ltb}
 use borrow.Author.Tests.{lt-ltb, le-ltb, ltb-false, not-false}
 use Rattle.wire.specs.Lists.{someBelow}
 use Rattle.grammar.specs.Grammar.{managerCount, usageCount, pdoCount, managerPlace, usagesPlace, pdosPlace, pdosFit, someManagerWrong, someUsageWrong, broken}
-use Rattle.wire.proofs.Lists.{some-same}
+use Rattle.wire.proofs.Lists.{or-none, some-same}
 
 -- 4, as the code finds it: by one of its parts, or by the last after the others
 module _ (s : List ℕ) where
@@ -62,16 +62,14 @@ module _ (s : List ℕ) where
   unfolding broken
   only-walk a b c d u v = rw (le-ltb 7 (getD s 3 0) a, le-ltb 16 (managerCount s) b, le-ltb 16 (usageCount s) c, le-ltb (length s) (pdosPlace s) d, u, v) refl
 
--- nothing of a chain holds, so no part of it does
-none : (a b : Bool) → a || b ≡ false → (a ≡ false) × (b ≡ false)
-none true b e = absurd (false≢true (sym e))
-none false b e = (refl, e)
-
 -- what a sheet holds that isn't refused with 4
 pub record Kept (s : List ℕ) : Type 0 where
+  pub flags : getD s 3 0 ≤ 7
   pub managers : managerCount s ≤ 16
   pub usages : usageCount s ≤ 16
   pub places : pdosPlace s ≤ length s
+  pub manager-usages : someManagerWrong s ≡ false
+  pub fmmu-usages : someUsageWrong s ≡ false
   pub walk : pdosFit s (pdoCount s) (pdosPlace s) ≡ true
 
 -- the chain of rules from each on
@@ -93,15 +91,18 @@ managersOn s = ltb 16 (managerCount s) || usagesOn s
 pub kept : (s : List ℕ) → broken s ≡ false → Kept s
 unfolding broken
 kept s h =
-    let a = none (ltb 7 (getD s 3 0)) (managersOn s) h .1 in
-    let b = none (ltb 16 (managerCount s)) (usagesOn s) a in
-    let c = none (ltb 16 (usageCount s)) (placesOn s) (b .1) in
-    let d = none (ltb (length s) (pdosPlace s)) (bytesOn s) (c .1) in
-    let e = none (someManagerWrong s) (lastOn s) (d .1) .1 in
-    let w = none (someUsageWrong s) (not (pdosFit s (pdoCount s) (pdosPlace s))) e .1 in
+    let a = or-none (ltb 7 (getD s 3 0)) (managersOn s) h in
+    let b = or-none (ltb 16 (managerCount s)) (usagesOn s) (a .1) in
+    let c = or-none (ltb 16 (usageCount s)) (placesOn s) (b .1) in
+    let d = or-none (ltb (length s) (pdosPlace s)) (bytesOn s) (c .1) in
+    let e = or-none (someManagerWrong s) (lastOn s) (d .1) in
+    let w = or-none (someUsageWrong s) (not (pdosFit s (pdoCount s) (pdosPlace s))) (e .1) in
     record {
+      flags = ltb-false 7 (getD s 3 0) (a .0);
       managers = ltb-false 16 (managerCount s) (b .0);
       usages = ltb-false 16 (usageCount s) (c .0);
       places = ltb-false (length s) (pdosPlace s) (d .0);
-      walk = not-false (pdosFit s (pdoCount s) (pdosPlace s)) w;
+      manager-usages = e .0;
+      fmmu-usages = w .0;
+      walk = not-false (pdosFit s (pdoCount s) (pdosPlace s)) (w .1);
     }

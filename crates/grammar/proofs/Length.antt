@@ -33,7 +33,7 @@ module _ (s : List ℕ) where
     never : {A : Type 0} → wrongLength s ≡ true → A
     never h = absurd (false≢true (sym kept ∙ h))
 
-    exact : length s ≡ follow s + 2
+    pub exact : length s ≡ follow s + 2
     exact = go (eqb (length s) (follow s + 2)) refl
       where
         go : (b : Bool) → eqb (length s) (follow s + 2) ≡ b → length s ≡ follow s + 2

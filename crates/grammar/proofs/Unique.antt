@@ -9,6 +9,8 @@ use Rattle.grammar.proofs.usages_place.Reads as usages-place
 use Rattle.grammar.proofs.pdos_place.Reads as pdos-place
 use Rattle.grammar.proofs.wrong_length.Reads as wrong-length
 use Rattle.grammar.proofs.rule_broken.Reads as rule-broken
+use Rattle.grammar.proofs.are_pdos.Reads as are-pdos
+use Rattle.grammar.proofs.pdos_end.Reads as pdos-end
 
 pub wrong-length-pins : Pins wrong-length.Post (λ κs r s. r)
 wrong-length-pins κs a x y s t p q = same p q
@@ -33,3 +35,9 @@ usages-place-pins κs a x y s t p q = same (p .0) (q .0)
 
 pub pdos-place-pins : Pins pdos-place.Post (λ κs r s. r)
 pdos-place-pins κs a x y s t p q = same (p .0) (q .0)
+
+pub are-pdos-pins : Pins are-pdos.Post (λ κs r s. r)
+are-pdos-pins κs a x y s t p q = same p q
+
+pub pdos-end-pins : Pins pdos-end.Post (λ κs r s. r)
+pdos-end-pins κs a x y s t p q = same (p .0) (q .0)

@@ -8,9 +8,9 @@ use native.Mathlib.Numerals.{sub-one}
 use native.Mathlib.Omega.{arith}
 use lib.ListN.{length, getD}
 use lib.Dec.{eqb, leb}
-use borrow.Author.Tests.{ne-eqb, le-leb, lt-leb, leb-true, leb-false}
+use borrow.Author.Tests.{eq-eqb, ne-eqb, le-leb, lt-leb, leb-true, leb-false}
 use Rattle.grammar.specs.Grammar.{nextPdo}
-use Rattle.grammar.specs.Grammar.{kindFits, pdosFit}
+use Rattle.grammar.specs.Grammar.{pdosEnd, kindFits, pdosFit}
 
 -- no record is left
 pub walk-end : (s : List ℕ) (left at : ℕ) → left ≤ 0 → pdosFit s left at ≡ eqb at (length s)
@@ -55,3 +55,25 @@ walk-step s left at next l e k = go (leb next (length s)) refl
     go false h =
         let past : length s < next = leb-false next (length s) h in
         walk-beyond s (left - 1) next past ∙ sym (walk-past s left at l (omega arith))
+
+-- no bytes are no record, and fewer than a head are none either
+pub no-bytes : (s : List ℕ) (p : ℕ) → length s ≡ 0 → eqb p 0 ≡ pdosFit s p 0
+unfolding pdosFit
+no-bytes s zero e = sym (eq-eqb 0 (length s) (sym e))
+no-bytes s (suc p) e = ne-eqb (suc p) 0 (λ z. omega arith) ∙ sym (walk-past s (suc p) 0 (omega arith) (omega arith))
+
+pub few-bytes : (s : List ℕ) (p : ℕ) → (length s ≡ 0 → ⊥) → length s < 5 → false ≡ pdosFit s p 0
+unfolding pdosFit
+few-bytes s zero n h = sym (ne-eqb 0 (length s) (λ e. n (sym e)))
+few-bytes s (suc p) n h = sym (walk-past s (suc p) 0 (omega arith) (omega arith))
+
+-- a turn of the walk to the records' end, and its own end
+pub end-turn : (s : List ℕ) (left at next : ℕ) → 0 < left → next ≡ nextPdo s at → pdosEnd s (left - 1) next ≡ pdosEnd s left at
+unfolding pdosEnd
+end-turn s zero at next l e = absurd (omega arith)
+end-turn s (suc n) at next l e = rw (sub-one, e)
+
+pub end-over : (s : List ℕ) (left at : ℕ) → left ≤ 0 → pdosEnd s left at ≡ at
+unfolding pdosEnd
+end-over s zero at l = refl
+end-over s (suc n) at l = absurd (omega arith)

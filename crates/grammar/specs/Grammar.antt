@@ -31,6 +31,11 @@ pdosPlace s = usagesPlace s + usageCount s
 abbrev pub nextPdo : List ℕ → ℕ → ℕ
 nextPdo s at = at + 5 + getD s (at + 4) 0
 
+-- where the last of p of them ends
+unfoldable pub pdosEnd : List ℕ → ℕ → ℕ → ℕ
+pdosEnd s zero at = at
+pdosEnd s (suc p) at = pdosEnd s p (nextPdo s at)
+
 -- 3: the version isn't 1
 abbrev pub wrongVersion : List ℕ → Bool
 wrongVersion s = not (eqb (getD s 2 0) 1)

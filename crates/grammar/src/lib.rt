@@ -5,7 +5,7 @@ ghost use lib.ListN.{length, getD};
 ghost use lib.Dec.{ltb};
 ghost use Rattle.wire.specs.Lists.{someBelow};
 ghost use Rattle.grammar.specs.Length.{wrongLength};
-ghost use Rattle.grammar.specs.Grammar.{managerCount, usageCount, pdoCount, managerPlace, usagesPlace, pdosPlace, kindFits, pdosFit, broken};
+ghost use Rattle.grammar.specs.Grammar.{managerCount, usageCount, pdoCount, managerPlace, usagesPlace, pdosPlace, pdosEnd, kindFits, pdosFit, broken};
 
 // 2: whether the length is wrong.
 pub fn wrong_length(sheet: &[u8]) -> bool
@@ -152,6 +152,32 @@ fn pdos_fit(sheet: &[u8], p: usize, at: usize) -> bool
         left -= 1;
     }
     place == sheet.len()
+}
+
+// Whether bytes are p whole PDO records, each kind going with its count, and nothing after the last one.
+pub fn are_pdos(bytes: &[u8], p: u8) -> bool
+    ensures { λ r. ⌜ r ≡ pdosFit (now (bytes .entry)) p 0 ⌝ }
+{
+    if bytes.len() == 0 {
+        return p == 0;
+    }
+    if bytes.len() < PDO_BYTES {
+        return false;
+    }
+    pdos_fit(bytes, wire::wide(p), 0)
+}
+
+// Where the last of p PDO records ends that stand from the front on, by their own counts; a count past the bytes is 0.
+pub fn pdos_end(bytes: &[u8], p: u8) -> usize
+    ensures { λ r. ⌜ (r ≡ pdosEnd (now (bytes .entry)) p 0) × (r ≤ 66300) ⌝ }
+{
+    let mut place = 0;
+    let mut left = p;
+    while 0 < left {
+        place = place + PDO_BYTES + wire::wide(wire::byte_at(bytes, place + PDO_COUNT));
+        left -= 1;
+    }
+    place
 }
 
 // Whether a PDO's kind goes with its count.

@@ -262,7 +262,7 @@ fn right(sheet: &[u8], held: usize, at: usize) -> u8 {
 }
 
 // How many bytes of the room are wrong.
-fn wrong(sheet: &[u8], held: usize, room: &[u8]) -> u64 {
+pub fn wrong(sheet: &[u8], held: usize, room: &[u8]) -> u64 {
     let mut count = 0;
     let mut i = 0;
     while i < room.len() {

@@ -6,6 +6,7 @@ mod parts;
 mod records;
 mod say;
 mod table;
+mod writing;
 
 use libc::STDIN_FILENO;
 use libc::STDOUT_FILENO;
@@ -73,6 +74,8 @@ fn answer(letter: u8, request: &[u8], c: u32, times: u32) {
         b'Q' => records::channel_read(request),
         b'd' => bays::read(request),
         b't' => arrivals::calls(request),
+        b'w' => writing::again(request),
+        b'v' => writing::given(request),
         b'm' => bays::mailboxes(request),
         b'p' => bays::pass(request),
         b'B' => bays::again(request),
@@ -100,6 +103,7 @@ fn whole_record(letter: u8, fmmus: u16, channels: u16) -> bool {
     match letter {
         b'f' | b'W' => fmmus == 14,
         b'y' | b'Z' => channels == 21,
+        b'v' => fmmus == 128,
         _ => true,
     }
 }

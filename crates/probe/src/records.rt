@@ -17,7 +17,7 @@ use sync_manager_channel::Status;
 use sync_manager_channel::SyncManagerChannel;
 use wire::Written;
 
-fn set(bytes: &[u8], at: usize) -> bool {
+pub fn set(bytes: &[u8], at: usize) -> bool {
     wire::byte_at(bytes, at) != 0
 }
 

@@ -1,6 +1,6 @@
 -- A list's elements by number, whatever would stand past its end; lists and questions by number: a turn of a loop over them.
 -- Assumes nothing.
-use mathlib.Core.Path.{_≡_, refl, sym, _∙_, ap}
+use mathlib.Core.Path.{_≡_, refl, sym, _∙_, ap, ap₂}
 use mathlib.Core.Bool.{Bool, true, false, _||_, false≢true}
 use mathlib.Core.List.{List, [], _∷_, _++_}
 use mathlib.Core.Logic.{_⊎_, inl, inr}
@@ -8,9 +8,9 @@ use Prim.Native.Nat.{ℕ, zero, suc, _+_, _-_, _<_, min}
 use native.Mathlib.Nat.{not-suc-le-zero, le-of-suc-le-suc, eq-or-lt-of-le, zero-min, suc-min-suc}
 use native.Mathlib.Numerals.{add-one}
 use native.Mathlib.Omega.{arith}
-use lib.ListN.{length, getD, set, take, replicate, length-append, List·getD-append}
-use lib.Seq.{set-at, append-snoc, getD-at, take-nil}
-use Rattle.wire.specs.Lists.{listOf, someBelow}
+use lib.ListN.{length, getD, set, take, drop, replicate, length-drop, length-append, List·getD-append}
+use lib.Seq.{set-at, append-snoc, getD-at, take-nil, drop-nil, take-all}
+use Rattle.wire.specs.Lists.{listOf, someBelow, someOf}
 
 -- within the list it doesn't matter what would stand past its end
 pub getD-any : {A : Type 0} (l : List A) (k : ℕ) (d e : A) → k < length l → getD l k d ≡ getD l k e
@@ -24,6 +24,17 @@ take-least zero l = rw zero-min refl
 take-least (suc n) [] = take-nil (min (suc n) 0)
 take-least (suc n) (x ∷ l) = rw suc-min-suc (ap (λ (t : List ℕ). x ∷ t) (take-least n l))
 
+-- what stands from a place on, cut at the end
+pub behind-is : (at : ℕ) (l : List ℕ) {k : ℕ} → k ≡ min at (length l) → take (length l - k) (drop k l) ≡ drop at l
+behind-is at l {k} e =
+    let n = length-drop k l in
+    take-all (length l - k) (drop k l) (omega arith) ∙ ap (λ (i : ℕ). drop i l) e ∙ drop-least at l
+  where
+    drop-least : (n : ℕ) (l : List ℕ) → drop (min n (length l)) l ≡ drop n l
+    drop-least zero l = rw zero-min refl
+    drop-least (suc n) [] = drop-nil (min (suc n) 0)
+    drop-least (suc n) (x ∷ l) = rw suc-min-suc (drop-least n l)
+
 or-left : (a b : Bool) → a ≡ true → a || b ≡ true
 or-left true b e = refl
 or-left false b e = absurd (false≢true e)
@@ -31,6 +42,11 @@ or-left false b e = absurd (false≢true e)
 or-right : (a b : Bool) → b ≡ true → a || b ≡ true
 or-right true b e = refl
 or-right false b e = e
+
+-- neither of two holds
+pub or-none : (a b : Bool) → a || b ≡ false → (a ≡ false) × (b ≡ false)
+or-none true b e = absurd (false≢true (sym e))
+or-none false b e = (refl, e)
 
 -- it holds of one
 pub some-hit : (f : ℕ → Bool) (k n : ℕ) → k < n → f k ≡ true → someBelow f n ≡ true
@@ -57,6 +73,24 @@ pub some-same : (f g : ℕ → Bool) (n : ℕ) → ((k : ℕ) → k < n → f k 
 unfolding someBelow
 some-same f g zero h = refl
 some-same f g (suc n) h = λ i. some-same f g n (λ k s. h k (omega arith)) i || h n (omega arith) i
+
+-- of the first n of a list: it holds of one; it holds of none of the first k, and not of the next
+pub some-first : {A : Type 0} (f : A → Bool) (l : List A) (n k : ℕ) (d : A) → k < n → k < length l → f (getD l k d) ≡ true → someOf f (take n l) ≡ true
+some-first f [] n k d h g e = absurd (not-suc-le-zero g)
+some-first f (x ∷ l) zero k d h g e = absurd (not-suc-le-zero h)
+some-first f (x ∷ l) (suc n) zero d h g e = or-left (f x) (someOf f (take n l)) e
+some-first f (x ∷ l) (suc n) (suc k) d h g e =
+    or-right (f x) (someOf f (take n l)) (some-first f l n k d (le-of-suc-le-suc h) (le-of-suc-le-suc g) e)
+
+pub none-first : {A : Type 0} (f : A → Bool) (l : List A) (k : ℕ) (d : A) → k < length l → someOf f (take k l) ≡ false → f (getD l k d) ≡ false → someOf f (take (k + 1) l) ≡ false
+none-first {A} f l k d g n e = ap (λ (i : ℕ). someOf f (take i l)) (add-one k) ∙ go l k g n e
+  where
+    go : (l : List A) (k : ℕ) → k < length l → someOf f (take k l) ≡ false → f (getD l k d) ≡ false → someOf f (take (suc k) l) ≡ false
+    go [] k g n e = absurd (not-suc-le-zero g)
+    go (x ∷ l) zero g n e = rw e refl
+    go (x ∷ l) (suc k) g n e =
+        let h = or-none (f x) (someOf f (take k l)) n in
+        ap₂ (λ (a b : Bool). a || b) (h .0) (go l k (le-of-suc-le-suc g) (h .1) e)
 
 pub length-listOf : {A : Type 0} (f : ℕ → A) (n : ℕ) → length (listOf f n) ≡ n
 unfolding listOf

@@ -15,11 +15,13 @@ use Rattle.wire.proofs.bit_of.Reads as bit-of
 use Rattle.wire.proofs.wide.Reads as wide
 use Rattle.wire.proofs.byte_at.Reads as byte-at
 use Rattle.wire.proofs.front.Reads as front
+use Rattle.wire.proofs.behind.Reads as behind
 use Rattle.wire.proofs.le16.Reads as le16
 use Rattle.wire.proofs.le32.Reads as le32
 use Rattle.wire.proofs.be16.Reads as be16
 use Rattle.wire.proofs.le16_bytes.Reads as le16-bytes
 use Rattle.wire.proofs.le32_bytes.Reads as le32-bytes
+use Rattle.wire.proofs.be16_bytes.Reads as be16-bytes
 use Rattle.wire.proofs.copy.Reads as copy
 use Rattle.wire.proofs.least.Reads as least
 use Rattle.wire.proofs.write_text.Reads as write-text
@@ -60,6 +62,9 @@ byte-at-pins κs a x y s t p q = same p q
 pub front-pins : Pins front.Post (λ κs r s. now r)
 front-pins κs a x y s t p q = same p q
 
+pub behind-pins : Pins behind.Post (λ κs r s. now r)
+behind-pins κs a x y s t p q = same p q
+
 pub le16-pins : Pins le16.Post (λ κs r s. r)
 le16-pins κs a x y s t p q = same p q
 
@@ -77,6 +82,9 @@ le32-bytes-pins κs a x y s t p q = same p q
 
 pub least-pins : Pins least.Post (λ κs r s. r)
 least-pins κs a x y s t p q = same p q
+
+pub be16-bytes-pins : Pins be16-bytes.Post (λ κs r s. r)
+be16-bytes-pins κs a x y s t p q = same p q
 
 pub copy-pins : Pins copy.Post (λ κs r s. now (s .1 .0))
 copy-pins κs a x y s t p q = same p q

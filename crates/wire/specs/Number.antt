@@ -1,6 +1,6 @@
 -- Numbers of several bytes: in the registers the low byte stands first, in the sheets the high one.
 -- Assumes nothing.
-use mathlib.Core.List.{List, [], _∷_}
+use mathlib.Core.List.{List, [], _∷_, _++_}
 use Prim.Native.Nat.{ℕ, zero, suc, _+_, _*_, _/_, _%_}
 use lib.ListN.{getD}
 
@@ -21,3 +21,8 @@ bigFrom before l at (suc n) = bigFrom (256 * before + getD l at 0) l (at + 1) n
 
 abbrev pub bigAt : List ℕ → ℕ → ℕ → ℕ
 bigAt l at n = bigFrom 0 l at n
+
+-- the n bytes of x, the high byte first: those of x / 256, then the low one
+abbrev pub bigOf : ℕ → ℕ → List ℕ
+bigOf zero x = []
+bigOf (suc n) x = bigOf n (x / 256) ++ (x % 256 ∷ [])

@@ -4,9 +4,9 @@ ghost use mathlib.Core.Path.{_≡_};
 ghost use mathlib.Core.Bool.{cond};
 ghost use mathlib.Core.List.{[], _∷_, _++_};
 ghost use Prim.Native.Nat.{_<_, _≤_, _^_, _/_, min};
-ghost use lib.ListN.{getD, take};
+ghost use lib.ListN.{getD, take, drop};
 ghost use Rattle.wire.specs.Field.{bit, flagAt};
-ghost use Rattle.wire.specs.Number.{littleAt, littleOf, bigAt};
+ghost use Rattle.wire.specs.Number.{littleAt, littleOf, bigAt, bigOf};
 ghost use Rattle.wire.specs.Room.{over, InRoom, textIn};
 ghost use Rattle.wire.specs.Text.{glyphOf, digitsOf, placesOf, decimalOf, page, Types};
 
@@ -54,6 +54,14 @@ pub fn front(bytes: &[u8], count: usize) -> &[u8]
     &bytes[..count]
 }
 
+// What stands in a slice from a place on; nothing past its end.
+pub fn behind(bytes: &[u8], at: usize) -> &[u8]
+    ensures { λ r. ⌜ now r ≡ drop at (now (bytes .entry)) ⌝ }
+{
+    let start = least(at, bytes.len());
+    &bytes[start..]
+}
+
 // Two bytes as a number, the low one first.
 pub fn le16(a: u8, b: u8) -> u16
     ensures { λ r. ⌜ r ≡ littleAt (a ∷ b ∷ []) 0 2 ⌝ }
@@ -92,6 +100,13 @@ pub fn le32_bytes(x: u32) -> [u8; 4]
         (x / 256 / 256 % 256) as u8,
         (x / 256 / 256 / 256 % 256) as u8,
     ]
+}
+
+// The two bytes of a number, the high one first.
+pub fn be16_bytes(x: u16) -> [u8; 2]
+    ensures { λ r. ⌜ r ≡ bigOf 2 x ⌝ }
+{
+    [(x / 256 % 256) as u8, (x % 256) as u8]
 }
 
 // Copies `from` over the front of `to`, as far as both go.

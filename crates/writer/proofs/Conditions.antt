@@ -1,0 +1,92 @@
+-- Refusals 2 and 4 of a call, and its data: where neither holds the data keeps what data with a sheet keeps; and where it keeps that, neither holds.
+-- Assumes nothing.
+use mathlib.Core.Path.{_≡_, refl, sym, subst}
+use mathlib.Core.Bool.{Bool, true, false}
+use mathlib.Core.List.{List, [], _∷_}
+use Prim.Native.Nat.{ℕ, zero, suc, _+_, _*_, _<_, _≤_}
+use native.Mathlib.Omega.{arith}
+use lib.ListN.{take, length-take}
+use lib.Dec.{ltb}
+use borrow.Author.Tests.{le-ltb, ltb-false}
+use Rattle.wire.specs.Lists.{Each, someOf}
+use Rattle.wire.proofs.Lists.{or-none}
+use Rattle.grammar.specs.Grammar.{pdosFit}
+use Rattle.sheet.specs.declared.SyncManager.{SyncManager}
+use Rattle.sheet.specs.declared.Device.{Device}
+use Rattle.sheet.specs.Device.{Pdo, dataOf}
+use Rattle.sheet.proofs.Sound.{length-pdos}
+use Rattle.writer.specs.Writing.{recordsLong, recordsOf, tooLong, ruleBroken}
+use Rattle.writer.specs.Again.{InRange}
+use Rattle.writer.proofs.Keeps.{KeepsManager, KeepsPdo, Keeps}
+use Rattle.writer.proofs.Rules.{unnamedUse, kept, keeping}
+use Rattle.writer.proofs.Records.{fit-keeps}
+use Rattle.writer.proofs.Lent.{part-bytes, records-alone, body-length}
+
+-- a question that holds of none, and what is known of each
+none-of : {A : Type 0} (f : A → Bool) (P : A → Type 0) → ((x : A) → f x ≡ false → P x) → (l : List A) → someOf f l ≡ false → Each P l
+none-of f P h [] e = tt
+none-of f P h (x ∷ l) e = let o = or-none (f x) (someOf f l) e in (h x (o .0), none-of f P h l (o .1))
+
+of-none : {A : Type 0} (f : A → Bool) (P : A → Type 0) → ((x : A) → P x → f x ≡ false) → (l : List A) → Each P l → someOf f l ≡ false
+of-none f P h [] p = refl
+of-none f P h (x ∷ l) p = rw (h x (p .0)) (of-none f P h l (p .1))
+
+-- what two rules give of each, and what holds of each of the first n
+each-both : {A : Type 0} (P Q R : A → Type 0) → ((x : A) → P x → Q x → R x) → (l : List A) → Each P l → Each Q l → Each R l
+each-both P Q R f [] p q = tt
+each-both P Q R f (x ∷ l) p q = (f x (p .0) (q .0), each-both P Q R f l (p .1) (q .1))
+
+each-take : {A : Type 0} (P : A → Type 0) (n : ℕ) (l : List A) → Each P l → Each P (take n l)
+each-take P zero l p = tt
+each-take P (suc n) [] p = tt
+each-take P (suc n) (x ∷ l) p = (p .0, each-take P n l (p .1))
+
+-- a start address of two bytes
+abbrev StartInRange : SyncManager → Type 0
+StartInRange m = m .«start_addr» < 65536
+
+module _ (d : Device) (s : List ℕ) (r : InRange d s) where
+  -- neither 2 nor 4
+  pub data-keeps : tooLong d s ≡ false → ruleBroken d (recordsOf d s) ≡ false → Keeps (dataOf d s)
+  unfolding tooLong dataOf
+  data-keeps short rule =
+      let k = kept d (recordsOf d s) rule in
+      let n = recordsLong d s in
+      let ms = take (d .n) (d .managers) in
+      let us = take (d .f) (d .usages) in
+      let lm = length-take (d .n) (d .managers) in
+      let lu = length-take (d .f) (d .usages) in
+      let lb = body-length d s (r .managers) (r .usages) (k .few-managers) (k .few-usages) (r .bytes) (k .whole) in
+      let h = ltb-false 16384 (9 + 5 * d .n + d .f + n) short in
+      record {
+        receive = r .receive;
+        send = r .send;
+        few-managers = omega arith;
+        managers =
+            each-both StartInRange (λ (m : SyncManager). m .«usage_type» ≤ 4) KeepsManager (λ m a b. record { start = a; usage = b }) ms
+            (each-take StartInRange (d .n) (d .managers) (r .starts))
+            (none-of unnamedUse (λ (m : SyncManager). m .«usage_type» ≤ 4) (λ m e. ltb-false 4 (m .«usage_type») e) ms (k .managers));
+        few-usages = omega arith;
+        usages = none-of (ltb 3) (λ (u : ℕ). u ≤ 3) (ltb-false 3) us (k .usages);
+        few-pdos = omega (arith, length-pdos s (d .p) (d .pdos));
+        pdos =
+            subst (λ (ps : List Pdo). Each KeepsPdo ps) (sym (records-alone s (d .pdos) n (d .p) (k .whole)))
+            (fit-keeps (recordsOf d s) (d .p) 0 (part-bytes s (d .pdos) n (r .bytes)) (k .whole));
+        short = omega arith;
+      }
+
+  -- n and f at most 16 and the records whole: the data decides
+  pub keeps-data : d .n ≤ 16 → d .f ≤ 16 → pdosFit (recordsOf d s) (d .p) 0 ≡ true → Keeps (dataOf d s) → (tooLong d s ≡ false) × (ruleBroken d (recordsOf d s) ≡ false)
+  unfolding tooLong dataOf
+  keeps-data n f e k =
+      let lb = body-length d s (r .managers) (r .usages) n f (r .bytes) e in (
+        le-ltb 16384 (9 + 5 * d .n + d .f + recordsLong d s) (omega (arith, k .short)),
+        keeping d (recordsOf d s)
+            (record {
+              few-managers = n;
+              few-usages = f;
+              managers = of-none unnamedUse KeepsManager (λ m h. le-ltb 4 (m .«usage_type») (h .usage)) (take (d .n) (d .managers)) (k .managers);
+              usages = of-none (ltb 3) (λ (u : ℕ). u ≤ 3) (le-ltb 3) (take (d .f) (d .usages)) (k .usages);
+              whole = e;
+            }),
+      )

@@ -1,0 +1,23 @@
+-- Laws that belong to no one function.
+pub mod Keeps
+pub mod Stored
+pub mod Rules
+pub mod Range
+pub mod Stands
+pub mod Parts
+pub mod Managers
+pub mod Pdos
+pub mod Back
+pub mod Bytes
+pub mod Numbered
+pub mod From
+pub mod Records
+pub mod Cleaned
+pub mod Read
+pub mod Lent
+pub mod Conditions
+pub mod Outcomes
+pub mod Theorems
+pub mod Examples
+pub mod Contracts
+pub mod Unique

@@ -1,0 +1,71 @@
+-- `writer::some_manager_unnamed`: whether some usage has no name is whether one has none of those that are left.
+-- Assumes nothing.
+use mathlib.Core.Path.{_≡_, refl, sym, _∙_, ap}
+use mathlib.Core.Bool.{false}
+use Prim.Native.Nat.{ℕ, _-_, _≤_}
+use native.Mathlib.Omega.{arith}
+use lib.ListN.{take}
+use lib.Dec.{ltb}
+use borrow.Author.Tests.{lt-ltb, le-ltb}
+use Rattle.wire.specs.Lists.{someOf}
+use Rattle.wire.proofs.Lists.{some-first, none-first}
+use Rattle.sheet.specs.declared.SyncManager.{SyncManager}
+use Rattle.writer.proofs.some_manager_unnamed.Statement.{statement}
+use Rattle.writer.proofs.some_manager_unnamed.Tie as tie
+
+abbrev Inv-loop : tie.InvT-loop
+Inv-loop n list k₀ k = (k ≤ n) × (someOf (λ (m : SyncManager). ltb 4 (m .«usage_type»)) (take k list) ≡ false)
+
+abbrev μ-loop : tie.MeasureT-loop
+μ-loop n list k₀ k = n - k
+
+loop-holds : tie.Need-loop-holds Inv-loop μ-loop
+loop-holds c = (omega arith, refl)
+
+mul-m : tie.Need-mul-m Inv-loop μ-loop
+mul-m c = omega arith
+
+array-copy-out-m : tie.Need-array-copy-out-m Inv-loop μ-loop
+array-copy-out-m c = omega arith
+
+returns : tie.Need-returns Inv-loop μ-loop
+returns c =
+    let l = c .before .before .before .before in
+    let s = l .before in
+    let long = s .good .1 .0 .1 in
+    sym (some-first (λ (m : SyncManager). ltb 4 (m .«usage_type»)) (s .args .t1) (s .args .n) (l .loop .k) _ (omega arith) (omega arith) (lt-ltb _ _ (c .if1 .taken)))
+
+add-k : tie.Need-add-k Inv-loop μ-loop
+add-k c = omega arith
+
+loop-less : tie.Need-loop-less Inv-loop μ-loop
+loop-less c = omega arith
+
+loop-again : tie.Need-loop-again Inv-loop μ-loop
+loop-again c =
+    let l = c .before .before .before .before in
+    let s = l .before in
+    let long = s .good .1 .0 .1 in
+    (omega arith, none-first (λ (m : SyncManager). ltb 4 (m .«usage_type»)) (s .args .t1) (l .loop .k) _ (omega arith) (l .loop .inv .1) (le-ltb _ _ (c .if1 .left)))
+
+returns-2 : tie.Need-returns-2 Inv-loop μ-loop
+returns-2 c =
+    let l = c .before .loop in
+    let a = c .before .before .args in
+    let e : l .k ≡ a .n = omega arith in
+    sym (l .inv .1) ∙ ap (λ (i : ℕ). someOf (λ (m : SyncManager). ltb 4 (m .«usage_type»)) (take i (a .t1))) e
+
+pub some-manager-unnamed-spec : {M : Type 1} → statement M
+some-manager-unnamed-spec =
+    tie.close
+    (tie.spec
+    Inv-loop
+    μ-loop
+    loop-holds
+    mul-m
+    array-copy-out-m
+    returns
+    add-k
+    loop-less
+    loop-again
+    returns-2)
