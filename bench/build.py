@@ -167,6 +167,18 @@ def c_portions(size):
     return c_program(f"portions-{size}", f"-DPORTION={size}")
 
 
+def written_again(data):
+    """The same for the letter w: the sheet read once, and written so many times into room of its own length."""
+    sheet = data[6:]
+    counts = len(sheet), 0, 0, 0
+    head = b"w\0" + len(sheet).to_bytes(2, "big") + data[0:4] + bytes(12) + b"".join(count.to_bytes(2, "big") for count in counts)
+    return head + sheet
+
+
+def c_writer():
+    return c_program("write", "-DWRITE")
+
+
 def probe_answer(text):
     """What the probe answers where C says this: both segments, or the refusal."""
     *_, last = lines = text.splitlines()

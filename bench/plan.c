@@ -1,7 +1,8 @@
 /* A planner in plain C, written from documents 01 and 02: the yardstick that bench/count holds the others to.
    Input and answer are those of README.md. Where READ_IN_EACH_PASS is defined, each pass reads the sheet itself, as entry
    points do that take a sheet; otherwise a plan reads it once. Where PORTION isn't 0, nothing is planned: the sheet is taken into
-   room in portions of so many bytes (document 02, 1/13), and read at the end. */
+   room in portions of so many bytes (document 02, 1/13), and read at the end. Where WRITE isn't 0, nothing is planned either: the
+   sheet is read once, and its device data is written as a sheet over and over (document 02, 2/13). */
 #include <stdbool.h>
 #include <stdint.h>
 #include <stdio.h>
@@ -9,6 +10,9 @@
 
 #ifndef PORTION
 #define PORTION 0
+#endif
+#ifndef WRITE
+#define WRITE 0
 #endif
 
 enum {
@@ -429,6 +433,160 @@ static void arrive(bool last)
         printf(number ? "r%d\n" : "ok\n", number);
 }
 
+/* ---- the sheet written again */
+
+enum mode { NORMAL_MODE = 0, MAILBOX_MODE = 2 };
+enum direction { MASTER_READ = 0, MASTER_WRITE = 1 };
+
+struct manager_data {
+    uint16_t start;
+    enum mode mode;
+    enum direction direction;
+    bool ecat_event, dls_user_event, watchdog;
+    bool enable;
+    uint8_t usage;
+};
+
+struct device_data {
+    bool mailbox, coe, complete_access;
+    uint16_t receive, send;
+    size_t n, f;
+    struct manager_data managers[MANAGERS];
+    uint8_t usages[ENTRIES];
+    size_t pdos; /* where their records stand in the lent bytes */
+    uint8_t p;
+};
+
+/* How long p PDO records are, by their counts, of which one past the bytes is 0; and whether they break a rule. */
+static size_t pdos_length(const uint8_t *records, size_t length, unsigned p, bool *broken)
+{
+    size_t at = 0;
+    for (unsigned k = 0; k < p; k++) {
+        uint8_t kind = COE_PDO, count = 0;
+        if (at + 5 <= length) {
+            kind = records[at];
+            count = records[at + 4];
+        }
+        *broken |= kind > EEPROM_WRITE || (kind != COE_PDO && count != 2);
+        at += 5 + count;
+    }
+    *broken |= at > length;
+    return at;
+}
+
+static bool has_unnamed(const struct device_data *data)
+{
+    for (size_t k = 0; k < data->n; k++)
+        if (data->managers[k].usage > DATA_READ)
+            return true;
+    for (size_t k = 0; k < data->f; k++)
+        if (data->usages[k] > 3)
+            return true;
+    return false;
+}
+
+static uint8_t *put_pair(uint8_t *at, unsigned value)
+{
+    *at++ = value >> 8 & 0xff;
+    *at++ = value & 0xff;
+    return at;
+}
+
+static uint8_t *put_manager(uint8_t *at, const struct manager_data *manager)
+{
+    at = put_pair(at, manager->start);
+    *at++ = (uint8_t)(manager->mode | manager->direction << 2 | manager->ecat_event << 4 | manager->dls_user_event << 5 |
+                      manager->watchdog << 6);
+    *at++ = manager->enable;
+    *at++ = manager->usage;
+    return at;
+}
+
+/* Writes device data as a sheet into room of so many bytes, or answers the number of its refusal with nothing written. */
+static __attribute__((noinline)) int write_sheet(const struct device_data *data, const uint8_t *lent, size_t length, uint8_t *at,
+                                                 size_t size, size_t *total)
+{
+    size_t left = data->pdos < length ? length - data->pdos : 0;
+    const uint8_t *records = lent + (length - left);
+    bool broken = data->n > MANAGERS || data->f > ENTRIES;
+    size_t pdos = pdos_length(records, left, data->p, &broken);
+    size_t following = 9 + 5 * data->n + data->f + pdos;
+    if (data->n > MOST_FOLLOWING || data->f > MOST_FOLLOWING || following > MOST_FOLLOWING)
+        return 2;
+    if (broken || has_unnamed(data))
+        return 4;
+    *total = 2 + following;
+    if (size < *total)
+        return 12;
+
+    at = put_pair(at, (unsigned)following);
+    *at++ = 1;
+    *at++ = (uint8_t)(data->mailbox | data->coe << 1 | data->complete_access << 2);
+    at = put_pair(at, data->receive);
+    at = put_pair(at, data->send);
+    *at++ = (uint8_t)data->n;
+    *at++ = (uint8_t)data->f;
+    *at++ = data->p;
+    for (size_t k = 0; k < data->n; k++)
+        at = put_manager(at, &data->managers[k]);
+    memcpy(at, data->usages, data->f);
+    memcpy(at + data->f, records, pdos);
+    return 0;
+}
+
+static struct device_data data;
+static uint8_t room[2 + MOST_FOLLOWING];
+
+/* The device data of the sheet, or the number of its refusal. */
+static int read_data(void)
+{
+    int number = read_sheet(input.sheet, input.length, &device);
+    if (number)
+        return number;
+    data.mailbox = device.flags & MAILBOX;
+    data.coe = device.flags & COE;
+    data.complete_access = device.flags & COMPLETE_ACCESS;
+    data.receive = device.receive;
+    data.send = device.send;
+    data.n = device.n;
+    data.f = device.f;
+    data.pdos = 11 + 5 * data.n + data.f;
+    data.p = (uint8_t)device.p;
+    memcpy(data.usages, device.usages, sizeof data.usages);
+    for (unsigned k = 0; k < device.n; k++) {
+        const struct manager *manager = &device.managers[k];
+        data.managers[k] = (struct manager_data){
+            .start = manager->start,
+            .mode = manager->control & 2 ? MAILBOX_MODE : NORMAL_MODE,
+            .direction = manager->control & 4 ? MASTER_WRITE : MASTER_READ,
+            .ecat_event = manager->control & 0x10,
+            .dls_user_event = manager->control & 0x20,
+            .watchdog = manager->control & 0x40,
+            .enable = manager->enable,
+            .usage = manager->usage,
+        };
+    }
+    return 0;
+}
+
+/* One sheet into room of the sheet's own length, behind which nothing can change; the last one is said. */
+static void write_again(bool last)
+{
+    size_t total;
+    int number = write_sheet(&data, input.sheet, input.length, room, input.length, &total);
+    if (!last)
+        return;
+    if (number) {
+        printf("refused %d 0\n", number);
+        return;
+    }
+    printf("%zu", total);
+    say_bytes(room, total);
+    printf(" 0\n");
+}
+
+/* ---- the input */
+
 /* How often to plan, from the head of the input; the table and the sheet are set. */
 static bool read_input(uint32_t *times)
 {
@@ -455,8 +613,15 @@ int main(void)
         fprintf(stderr, "plan: the input is cut short, or its table is too long\n");
         return 2;
     }
+    int number = WRITE ? read_data() : 0;
+    if (number) {
+        printf("refused %d\n", number);
+        return 0;
+    }
     while (times-- > 0) {
-        if (PORTION)
+        if (WRITE)
+            write_again(times == 0);
+        else if (PORTION)
             arrive(times == 0);
         else
             plan(times == 0);

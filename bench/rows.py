@@ -118,4 +118,6 @@ REFUSED = [
 # the longest sheet in portions of so many bytes, and at once
 PORTIONS = [1, 16, 4096, 16386]
 IN_PORTIONS = Row("the longest sheet in portions", coe(16 * KIB, MANY))
+# sheets that are written again, the last of them the longest; no bit of theirs is one that writing sets to 0
+WRITTEN = [SMALL[0], SMALL[2], SMALL[3], EEPROM[1], BY_LENGTH[2]]
 ROWS = SMALL + BY_LENGTH + BY_PDOS + EEPROM + TABLES + REFUSED

@@ -37,7 +37,7 @@ fn flags_of(mailbox: bool, protocol: bool, complete: bool) -> u8
 
 // What stands before the sync managers; L is what follows its two bytes, of `total`.
 fn head_of(d: Device, total: u16) -> [u8; 11]
-    requires { ⌜ (2 ≤ total) × (d .n ≤ 16) × (d .f ≤ 16) ⌝ }
+    requires { ⌜ (11 ≤ total) × (d .n ≤ 16) × (d .f ≤ 16) ⌝ }
     ensures { λ r. ⌜ r ≡ headLaid d total ⌝ }
 {
     let follow = wire::be16_bytes(total - 2);
