@@ -1,7 +1,7 @@
 -- Laws of the questions over lists, of a decision that came out accepted, and of ranges.
 -- Assumes nothing.
 use mathlib.Core.Path.{_≡_, refl, sym, _∙_, ap}
-use mathlib.Core.Bool.{Bool, true, false, cond, _||_, true≢false}
+use mathlib.Core.Bool.{Bool, true, false, _||_}
 use mathlib.Core.List.{List, [], _∷_, map}
 use mathlib.Core.Logic.{_⊎_, inl, inr}
 use mathlib.Core.Option.{Option, none, some}
@@ -14,8 +14,7 @@ use lib.Dec.{ltb}
 use borrow.Author.Tests.{ltb-true, ltb-false}
 use Rattle.wire.specs.Outcome.{refused, accepted, Refusal, decide}
 use Rattle.wire.proofs.Order.{never}
-use Rattle.wire.proofs.Lists.{some-hit}
-use Rattle.wire.specs.Lists.{Each, someBelow, someOf}
+use Rattle.wire.specs.Lists.{Each, someOf}
 use Rattle.translation.specs.Translate.{firstSaid}
 
 pub either : (b : Bool) → (b ≡ true) ⊎ (b ≡ false)
@@ -46,21 +45,6 @@ pub clear-accepted : {A : Type 0} (rs : List Refusal) (x : A) → Clear rs → d
 clear-accepted [] x c = refl
 clear-accepted (r ∷ rs) x c = rw (c .0) (clear-accepted rs x (c .1))
 
-pub or-false : (a b : Bool) → (a || b) ≡ false → (a ≡ false) × (b ≡ false)
-or-false true b e = absurd (true≢false e)
-or-false false b e = (refl, e)
-
-pub none-below : (f : ℕ → Bool) (n : ℕ) → someBelow f n ≡ false → (k : ℕ) → k < n → f k ≡ false
-none-below f n e k h = go (either (f k))
-  where
-    go : (f k ≡ true) ⊎ (f k ≡ false) → f k ≡ false
-    go (inl t) = absurd (true≢false (sym (some-hit f k n h t) ∙ e))
-    go (inr t) = t
-
-pub none-of : {A : Type 0} (f : A → Bool) (l : List A) → someOf f l ≡ false → Each (λ (x : A). f x ≡ false) l
-none-of f [] e = tt
-none-of f (x ∷ xs) e = (or-false (f x) (someOf f xs) e .0, none-of f xs (or-false (f x) (someOf f xs) e .1))
-
 -- a question asks only what `map` shows; and it holds of none if at no place
 pub some-map : {A : Type 0} (f : A → Bool) (l m : List A) → map f l ≡ map f m → someOf f l ≡ someOf f m
 some-map {A = A} f l m e = shown l ∙ ap (someOf (λ b. b)) e ∙ sym (shown m)
@@ -76,10 +60,6 @@ none-at f (x ∷ xs) z h = rw (h 0) (none-at f xs z (λ k. h (suc k)))
 pub each-map : {A : Type 0} (P Q : A → Type 0) → ((x : A) → P x → Q x) → (l : List A) → Each P l → Each Q l
 each-map P Q f [] e = tt
 each-map P Q f (x ∷ xs) e = (f x (e .0), each-map P Q f xs (e .1))
-
-pub each-both : {A : Type 0} (P Q R : A → Type 0) → ((x : A) → P x → Q x → R x) → (l : List A) → Each P l → Each Q l → Each R l
-each-both P Q R f [] p q = tt
-each-both P Q R f (x ∷ xs) p q = (f x (p .0) (q .0), each-both P Q R f xs (p .1) (q .1))
 
 pub each-of : {A : Type 0} (P : A → Type 0) → ((x : A) → P x) → (l : List A) → Each P l
 each-of P f [] = tt
@@ -127,8 +107,3 @@ where-is s n a = go (either (ltb a s)) (either (ltb a (s + n)))
     go (inl f) g = inl (ltb-true a s f)
     go (inr f) (inl g) = inr (inl (ltb-false a s f, ltb-true a (s + n) g))
     go (inr f) (inr g) = inr (inr (ltb-false a (s + n) g))
-
--- the two arms of a condition, each under its own hypothesis
-pub cond-same : {A : Type 0} (b : Bool) {x y x′ y′ : A} → (b ≡ true → x ≡ x′) → (b ≡ false → y ≡ y′) → cond b x y ≡ cond b x′ y′
-cond-same true f g = f refl
-cond-same false f g = g refl

@@ -12,6 +12,7 @@ use lib.ListN.{length, getD, List·getD-eq-default}
 use borrow.Author.Tests.{ltb-true, ltb-false, eqb-true, eq-eqb, not-false}
 use Rattle.wire.specs.Image.{Bytes}
 use Rattle.wire.specs.Outcome.{Outcome, refused, accepted}
+use Rattle.wire.proofs.Lists.{or-none, none-below}
 use Rattle.wire.proofs.Order.{never}
 use Rattle.pdi.specs.Offset.{pastEnd}
 use Rattle.fmmu.specs.Image.{fieldsOf}
@@ -34,7 +35,7 @@ use Rattle.passes.proofs.Pieces.{uses-total}
 use Rattle.translation.specs.Translate.{says, odd, firstSaid, orNone, translate}
 use Rattle.counting.specs.Count.{spotIn, deviceAlone, countRefusals, count}
 use Rattle.agreement.specs.Agreement.{EveryDisabled, Lent, weights, passOf, Accepted, TwoPasses, laidBy, counted, Demand3, Demand3InReach}
-use Rattle.agreement.proofs.Basics.{accepted-clear, clear-accepted, or-false, none-below, each-map, each-of, either}
+use Rattle.agreement.proofs.Basics.{accepted-clear, clear-accepted, each-map, each-of, either}
 use Rattle.agreement.proofs.Straight.{lay, Lays, apart-flip}
 use Rattle.agreement.proofs.Step.{Off, off-silent}
 use Rattle.agreement.proofs.Run.{Start, Alike, agree-iff, none-odd, other-after, other-before}
@@ -69,7 +70,7 @@ facts sheet r l area after a =
     (passRefusals sheet (weights sheet l) r (l .offset) (l .group) area (l .channels))
     (plannedOf (sheetData sheet) (weights sheet l) r (l .offset) (l .group))
     (a .planned) (a .says) in
-    let long : length area ≡ 256 = eqb-true (length area) 256 (not-false (eqb (length area) 256) (or-false (notEntries area) (notChannels (l .channels)) (c .0) .0)) in
+    let long : length area ≡ 256 = eqb-true (length area) 256 (not-false (eqb (length area) 256) (or-none (notEntries area) (notChannels (l .channels)) (c .0) .0)) in
     let s = c .1 .1 .1 .1 .1 in
     let left = a .leaves ∙ ap (λ (o : Outcome Planned). entriesAfter o (sheetData sheet) (weights sheet l) r (l .offset) area) (a .says) in
     record {

@@ -10,6 +10,7 @@ use native.Mathlib.Omega.{arith}
 use lib.Dec.{ltb}
 use borrow.Author.Tests.{ltb-true, ltb-false}
 use Rattle.wire.specs.Field.{flagAt, bit}
+use Rattle.wire.proofs.Fields.{flag-bit}
 use Rattle.fmmu.specs.declared.Fmmu.{Fmmu}
 use Rattle.fmmu.specs.Image.{fieldsOf, imageOf}
 use Rattle.fmmu.proofs.RoundTrip.{read-write}
@@ -165,14 +166,10 @@ both-flags true false = (refl, refl)
 both-flags false true = (refl, refl)
 both-flags false false = (refl, refl)
 
-one-flag : (x : Bool) → flagAt (bit x) 0 ≡ x
-one-flag true = refl
-one-flag false = refl
-
 image-carries : (r : PdoDirection) (f : Fmmu) → carries r (fieldsOf (imageOf f)) ≡ carries r f
 unfolding carries fieldsOf imageOf
-image-carries MasterRead f = rw (both-flags (f .«read_enable») (f .«write_enable») .0, one-flag (f .enable)) refl
-image-carries MasterWrite f = rw (both-flags (f .«read_enable») (f .«write_enable») .1, one-flag (f .enable)) refl
+image-carries MasterRead f = rw (both-flags (f .«read_enable») (f .«write_enable») .0, flag-bit (f .enable)) refl
+image-carries MasterWrite f = rw (both-flags (f .«read_enable») (f .«write_enable») .1, flag-bit (f .enable)) refl
 
 laid-carries : (r : PdoDirection) (q : ℕ) (u : Use) (f : Fmmu) → (f .enable ≡ true) ⊎ (f .enable ≡ false) → carries r f ≡ false → carries r (laid (other r) q u f) ≡ false
 unfolding carries

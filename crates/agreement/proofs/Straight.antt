@@ -11,11 +11,12 @@ use native.Mathlib.Omega.{arith}
 use lib.Dec.{eqb, ltb, leb}
 use borrow.Author.Tests.{ltb-true, ltb-false, lt-ltb, le-leb, eq-eqb, ne-eqb}
 use Rattle.wire.specs.Lists.{Each}
+use Rattle.wire.proofs.Lists.{cond-same}
 use Rattle.passes.specs.Use.{Use, total, totalOn}
 use Rattle.translation.specs.Translate.{within, named, orNone}
 use Rattle.agreement.specs.Agreement.{sharing, Chained, EndToEnd}
 use Rattle.translation.proofs.Lies.{inside, before, behind}
-use Rattle.agreement.proofs.Basics.{where-is, cond-same, either, same-or-not, each-map}
+use Rattle.agreement.proofs.Basics.{where-is, either, same-or-not, each-map}
 
 -- the sizes one after another from q: nothing outside; inside, the address plus the byte reached
 unfoldable pub lay : ℕ → List Use → ℕ → Option (Option ℕ)

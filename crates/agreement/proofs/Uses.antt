@@ -15,6 +15,7 @@ use Rattle.pdi.specs.Unit.{bytesOf}
 use Rattle.sheet.specs.declared.SyncManager.{SyncManager}
 use Rattle.sheet.specs.Device.{Data}
 use Rattle.wire.specs.Lists.{Each, someOf}
+use Rattle.wire.proofs.Lists.{none-of}
 use Rattle.pdo.specs.declared.PdoDirection.{PdoDirection}
 use Rattle.pdo.specs.declared.PdoDirection.the-variants.{MasterRead, MasterWrite}
 use Rattle.pdo.specs.Direction.{usageOf, fmmuUsageOf, other}
@@ -24,7 +25,7 @@ use Rattle.passes.specs.Pass.{noEntry}
 use Rattle.translation.specs.Translate.{within, named, orNone}
 use Rattle.counting.specs.Count.{spotAt, spotIn, deviceIn}
 use Rattle.translation.proofs.Lies.{before, behind}
-use Rattle.agreement.proofs.Basics.{either, same-or-not, each-map, each-of, none-of, where-is}
+use Rattle.agreement.proofs.Basics.{either, same-or-not, each-map, each-of, where-is}
 use Rattle.agreement.proofs.Straight.{lay, Fresh, Grouped, Apart, apart-flip}
 
 -- what the sheet's rules give of device data
@@ -185,7 +186,8 @@ module _ (d : Data) where
           let z : firstWith (fmmuUsageOf r) (d .usages) ≢ length (d .usages) = eqb-false (coeEntry d r) (length (d .usages)) e in
           inl (omega arith)
       go (inl e) (inl s) = absurd (true≢false (sym (rw (c, s, e) refl) ∙ n))
-      go (inl e) (inr s) = inr (given-none (λ number. coeEntry d r) (piecesOf d ws r) (none-of (λ (p : Piece). ltb 0 (p .bits)) (piecesOf d ws r) s))
+      go (inl e) (inr s) =
+          inr (given-none (λ number. coeEntry d r) (piecesOf d ws r) (none-of (λ (p : Piece). ltb 0 (p .bits)) (λ (p : Piece). ltb 0 (p .bits) ≡ false) (λ p e. e) (piecesOf d ws r) s))
 
   -- the two directions want different sync managers, and different entries
   own-both : (ws vs : List ℕ) (r : PdoDirection) → Apart (own (piecesOf d ws r)) (own (piecesOf d vs (other r)))

@@ -11,10 +11,11 @@ use lib.ListN.{length, getD, length-set}
 use lib.Seq.{getD-set-same, getD-set-other}
 use lib.Dec.{ltb}
 use borrow.Author.Tests.{ltb-true, ltb-false, lt-ltb, le-ltb, eq-eqb, ne-eqb}
-use Rattle.wire.specs.Field.{flagAt, bit}
+use Rattle.wire.specs.Field.{flagAt}
 use Rattle.wire.specs.Number.{littleAt}
 use Rattle.wire.specs.Image.{Bytes}
 use Rattle.wire.proofs.Bytes.{little-fits}
+use Rattle.wire.proofs.Fields.{flag-bit}
 use Rattle.wire.proofs.Numbers.{joined-is}
 use Rattle.wire.proofs.Lists.{some-hit, some-none, some-same}
 use Rattle.fmmu.specs.declared.Fmmu.{Fmmu}
@@ -33,14 +34,10 @@ short-bytes entries many bytes = record { many = many; short = λ k h. go k (fla
     go k true = let h = little-fits 2 4 (bytes k) in omega arith
     go k false = omega arith
 
-flag-back : (x : Bool) → flagAt (bit x) 0 ≡ x
-flag-back true = refl
-flag-back false = refl
-
 -- the length of an entry that was written
 written-length : (f : Fmmu) → f .«length_bytes» .0 ≤ 65535 → lengthNow (imageOf f) ≡ lengthOf f
 unfolding fieldsOf imageOf
-written-length f h = ap₂ (λ (b : Bool) (n : ℕ). cond b n 0) (flag-back (f .enable)) (joined-is 2 (f .«length_bytes» .0) (omega arith))
+written-length f h = ap₂ (λ (b : Bool) (n : ℕ). cond b n 0) (flag-bit (f .enable)) (joined-is 2 (f .«length_bytes» .0) (omega arith))
 
 -- laying adds the size, to nothing where the entry was disabled
 laid-length : (r : PdoDirection) (o : ℕ) (u : Use) (f : Fmmu) → lengthOf f + u .size ≤ 65535 → lengthNow (imageOf (laid r o u f)) ≡ lengthOf f + u .size

@@ -9,7 +9,7 @@ use lib.Dec.{ltb}
 use borrow.Author.Tests.{ltb-false}
 use Rattle.wire.specs.Field.{bitsAt, flagAt, bit}
 use Rattle.wire.specs.Outcome.{when}
-use Rattle.wire.proofs.Fields.{bit-lt}
+use Rattle.wire.proofs.Fields.{bit-lt, flag-bit}
 use Rattle.wire.proofs.Order.{passed-first}
 use Rattle.wire.proofs.Reserved.{exactly}
 use Rattle.wire.proofs.Images.{Layout, Calls}
@@ -48,13 +48,9 @@ access =
     (omega arith) (λ p h. access-back (p .0) (p .1)) (λ b. tt) (exactly (λ b. accessByte (accessAt b)) 2 6 tt)
 
 -- the enable flag
-pub enable-back : (e : Bool) → flagAt (bit e) 0 ≡ e
-enable-back true = refl
-enable-back false = refl
-
 abbrev enabled : Layout 1 Bool
 enabled =
-    low-bits 1 bit (λ b. flagAt b 0) (λ e. Unit {0}) bit-lt (omega arith) (λ e h. enable-back e) (λ b. tt) (exactly (λ b. bit (flagAt b 0)) 1 7 tt)
+    low-bits 1 bit (λ b. flagAt b 0) (λ e. Unit {0}) bit-lt (omega arith) (λ e h. flag-bit e) (λ b. tt) (exactly (λ b. bit (flagAt b 0)) 1 7 tt)
 
 -- an entry's values, in the order of the image: the process data image's side, the device's, three reserved bytes
 abbrev Values : Type 0

@@ -1,6 +1,6 @@
 -- The calls of `Arrival` are calls of the functions: arguments, answer and room at exit that keep a function's own contract, as it is generated
--- from the source (`Post`), make the record that the theorem is about; and what the end is held to is what `sheet::read` promises. So a changed
--- `ensures` breaks this file.
+-- from the source (`Post`), make the record that the theorem is about. That what the end is held to is what `sheet::read` promises is said in
+-- sheet/proofs/Contracts. So a changed `ensures` breaks this file, or that one.
 -- Assumes nothing.
 use mathlib.Core.Path.{_≡_}
 use contract.Lifetimes.{Lfts}
@@ -8,9 +8,6 @@ use denote.Ref.{now}
 use denote.Triple.Clauses.{AtExit}
 use denote.Triple.Entry.{Args}
 use Rattle.sheet.specs.declared.SheetRead.{SheetRead}
-use Rattle.sheet.specs.Sheet.{ReadsAs}
-use Rattle.sheet.proofs.read as reading
-use Rattle.sheet.proofs.read.Reads as reads
 use Rattle.portions.specs.declared.State.{State}
 use Rattle.portions.specs.declared.Taken.{Taken}
 use Rattle.portions.specs.Portions.{begun, Ends}
@@ -41,7 +38,3 @@ call-of κs a answer s kept =
 -- `portions::end`: state, room
 pub end-of : (κs : Lfts 1) (a : Args ending.signature κs) (answer : SheetRead) (s : AtExit ending.ended κs) → ends.Post κs a answer s → Ends (a .0) (now (a .1 .0)) answer
 end-of κs a answer s kept = kept
-
--- `sheet::read`: the sheet at once
-pub read-of : (κs : Lfts 1) (a : Args reading.signature κs) (answer : SheetRead) (s : AtExit reading.ended κs) → reads.Post κs a answer s → ReadsAs (now (a .0)) answer
-read-of κs a answer s kept = kept

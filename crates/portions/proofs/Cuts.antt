@@ -8,6 +8,7 @@ use Prim.Native.Nat.{ℕ}
 use lib.Dec.{ltb}
 use Rattle.wire.specs.Outcome.{Outcome, refused, accepted}
 use Rattle.wire.specs.Room.{roomAfter}
+use Rattle.wire.proofs.Copied.{length-over}
 use Rattle.area.specs.Area.{flat}
 use Rattle.sheet.specs.Sheet.{readSheet, answerOf}
 use Rattle.sheet.proofs.Unique.{answer-back}
@@ -16,7 +17,7 @@ use Rattle.portions.specs.Portions.{begun, heldIn, stored, shortRoom, ta
 use Rattle.portions.specs.Arrival.{Call, takenBy, joined, OneRoom, HandedOn, EveryCut}
 use Rattle.portions.proofs.Steps.{taking-enough, reads-by}
 use Rattle.portions.proofs.Whole.{reads-from, ending-after}
-use Rattle.portions.proofs.Rest.{length-over, nobody-else}
+use Rattle.portions.proofs.Rest.{nobody-else}
 
 answer-by : (o : Outcome State) (st : State) → answerOf (answer-back o) (stateAfter o st) ≡ o
 answer-by (refused n) st = refl

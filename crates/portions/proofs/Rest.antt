@@ -1,27 +1,21 @@
 -- One room throughout: nobody else writes it, and it ends with the joined bytes over its front and the rest as it was.
 -- Assumes nothing.
-use mathlib.Core.Path.{_≡_, refl, sym, _∙_, ap, ap₂}
+use mathlib.Core.Path.{_≡_, refl, sym, _∙_, ap}
 use mathlib.Core.Bool.{Bool, true, false, false≢true}
 use mathlib.Core.List.{List, [], _∷_, _++_, append-assoc, append-nil}
 use Prim.Native.Nat.{ℕ, _+_, _-_, _≤_, min}
 use native.Mathlib.Nat.{zero-min}
 use native.Mathlib.Omega.{arith}
-use lib.ListN.{length, take, drop, length-take, length-drop, length-append}
+use lib.ListN.{length, take, drop, length-take, length-append}
 use lib.Seq.{take-nil, drop-drop, drop-append-add}
 use Rattle.wire.specs.Room.{over}
+use Rattle.wire.proofs.Copied.{length-over}
 use Rattle.area.specs.Area.{flat}
 use Rattle.sheet.specs.declared.Answer.{Answer}
 use Rattle.sheet.specs.declared.Answer.the-variants.{Accepted, Refused}
 use Rattle.portions.specs.Portions.{heldIn, shortRoom}
 use Rattle.portions.specs.Arrival.{Call, takenBy, takenIn, joined, Standing, atFirst, bytesAfter, afterCall, Untouched, EachUntouched, leftBy, RoomsHold, OneRoom, NobodyElse, RestStays}
 use Rattle.portions.proofs.Whole.{left, took, however-cut}
-
--- writing over a room leaves its length
-pub length-over : (s room : List ℕ) → length (over s room) ≡ length room
-length-over s room =
-    let m = min (length s) (length room) in
-    let front : length (take m s) ≡ m = length-take m s ∙ (let z : min m (length s) ≡ m = omega arith in z) in
-    length-append (take m s) (drop m room) ∙ ap₂ (λ (a b : ℕ). a + b) front (length-drop m room) ∙ (let z : m + (length room - m) ≡ length room = omega arith in z)
 
 -- writing over no less than was written before: as if that had not been
 over-over : (s t room : List ℕ) → length s ≤ length t → over t (over s room) ≡ over t room

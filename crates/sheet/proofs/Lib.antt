@@ -4,4 +4,5 @@ pub mod Managers
 pub mod Kept
 pub mod Sound
 pub mod Reading
+pub mod Contracts
 pub mod Unique

@@ -2,11 +2,11 @@
 -- Assumes nothing.
 use mathlib.Core.Path.{_≡_, sym, _∙_, ap, ap₂}
 use mathlib.Core.List.{List, _++_, append-nil}
-use Prim.Native.Nat.{ℕ, suc, _+_, _<_, _≤_, min}
+use Prim.Native.Nat.{ℕ, suc, _+_, _-_, _<_, _≤_, min}
 use native.Mathlib.Nat.{zero-add, min-eq-left}
 use native.Mathlib.Numerals.{add-one}
 use native.Mathlib.Omega.{arith}
-use lib.ListN.{length, getD, take, drop, set, drop-of-length-le}
+use lib.ListN.{length, getD, take, drop, set, length-take, length-drop, length-append, drop-of-length-le}
 use lib.Seq.{paste-suc, take-length, take-all}
 use Rattle.wire.specs.Room.{over}
 
@@ -33,3 +33,10 @@ pub over-same : (s d : List ℕ) → length s ≡ length d → over s d ≡ s
 over-same s d e =
     let h : length d ≤ length s = omega arith in
     over-front s d (omega arith) ∙ rw (drop-of-length-le d h) (append-nil s)
+
+-- s over a list leaves its length
+pub length-over : (s d : List ℕ) → length (over s d) ≡ length d
+length-over s d =
+    let m = min (length s) (length d) in
+    let front : length (take m s) ≡ m = length-take m s ∙ (let z : min m (length s) ≡ m = omega arith in z) in
+    length-append (take m s) (drop m d) ∙ ap₂ (λ (a b : ℕ). a + b) front (length-drop m d) ∙ (let z : m + (length d - m) ≡ length d = omega arith in z)

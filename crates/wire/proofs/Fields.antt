@@ -38,3 +38,8 @@ bit-lt false = omega arith
 pub bit-back : (x : Bool) → eqb (bit x) 1 ≡ x
 bit-back true = refl
 bit-back false = refl
+
+-- a byte that holds nothing but that flag
+pub flag-bit : (x : Bool) → flagAt (bit x) 0 ≡ x
+flag-bit true = refl
+flag-bit false = refl

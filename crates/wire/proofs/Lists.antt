@@ -1,8 +1,8 @@
--- A list's elements by number, whatever would stand past its end; lists and questions by number: a turn of a loop over them.
+-- A list's elements by number, whatever would stand past its end; what each of them has; lists and questions by number: a turn of a loop over them.
 -- Assumes nothing.
 use mathlib.Core.Path.{_≡_, refl, sym, _∙_, ap, ap₂}
-use mathlib.Core.Bool.{Bool, true, false, _||_, false≢true}
-use mathlib.Core.List.{List, [], _∷_, _++_}
+use mathlib.Core.Bool.{Bool, true, false, cond, _||_, false≢true}
+use mathlib.Core.List.{List, [], _∷_, _++_, map, map-append}
 use mathlib.Core.Logic.{_⊎_, inl, inr}
 use Prim.Native.Nat.{ℕ, zero, suc, _+_, _-_, _<_, min}
 use native.Mathlib.Nat.{not-suc-le-zero, le-of-suc-le-suc, eq-or-lt-of-le, zero-min, suc-min-suc}
@@ -10,7 +10,7 @@ use native.Mathlib.Numerals.{add-one}
 use native.Mathlib.Omega.{arith}
 use lib.ListN.{length, getD, set, take, drop, replicate, length-drop, length-append, List·getD-append}
 use lib.Seq.{set-at, append-snoc, getD-at, take-nil, drop-nil, take-all}
-use Rattle.wire.specs.Lists.{listOf, someBelow, someOf}
+use Rattle.wire.specs.Lists.{listOf, someBelow, someOf, Each}
 
 -- within the list it doesn't matter what would stand past its end
 pub getD-any : {A : Type 0} (l : List A) (k : ℕ) (d e : A) → k < length l → getD l k d ≡ getD l k e
@@ -43,6 +43,11 @@ or-right : (a b : Bool) → b ≡ true → a || b ≡ true
 or-right true b e = refl
 or-right false b e = e
 
+-- the same condition, and on each side of it the same
+pub cond-same : {A : Type 0} (b : Bool) {x y x′ y′ : A} → (b ≡ true → x ≡ x′) → (b ≡ false → y ≡ y′) → cond b x y ≡ cond b x′ y′
+cond-same true f g = f refl
+cond-same false f g = g refl
+
 -- neither of two holds
 pub or-none : (a b : Bool) → a || b ≡ false → (a ≡ false) × (b ≡ false)
 or-none true b e = absurd (false≢true (sym e))
@@ -57,6 +62,14 @@ some-hit f k (suc n) h e = go (eq-or-lt-of-le (le-of-suc-le-suc h)) (λ s. some-
     go : (k ≡ n) ⊎ (k < n) → (k < n → someBelow f n ≡ true) → someBelow f n || f n ≡ true
     go (inl s) below = or-right (someBelow f n) (f n) (ap f (sym s) ∙ e)
     go (inr s) below = or-left (someBelow f n) (f n) (below s)
+
+-- it holds of none, so not of one
+pub none-below : (f : ℕ → Bool) (n : ℕ) → someBelow f n ≡ false → (k : ℕ) → k < n → f k ≡ false
+none-below f n e k h = go (f k) refl
+  where
+    go : (b : Bool) → f k ≡ b → f k ≡ false
+    go true t = absurd (false≢true (sym e ∙ some-hit f k n h t))
+    go false t = t
 
 -- it holds of none so far, and not of the next
 pub some-miss : (f : ℕ → Bool) (k : ℕ) → someBelow f k ≡ false → f k ≡ false → someBelow f (k + 1) ≡ false
@@ -92,6 +105,27 @@ none-first {A} f l k d g n e = ap (λ (i : ℕ). someOf f (take i l)) (add-one k
         let h = or-none (f x) (someOf f (take k l)) n in
         ap₂ (λ (a b : Bool). a || b) (h .0) (go l k (le-of-suc-le-suc g) (h .1) e)
 
+-- a question that holds of none, and what is known of each: the one gives the other
+pub none-of : {A : Type 0} (f : A → Bool) (P : A → Type 0) → ((x : A) → f x ≡ false → P x) → (l : List A) → someOf f l ≡ false → Each P l
+none-of f P h [] e = tt
+none-of f P h (x ∷ l) e = let o = or-none (f x) (someOf f l) e in (h x (o .0), none-of f P h l (o .1))
+
+pub of-none : {A : Type 0} (f : A → Bool) (P : A → Type 0) → ((x : A) → P x → f x ≡ false) → (l : List A) → Each P l → someOf f l ≡ false
+of-none f P h [] p = refl
+of-none f P h (x ∷ l) p = rw (h x (p .0)) (of-none f P h l (p .1))
+
+-- what two rules give of each
+pub each-both : {A : Type 0} (P Q R : A → Type 0) → ((x : A) → P x → Q x → R x) → (l : List A) → Each P l → Each Q l → Each R l
+each-both P Q R f [] p q = tt
+each-both P Q R f (x ∷ l) p q = (f x (p .0) (q .0), each-both P Q R f l (p .1) (q .1))
+
+-- what every element has, the one with a number has
+pub each-at : {A : Type 0} (P : A → Type 0) (l : List A) (k : ℕ) (d : A) → k < length l → Each P l → P (getD l k d)
+each-at P [] k d b e = absurd (not-suc-le-zero b)
+each-at P (x ∷ l) zero d b e = e .0
+each-at P (x ∷ l) (suc k) d b e = each-at P l k d (le-of-suc-le-suc b) (e .1)
+
+-- how long a list by number is
 pub length-listOf : {A : Type 0} (f : ℕ → A) (n : ℕ) → length (listOf f n) ≡ n
 unfolding listOf
 length-listOf f zero = refl
@@ -109,6 +143,29 @@ getD-listOf f (suc n) k d h = go (eq-or-lt-of-le (le-of-suc-le-suc h)) (λ l. ge
 
 pub at-number : {A : Type 0} (f : ℕ → A) (n k : ℕ) (rest : List A) (d : A) → k < n → getD (listOf f n ++ rest) k d ≡ f k
 at-number f n k rest d h = List·getD-append (listOf f n) rest d k (omega (arith, length-listOf f n)) ∙ getD-listOf f n k d h
+
+-- every element of a list by number has what each of them has
+pub each-number : {A : Type 0} (P : A → Type 0) (f : ℕ → A) (n : ℕ) → ((k : ℕ) → k < n → P (f k)) → Each P (listOf f n)
+unfolding listOf
+each-number P f zero h = tt
+each-number {A} P f (suc n) h = snoc (listOf f n) (each-number P f n (λ k l. h k (omega arith)))
+  where
+    snoc : (l : List A) → Each P l → Each P (l ++ (f n ∷ []))
+    snoc [] e = (h n (omega arith), tt)
+    snoc (x ∷ l) e = (e .0, snoc l (e .1))
+
+-- a function of each element is the element of another list by number
+pub map-number : {A B : Type 0} (g : A → B) (f : ℕ → A) (e : ℕ → B) (n : ℕ) → ((k : ℕ) → k < n → g (f k) ≡ e k) → map g (listOf f n) ≡ listOf e n
+unfolding listOf
+map-number g f e zero h = refl
+map-number {A} {B} g f e (suc n) h =
+    map-append g (listOf f n) (f n ∷ []) ∙ ap₂ (λ (l : List B) (x : B). l ++ (x ∷ [])) (map-number g f e n (λ k l. h k (omega arith))) (h n (omega arith))
+
+-- lists by number that agree below n are the same
+pub number-same : {A : Type 0} (f g : ℕ → A) (n : ℕ) → ((k : ℕ) → k < n → f k ≡ g k) → listOf f n ≡ listOf g n
+unfolding listOf
+number-same f g zero h = refl
+number-same f g (suc n) h = λ i. number-same f g n (λ k s. h k (omega arith)) i ++ (h n (omega arith) i ∷ [])
 
 -- none of sixteen is filled yet
 pub none-yet : {A : Type 0} (f : ℕ → A) (d : A) → replicate 16 d ≡ listOf f 0 ++ replicate (16 - 0) d

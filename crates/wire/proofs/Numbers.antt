@@ -1,4 +1,4 @@
--- Little-endian numbers over any width, and an image written out over any length.
+-- Little-endian numbers over any width, big-endian ones of two bytes, and an image written out over any length.
 -- Assumes nothing.
 use mathlib.Core.Path.{_≡_, refl, sym, _∙_, ap, ap₂}
 use mathlib.Core.List.{List, [], _∷_, _++_}
@@ -9,7 +9,7 @@ use native.Mathlib.Omega.{arith}
 use lib.Arith.{mod-mul}
 use lib.ListN.{length, getD, drop}
 use lib.Seq.{drop-cons, drop-length}
-use Rattle.wire.specs.Number.{littleAt, littleOf}
+use Rattle.wire.specs.Number.{littleAt, littleOf, bigAt, bigOf}
 use Rattle.wire.specs.Image.{Bytes, Image}
 
 -- the number that x's n bytes are: what `littleAt` of a list that begins with them computes to
@@ -65,6 +65,16 @@ little-back {l} (suc n) at h =
     let v = littleAt l (at + 1) n in
     let e : (getD l at 0 + 256 * v) / 256 ≡ v = omega arith in
     ap₂ (λ (x : ℕ) (t : List ℕ). x ∷ t) (omega arith) (ap (littleOf n) e ∙ little-back n (at + 1) h)
+
+-- a number of two bytes, the high one first: read and written, and written and read
+pub big-back : {l : List ℕ} (at : ℕ) → Bytes l → bigOf 2 (bigAt l at 2) ≡ spread 2 at l
+big-back at h =
+    let a = h .below at in
+    let b = h .below (at + 1) in
+    ap₂ (λ (x y : ℕ). x ∷ y ∷ []) (omega arith) (omega arith)
+
+pub big-joined : (x : ℕ) → x < 65536 → bigAt (bigOf 2 x) 0 2 ≡ x
+big-joined x h = omega arith
 
 -- the n bytes of a number take no notice of what is above them
 pub little-wraps : (n x : ℕ) → littleOf n (x % 256 ^ n) ≡ littleOf n x

@@ -11,7 +11,7 @@ use borrow.Author.Tests.{le-ltb}
 use Rattle.wire.specs.Field.{bitsAt, flagAt, bit}
 use Rattle.wire.specs.Outcome.{accepted, when, decide}
 use Rattle.wire.proofs.Fields.{bit-back}
-use Rattle.wire.proofs.Lists.{some-none}
+use Rattle.wire.proofs.Lists.{some-none, each-at}
 use Rattle.wire.proofs.Packed.{Laid, flag, laid}
 use Rattle.grammar.proofs.Length.{only-high}
 use Rattle.grammar.proofs.Broken.{only-walk}
@@ -19,7 +19,7 @@ use Rattle.sheet.specs.Device.{Data, pdosFrom}
 use Rattle.sheet.specs.Sheet.{usageCount, pdoCount, usagesPlace, pdosPlace, wrongLength, wrongVersion, pdosFit, someUsageWrong, broken, sheetData, readSheet}
 use Rattle.writer.specs.Form.{flagsByte, bodyBytes, sheetOf}
 use Rattle.writer.proofs.Keeps.{Keeps}
-use Rattle.writer.proofs.Stands.{stands-byte, stands-all, each-at}
+use Rattle.writer.proofs.Stands.{stands-byte, stands-all}
 use Rattle.writer.proofs.Parts.{Parts, parts}
 use Rattle.writer.proofs.Managers.{managers-read, usages-named, controls-named}
 use Rattle.writer.proofs.Pdos.{pdos-read, pdos-fit}

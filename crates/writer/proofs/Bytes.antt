@@ -3,7 +3,7 @@
 use mathlib.Core.Bool.{Bool, true, false, cond}
 use mathlib.Core.Path.{_≡_, refl}
 use mathlib.Core.List.{List, [], _∷_, map}
-use Prim.Native.Nat.{ℕ, zero, suc, _+_, _/_, _≤_}
+use Prim.Native.Nat.{ℕ, _+_, _≤_}
 use native.Mathlib.Omega.{arith}
 use lib.ListN.{length, getD}
 use lib.Dec.{eqb}
@@ -12,7 +12,7 @@ use Rattle.wire.specs.Number.{bigOf}
 use Rattle.wire.specs.Image.{Bytes}
 use Rattle.wire.specs.Lists.{Each}
 use Rattle.wire.proofs.Fields.{bit-lt}
-use Rattle.wire.proofs.Bytes.{no-bytes, cons-bytes, append-bytes}
+use Rattle.wire.proofs.Bytes.{no-bytes, cons-bytes, append-bytes, big-bytes}
 use Rattle.area.specs.Area.{flat}
 use Rattle.channel_bytes.proofs.Bytes.{control-laid}
 use Rattle.sheet.specs.declared.SyncManager.{SyncManager}
@@ -20,16 +20,11 @@ use Rattle.sheet.specs.Device.{Pdo, Data}
 use Rattle.writer.specs.Form.{managerBytes, pdoBytes, counted, bodyBytes, sheetOf}
 use Rattle.writer.proofs.Keeps.{KeepsManager, KeepsPdo, Keeps}
 
--- the bytes of a number, the high one first
-big-bytes : (n x : ℕ) → Bytes (bigOf n x)
-big-bytes zero x = no-bytes
-big-bytes (suc n) x = append-bytes (big-bytes n (x / 256)) (cons-bytes (omega arith) no-bytes)
-
 -- lists of bytes one after the other
-flat-bytes : {A : Type 0} (P : A → Type 0) (f : A → List ℕ) → ((x : A) → P x → Bytes (f x)) → (xs : List A) → Each P xs → Bytes (flat (map f xs))
+all-bytes : {A : Type 0} (P : A → Type 0) (f : A → List ℕ) → ((x : A) → P x → Bytes (f x)) → (xs : List A) → Each P xs → Bytes (flat (map f xs))
 unfolding flat
-flat-bytes P f h [] each = no-bytes
-flat-bytes P f h (x ∷ xs) each = append-bytes (h x (each .0)) (flat-bytes P f h xs (each .1))
+all-bytes P f h [] each = no-bytes
+all-bytes P f h (x ∷ xs) each = append-bytes (h x (each .0)) (all-bytes P f h xs (each .1))
 
 -- each part of the sheet
 manager-bytes : (m : SyncManager) → KeepsManager m → Bytes (managerBytes m)
@@ -52,8 +47,8 @@ pdo-bytes p k =
 body-bytes : (x : Data) → Keeps x → Bytes (bodyBytes x)
 unfolding bodyBytes
 body-bytes x k =
-    append-bytes (flat-bytes KeepsManager managerBytes manager-bytes (x .managers) (k .managers))
-    (append-bytes (usages-bytes (x .usages) (k .usages)) (flat-bytes KeepsPdo pdoBytes pdo-bytes (x .pdos) (k .pdos)))
+    append-bytes (all-bytes KeepsManager managerBytes manager-bytes (x .managers) (k .managers))
+    (append-bytes (usages-bytes (x .usages) (k .usages)) (all-bytes KeepsPdo pdoBytes pdo-bytes (x .pdos) (k .pdos)))
 
 -- and the whole, with its head
 pub sheet-bytes : (x : Data) → Keeps x → Bytes (sheetOf x)

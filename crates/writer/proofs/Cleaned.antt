@@ -1,8 +1,8 @@
 -- What an accepted sheet reads as, written again: byte for byte the sheet, but that the bits which are ignored are 0.
 -- Assumes nothing.
-use mathlib.Core.Path.{_≡_, refl, sym, _∙_, ap, ap₂, subst}
+use mathlib.Core.Path.{_≡_, sym, _∙_, ap, ap₂, subst}
 use mathlib.Core.Bool.{Bool, false, _||_}
-use mathlib.Core.List.{List, [], _∷_, _++_}
+use mathlib.Core.List.{List, [], _∷_, _++_, map}
 use Prim.Native.Nat.{ℕ, _+_, _%_, _<_}
 use native.Mathlib.Omega.{arith}
 use lib.ListN.{length, getD, take, drop, length-append, length-drop}
@@ -11,12 +11,12 @@ use lib.Dec.{T, eqb, eqb→eq}
 use borrow.Author.Tests.{eqb-true, not-false}
 use Rattle.wire.specs.Field.{flagAt, bit}
 use Rattle.wire.specs.Image.{Bytes}
-use Rattle.wire.specs.Lists.{listOf, Each}
+use Rattle.wire.specs.Lists.{listOf}
 use Rattle.wire.specs.Number.{bigAt, bigOf}
 use Rattle.wire.proofs.Below.{below, agree}
-use Rattle.wire.proofs.Lists.{length-listOf}
+use Rattle.wire.proofs.Lists.{none-below, length-listOf, map-number}
+use Rattle.wire.proofs.Numbers.{big-back}
 use Rattle.area.specs.Area.{flat}
-use Rattle.area.proofs.Flat.{Rows, flat-bytes}
 use Rattle.channel_bytes.specs.Bytes.{controlAt, unnamed, controlByte}
 use Rattle.grammar.proofs.Length.{exact}
 use Rattle.grammar.proofs.Broken.{kept}
@@ -26,8 +26,8 @@ use Rattle.sheet.proofs.Managers.{manager-count, usage-count}
 use Rattle.sheet.proofs.Sound.{length-pdos}
 use Rattle.writer.specs.Form.{flagsByte, managerBytes, bodyBytes, sheetOf}
 use Rattle.writer.specs.Again.{cleanManager, cleaned}
-use Rattle.writer.proofs.From.{from, from-length, stands, two-back}
-use Rattle.writer.proofs.Numbered.{none-below, each-number, map-number}
+use Rattle.writer.proofs.Stored.{managers-long}
+use Rattle.writer.proofs.From.{from, from-length, stands}
 use Rattle.writer.proofs.Records.{fit-bytes}
 
 -- a control byte with named fields comes back without bit 7
@@ -45,15 +45,23 @@ enable-clean = agree (λ b. bit (flagAt b 0)) (λ b. b % 2) 256 tt
 flags-clean : (b : ℕ) → b < 8 → flagsByte (flagAt b 0) (flagAt b 1) (flagAt b 2) ≡ b
 flags-clean = agree (λ b. flagsByte (flagAt b 0) (flagAt b 1) (flagAt b 2)) (λ b. b) 8 tt
 
--- entries that have n bytes each
-rows : (n : ℕ) (xs : List (List ℕ)) → Each (λ (x : List ℕ). length x ≡ n) xs → Rows n xs
-rows n [] e = tt
-rows n (x ∷ xs) e = (e .0, rows n xs (e .1))
-
 module _ (s : List ℕ) (h : Bytes s) (a : Accepts s) where
   -- a sync manager's bytes in the cleaned sheet
   abbrev clean : ℕ → List ℕ
   clean k = cleanManager s (managerPlace k)
+
+  -- a sync manager, read and written, and all of them
+  manager-clean : (k : ℕ) → k < managerCount s → managerBytes (managerAt s (managerPlace k)) ≡ clean k
+  unfolding someUnnamed
+  manager-clean k l =
+      let at = managerPlace k in
+      let start = big-back at h in
+      let control = control-clean (getD s (at + 2) 0) (h .below (at + 2)) (none-below (unnamedAt s) (managerCount s) (a .named) k l) in
+      let enable = enable-clean (getD s (at + 3) 0) (h .below (at + 3)) in
+      λ i. start i ++ (control i ∷ enable i ∷ getD s (at + 4) 0 ∷ [])
+
+  managers-clean : map managerBytes (listOf (λ k. managerAt s (managerPlace k)) (managerCount s)) ≡ listOf clean (managerCount s)
+  managers-clean = map-number managerBytes (λ k. managerAt s (managerPlace k)) clean (managerCount s) manager-clean
 
   -- what follows the head there, and how many bytes that is
   abbrev rest : List ℕ
@@ -62,29 +70,20 @@ module _ (s : List ℕ) (h : Bytes s) (a : Accepts s) where
   rest-long : 11 + length rest ≡ length s
   rest-long =
       let n = managerCount s in
-      let each = each-number (λ (x : List ℕ). length x ≡ 5) clean n (λ k l. refl) in
-      let fives = flat-bytes 5 n (listOf clean n) (length-listOf clean n, rows 5 (listOf clean n) each) in
+      let ms = listOf (λ k. managerAt s (managerPlace k)) n in
+      let fives = ap (λ (l : List (List ℕ)). length (flat l)) (sym managers-clean) ∙ managers-long ms in
+      let many = length-listOf (λ k. managerAt s (managerPlace k)) n in
       let both = length-append (flat (listOf clean n)) (drop (usagesPlace s) s) in
       let left = length-drop (usagesPlace s) s in
       let places = a .places in
       omega arith
-
-  -- a sync manager, read and written
-  manager-clean : (k : ℕ) → k < managerCount s → managerBytes (managerAt s (managerPlace k)) ≡ clean k
-  unfolding someUnnamed
-  manager-clean k l =
-      let at = managerPlace k in
-      let start = two-back s at h in
-      let control = control-clean (getD s (at + 2) 0) (h .below (at + 2)) (none-below (unnamedAt s) (managerCount s) k (a .named) l) in
-      let enable = enable-clean (getD s (at + 3) 0) (h .below (at + 3)) in
-      λ i. start i ++ (control i ∷ enable i ∷ getD s (at + 4) 0 ∷ [])
 
   -- what follows the head, read and written
   body-is : bodyBytes (sheetData s) ≡ rest
   unfolding bodyBytes sheetData
   body-is =
       ap₂ (λ (x y : List ℕ). x ++ y)
-      (ap flat (map-number managerBytes (λ k. managerAt s (managerPlace k)) clean (managerCount s) manager-clean))
+      (ap flat managers-clean)
       (ap (λ (x : List ℕ). from s (usagesPlace s) (usageCount s) ++ x) (fit-bytes s (pdoCount s) (pdosPlace s) h (a .walk)) ∙ stands s (usagesPlace s) (usageCount s) (a .places))
 
   -- the head's bytes, by number
@@ -103,11 +102,11 @@ module _ (s : List ℕ) (h : Bytes s) (a : Accepts s) where
   pub written-again : sheetOf (sheetData s) ≡ cleaned s
   unfolding sheetOf cleaned sheetData listOf
   written-again =
-      let follow = ap (bigOf 2) follow-is ∙ two-back s 0 h in
+      let follow = ap (bigOf 2) follow-is ∙ big-back 0 h in
       let version : 1 ≡ getD s 2 0 = sym (eqb-true (getD s 2 0) 1 (not-false (eqb (getD s 2 0) 1) (a .version))) in
       let flags = flags-clean (getD s 3 0) (let f = kept s (a .whole) .flags in omega arith) in
-      let receive = two-back s 4 h in
-      let send = two-back s 6 h in
+      let receive = big-back 4 h in
+      let send = big-back 6 h in
       let n = manager-count s in
       let f = usage-count s in
       let p = length-pdos s (pdoCount s) (pdosPlace s) in

@@ -1,15 +1,16 @@
 -- Refusals 2 and 4 of a call, and its data: where neither holds the data keeps what data with a sheet keeps; and where it keeps that, neither holds.
 -- Assumes nothing.
-use mathlib.Core.Path.{_≡_, refl, sym, subst}
-use mathlib.Core.Bool.{Bool, true, false}
+use mathlib.Core.Path.{_≡_, sym, subst}
+use mathlib.Core.Bool.{true, false}
 use mathlib.Core.List.{List, [], _∷_}
 use Prim.Native.Nat.{ℕ, zero, suc, _+_, _*_, _<_, _≤_}
 use native.Mathlib.Omega.{arith}
 use lib.ListN.{take, length-take}
 use lib.Dec.{ltb}
 use borrow.Author.Tests.{le-ltb, ltb-false}
-use Rattle.wire.specs.Lists.{Each, someOf}
-use Rattle.wire.proofs.Lists.{or-none}
+use Rattle.wire.specs.Lists.{Each}
+use Rattle.wire.proofs.Bytes.{part-bytes}
+use Rattle.wire.proofs.Lists.{none-of, of-none, each-both}
 use Rattle.grammar.specs.Grammar.{pdosFit}
 use Rattle.sheet.specs.declared.SyncManager.{SyncManager}
 use Rattle.sheet.specs.declared.Device.{Device}
@@ -20,22 +21,9 @@ use Rattle.writer.specs.Again.{InRange}
 use Rattle.writer.proofs.Keeps.{KeepsManager, KeepsPdo, Keeps}
 use Rattle.writer.proofs.Rules.{unnamedUse, kept, keeping}
 use Rattle.writer.proofs.Records.{fit-keeps}
-use Rattle.writer.proofs.Lent.{part-bytes, records-alone, body-length}
+use Rattle.writer.proofs.Lent.{records-alone, body-length}
 
--- a question that holds of none, and what is known of each
-none-of : {A : Type 0} (f : A → Bool) (P : A → Type 0) → ((x : A) → f x ≡ false → P x) → (l : List A) → someOf f l ≡ false → Each P l
-none-of f P h [] e = tt
-none-of f P h (x ∷ l) e = let o = or-none (f x) (someOf f l) e in (h x (o .0), none-of f P h l (o .1))
-
-of-none : {A : Type 0} (f : A → Bool) (P : A → Type 0) → ((x : A) → P x → f x ≡ false) → (l : List A) → Each P l → someOf f l ≡ false
-of-none f P h [] p = refl
-of-none f P h (x ∷ l) p = rw (h x (p .0)) (of-none f P h l (p .1))
-
--- what two rules give of each, and what holds of each of the first n
-each-both : {A : Type 0} (P Q R : A → Type 0) → ((x : A) → P x → Q x → R x) → (l : List A) → Each P l → Each Q l → Each R l
-each-both P Q R f [] p q = tt
-each-both P Q R f (x ∷ l) p q = (f x (p .0) (q .0), each-both P Q R f l (p .1) (q .1))
-
+-- what holds of each, holds of each of the first n
 each-take : {A : Type 0} (P : A → Type 0) (n : ℕ) (l : List A) → Each P l → Each P (take n l)
 each-take P zero l p = tt
 each-take P (suc n) [] p = tt

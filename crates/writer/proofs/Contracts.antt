@@ -1,16 +1,13 @@
 -- The calls of specs/Again are calls of the functions: arguments, answer and room at exit that keep a function's own contract, as it is generated
 -- from the source (`Post`), make the record that the theorems are about. That numbers and bytes are in range holds at every call (`in-range`, beside
--- the proof of `write`). So a changed `ensures` breaks this file.
+-- the proof of `write`); that `ReadsAs` is what `sheet::read` promises is said in sheet/proofs/Contracts. So a changed `ensures` breaks this file, or
+-- that one.
 -- Assumes nothing.
 use contract.Lifetimes.{Lfts}
 use denote.Ref.{now}
 use denote.Triple.Clauses.{AtExit}
 use denote.Triple.Entry.{Args}
 use Rattle.wire.specs.declared.Written.{Written}
-use Rattle.sheet.specs.declared.SheetRead.{SheetRead}
-use Rattle.sheet.specs.Sheet.{ReadsAs}
-use Rattle.sheet.proofs.read as reading
-use Rattle.sheet.proofs.read.Reads as reads
 use Rattle.writer.specs.Again.{InRange, Call}
 use Rattle.writer.proofs.write as writing
 use Rattle.writer.proofs.write.Reads as writes
@@ -27,7 +24,3 @@ call-of κs a answer s range kept =
       range = range;
       promise = kept;
     }
-
--- `sheet::read`: the sheet
-pub read-of : (κs : Lfts 1) (a : Args reading.signature κs) (answer : SheetRead) (s : AtExit reading.ended κs) → reads.Post κs a answer s → ReadsAs (now (a .0)) answer
-read-of κs a answer s kept = kept

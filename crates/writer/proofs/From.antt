@@ -1,15 +1,14 @@
--- Bytes that stand in a list from a place on: so many of them by number, and the two of a number.
+-- So many bytes from a place on, gathered by number: how many they are, that they are bytes, and what stands after them.
 -- Assumes nothing.
-use mathlib.Core.Path.{_≡_, sym, _∙_, ap, ap₂}
-use mathlib.Core.List.{List, [], _∷_, _++_}
-use Prim.Native.Nat.{ℕ, zero, suc, _+_, _≤_, _<_}
+use mathlib.Core.Path.{_≡_, sym, _∙_, ap}
+use mathlib.Core.List.{List, _∷_, _++_}
+use Prim.Native.Nat.{ℕ, zero, suc, _+_, _≤_}
 use native.Mathlib.Nat.{add-zero}
 use native.Mathlib.Omega.{arith}
 use lib.ListN.{length, getD, drop}
 use lib.Seq.{append-snoc, drop-cons}
 use Rattle.wire.specs.Image.{Bytes}
 use Rattle.wire.specs.Lists.{listOf}
-use Rattle.wire.specs.Number.{bigAt, bigOf}
 use Rattle.wire.proofs.Bytes.{no-bytes, cons-bytes, append-bytes}
 use Rattle.wire.proofs.Lists.{length-listOf}
 
@@ -35,17 +34,3 @@ stands l at (suc n) h =
     append-snoc (from l at n) (getD l (at + n) 0) (drop (at + suc n) l)
     ∙ ap (λ (t : List ℕ). from l at n ++ t) (ap (λ (j : ℕ). getD l (at + n) 0 ∷ drop j l) e ∙ sym (drop-cons l (at + n) 0 (omega arith)))
     ∙ stands l at n (omega arith)
-
--- a number of two bytes: it fits 16 bits, and it is written as they are
-module _ (l : List ℕ) (at : ℕ) (h : Bytes l) where
-  pub two-fit : bigAt l at 2 < 65536
-  two-fit =
-      let a = h .below at in
-      let b = h .below (at + 1) in
-      omega arith
-
-  pub two-back : bigOf 2 (bigAt l at 2) ≡ getD l at 0 ∷ getD l (at + 1) 0 ∷ []
-  two-back =
-      let a = h .below at in
-      let b = h .below (at + 1) in
-      ap₂ (λ (x y : ℕ). x ∷ y ∷ []) (omega arith) (omega arith)

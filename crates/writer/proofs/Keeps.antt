@@ -1,7 +1,7 @@
 -- What device data keeps that has a sheet: each number in its range, each value with its name, and no more bytes than a sheet has.
 -- Assumes nothing.
 use mathlib.Core.Path.{_≡_}
-use mathlib.Core.List.{List, [], _∷_}
+use mathlib.Core.List.{[], _∷_}
 use Prim.Native.Nat.{ℕ, _+_, _<_, _≤_}
 use lib.ListN.{length, getD}
 use Rattle.wire.specs.Image.{Bytes}

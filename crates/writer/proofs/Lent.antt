@@ -1,40 +1,29 @@
 -- The PDO records in the lent bytes, and those bytes alone: they hold the same PDOs, and as bytes they are what is written of them.
 -- Assumes nothing.
-use mathlib.Core.Path.{_≡_, refl, sym, _∙_, ap, ap₂, subst}
-use mathlib.Core.Bool.{Bool, true, false, cond}
+use mathlib.Core.Path.{_≡_, refl, sym, _∙_, ap, ap₂}
+use mathlib.Core.Bool.{true, cond}
 use mathlib.Core.List.{List, [], _∷_, _++_, map}
 use Prim.Native.Nat.{ℕ, zero, suc, _+_, _*_, _≤_, _<_}
 use native.Mathlib.Nat.{add-zero}
 use native.Mathlib.Omega.{arith}
-use lib.ListN.{length, getD, take, drop, length-take, length-drop, length-append, length-map}
+use lib.ListN.{length, getD, take, drop, length-take, length-drop, length-append}
 use lib.Seq.{getD-take, getD-drop, take-length, length-take-le}
 use lib.Dec.{eqb}
 use borrow.Author.Tests.{le-leb, eq-eqb, eqb-true, eqb-false}
 use Rattle.wire.specs.Image.{Bytes}
 use Rattle.wire.specs.Lists.{listOf}
 use Rattle.wire.specs.Number.{bigAt}
-use Rattle.wire.proofs.Bytes.{no-bytes, cons-bytes}
+use Rattle.wire.proofs.Bytes.{part-bytes}
+use Rattle.wire.proofs.Lists.{cond-same, number-same}
 use Rattle.area.specs.Area.{flat}
-use Rattle.area.proofs.Flat.{Rows, flat-bytes}
 use Rattle.grammar.specs.Grammar.{nextPdo, pdosEnd, kindFits, pdosFit}
-use Rattle.sheet.specs.declared.SyncManager.{SyncManager}
 use Rattle.sheet.specs.declared.Device.{Device}
 use Rattle.sheet.specs.Device.{pdoAt, pdosFrom, dataOf}
 use Rattle.sheet.proofs.Sound.{Fits, fits-on, fits-two}
 use Rattle.writer.specs.Form.{managerBytes, pdoBytes, bodyBytes}
 use Rattle.writer.specs.Writing.{recordsLong, recordsOf}
+use Rattle.writer.proofs.Stored.{first-managers-long}
 use Rattle.writer.proofs.Records.{fit-bytes}
-
--- lists by number that agree below n are the same
-same-list : {A : Type 0} (f g : ℕ → A) (n : ℕ) → ((k : ℕ) → k < n → f k ≡ g k) → listOf f n ≡ listOf g n
-unfolding listOf
-same-list f g zero h = refl
-same-list f g (suc n) h = λ i. same-list f g n (λ k s. h k (omega arith)) i ++ (h n (omega arith) i ∷ [])
-
--- the same test, and on each side of it the same
-same-case : {A : Type 0} (b : Bool) {x y z w : A} → (b ≡ true → x ≡ z) → (b ≡ false → y ≡ w) → cond b x y ≡ cond b z w
-same-case true f g = f refl
-same-case false f g = g refl
 
 -- bytes l that stand in s from `at` on, and whole records among them
 module _ (s l : List ℕ) (at : ℕ) (stands : (k : ℕ) → k < length l → getD s (at + k) 0 ≡ getD l k 0) where
@@ -54,10 +43,10 @@ module _ (s l : List ℕ) (at : ℕ) (stands : (k : ℕ) → k < length l → ge
         index = two (at + k + 2) (k + 2) (omega arith) (omega arith) i;
         lengths =
             (ap (λ (x : ℕ). cond (eqb x 0) (listOf (λ j. getD s (at + k + 5 + j) 0) (getD s (at + k + 4) 0)) (bigAt s (at + k + 5) 2 ∷ [])) kind
-            ∙ same-case (eqb (getD l k 0) 0)
+            ∙ cond-same (eqb (getD l k 0) 0)
             (λ z.
             ap (listOf (λ j. getD s (at + k + 5 + j) 0)) count
-            ∙ same-list (λ j. getD s (at + k + 5 + j) 0) (λ j. getD l (k + 5 + j) 0) (getD l (k + 4) 0) (λ j h. byte (at + k + 5 + j) (k + 5 + j) (omega arith) (omega arith)))
+            ∙ number-same (λ j. getD s (at + k + 5 + j) 0) (λ j. getD l (k + 5 + j) 0) (getD l (k + 4) 0) (λ j h. byte (at + k + 5 + j) (k + 5 + j) (omega arith) (omega arith)))
             (λ z.
             let m = fits-two (getD l k 0) (getD l (k + 4) 0) (f .kind) (eqb-false (getD l k 0) 0 z) in
             ap (λ (x : ℕ). x ∷ []) (two (at + k + 5) (k + 5) (omega arith) (omega arith)))) i;
@@ -103,17 +92,9 @@ unfolding pdosFit pdosEnd
 fit-end l zero k e = eqb-true k (length l) e
 fit-end l (suc p) k e = fit-end l p (nextPdo l k) (fits-on l p k e .others)
 
--- n bytes from `at` on stand there, and are bytes
+-- n bytes from `at` on stand there
 part-stands : (s : List ℕ) (at n k : ℕ) → k < length (take n (drop at s)) → getD s (at + k) 0 ≡ getD (take n (drop at s)) k 0
 part-stands s at n k h = let m = length-take n (drop at s) in sym (getD-take n (drop at s) k 0 (omega arith) ∙ getD-drop at s k 0)
-
-pub part-bytes : (s : List ℕ) (at n : ℕ) → Bytes s → Bytes (take n (drop at s))
-part-bytes s at n b = front n (drop at s) (record { below = λ k. subst (λ (x : ℕ). x < 256) (sym (getD-drop at s k 0)) (b .below (at + k)) })
-  where
-    front : (n : ℕ) (l : List ℕ) → Bytes l → Bytes (take n l)
-    front zero l h = no-bytes
-    front (suc n) [] h = no-bytes
-    front (suc n) (x ∷ l) h = cons-bytes (h .below 0) (front n l (record { below = λ k. h .below (suc k) }))
 
 -- the PDOs that are read from `at` on are those of the records alone
 pub records-alone : (s : List ℕ) (at n p : ℕ) → pdosFit (take n (drop at s)) p 0 ≡ true → pdosFrom s p at ≡ pdosFrom (take n (drop at s)) p 0
@@ -159,12 +140,7 @@ module _ (d : Device) (s : List ℕ) where
       let a = ap length (body-is b e) in
       let j = length-append (flat (map managerBytes ms)) (us ++ recordsOf d s) in
       let k = length-append us (recordsOf d s) in
-      let n = length-take-le (d .n) (d .managers) (omega arith) in
       let f = length-take-le (d .f) (d .usages) (omega arith) in
-      let m = flat-bytes 5 (d .n) (map managerBytes ms) (length-map ms managerBytes ∙ n, rows ms) in
+      let m = first-managers-long (d .managers) (d .n) (omega arith) in
       let r = records-long e in
       omega arith
-    where
-      rows : (l : List SyncManager) → Rows 5 (map managerBytes l)
-      rows [] = tt
-      rows (m ∷ l) = (refl, rows l)

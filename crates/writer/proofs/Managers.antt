@@ -1,7 +1,7 @@
 -- The sync managers that were written, read: each is the one that was written, and none is refused.
 -- Assumes nothing.
 use mathlib.Core.Path.{_≡_, refl, _∙_, ap, subst}
-use mathlib.Core.Bool.{Bool, true, false}
+use mathlib.Core.Bool.{false}
 use mathlib.Core.List.{List, [], _∷_}
 use Prim.Native.Nat.{ℕ, zero, suc, _+_, _*_, _<_}
 use native.Mathlib.Nat.{not-suc-le-zero, le-of-suc-le-suc}
@@ -11,8 +11,9 @@ use lib.Seq.{ext-getD}
 use lib.Dec.{ltb}
 use borrow.Author.Tests.{le-ltb}
 use Rattle.wire.specs.Lists.{listOf, Each}
-use Rattle.wire.specs.Field.{flagAt, bit}
-use Rattle.wire.proofs.Lists.{some-none, length-listOf, getD-listOf}
+use Rattle.wire.specs.Field.{flagAt}
+use Rattle.wire.proofs.Fields.{flag-bit}
+use Rattle.wire.proofs.Lists.{some-none, each-at, length-listOf, getD-listOf}
 use Rattle.area.specs.Area.{flat}
 use Rattle.channel_bytes.specs.Bytes.{controlAt, unnamed}
 use Rattle.channel_bytes.proofs.RoundTrip.{control-read-write, control-named}
@@ -20,7 +21,7 @@ use Rattle.sheet.specs.declared.SyncManager.{SyncManager}
 use Rattle.sheet.specs.Sheet.{managerCount, managerPlace, someManagerWrong, managerAt, unnamedAt, someUnnamed, noManager}
 use Rattle.writer.specs.Form.{managerBytes}
 use Rattle.writer.proofs.Keeps.{KeepsManager}
-use Rattle.writer.proofs.Stands.{Stands, first-stands, second-stands, stands-byte, stands-number, each-at}
+use Rattle.writer.proofs.Stands.{Stands, first-stands, second-stands, stands-byte, stands-number}
 use Rattle.writer.proofs.Parts.{managersBytes}
 
 -- one stands behind the other, five bytes on
@@ -42,13 +43,9 @@ manager-read m k h =
     record {
       «start_addr» = stands-number (m .«start_addr») _ (k .start) h i;
       control = (ap controlAt (stands-byte (managerBytes m) 2 refl (omega arith) h) ∙ control-read-write (m .control)) i;
-      enable = (ap (λ (b : ℕ). flagAt b 0) (stands-byte (managerBytes m) 3 refl (omega arith) h) ∙ flag-read (m .enable)) i;
+      enable = (ap (λ (b : ℕ). flagAt b 0) (stands-byte (managerBytes m) 3 refl (omega arith) h) ∙ flag-bit (m .enable)) i;
       «usage_type» = stands-byte (managerBytes m) 4 refl (omega arith) h i;
     }
-  where
-    flag-read : (x : Bool) → flagAt (bit x) 0 ≡ x
-    flag-read true = refl
-    flag-read false = refl
 
 module _ (s : List ℕ) (ms : List SyncManager) (n : managerCount s ≡ length ms) (h : Stands s 11 (managersBytes ms)) where
   -- each stands at its place

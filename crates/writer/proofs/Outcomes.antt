@@ -1,14 +1,13 @@
 -- What `write` answers, by what its tests found.
 -- Assumes nothing.
 use mathlib.Core.Path.{_≡_, refl, sym, _∙_, ap, ap₂}
-use mathlib.Core.Bool.{Bool, true, false}
+use mathlib.Core.Bool.{true, false}
 use mathlib.Core.List.{List, _++_}
 use Prim.Native.Nat.{ℕ, _+_, _*_, _-_, _<_, _≤_, min}
 use native.Mathlib.Omega.{arith}
-use lib.ListN.{length, take, drop, length-append, length-take}
+use lib.ListN.{length, take, drop, length-take}
 use lib.Dec.{ltb}
 use borrow.Author.Tests.{lt-ltb, le-ltb}
-use Rattle.wire.specs.Image.{Bytes}
 use Rattle.wire.specs.Outcome.{accepted}
 use Rattle.wire.specs.Room.{over}
 use Rattle.wire.specs.declared.Written.the-variants.{Len, Refused}
@@ -16,7 +15,7 @@ use Rattle.sheet.specs.declared.Device.{Device}
 use Rattle.sheet.specs.Device.{dataOf}
 use Rattle.sheet.proofs.Sound.{length-pdos}
 use Rattle.writer.specs.Form.{flagsByte, headBytes, bodyBytes, sheetOf}
-use Rattle.writer.specs.Writing.{pdosEnd, pdosFit, recordsLong, recordsOf, tooLong, ruleBroken, writing, Writes}
+use Rattle.writer.specs.Writing.{pdosEnd, recordsLong, recordsOf, tooLong, ruleBroken, writing, Writes}
 use Rattle.writer.specs.Laid.{sheetLaid}
 use Rattle.writer.specs.Again.{InRange}
 use Rattle.writer.proofs.Rules.{kept}

@@ -1,18 +1,20 @@
 -- The parts of a sheet that was written: what its head says, and where the sync managers, the usages and the PDOs stand.
 -- Assumes nothing.
-use mathlib.Core.Path.{_≡_, refl, _∙_}
-use mathlib.Core.List.{List, [], _∷_, _++_, map}
-use Prim.Native.Nat.{ℕ, _+_, _*_}
+use mathlib.Core.Path.{_≡_, refl}
+use mathlib.Core.List.{List, _++_, map}
+use Prim.Native.Nat.{ℕ, _+_}
 use native.Mathlib.Omega.{arith}
 use lib.ListN.{length, getD, length-append}
 use Rattle.wire.specs.Number.{bigAt}
+use Rattle.wire.proofs.Numbers.{big-joined}
 use Rattle.area.specs.Area.{flat}
 use Rattle.sheet.specs.declared.SyncManager.{SyncManager}
 use Rattle.sheet.specs.Device.{Pdo, Data}
 use Rattle.sheet.specs.Sheet.{managerCount, usageCount, pdoCount, usagesPlace, pdosPlace}
 use Rattle.writer.specs.Form.{flagsByte, headBytes, managerBytes, pdoBytes, bodyBytes, sheetOf}
 use Rattle.writer.proofs.Keeps.{Keeps}
-use Rattle.writer.proofs.Stands.{Stands, first-stands, second-stands, stands-behind, number-back}
+use Rattle.writer.proofs.Stored.{managers-long}
+use Rattle.writer.proofs.Stands.{Stands, first-stands, second-stands, stands-behind}
 
 -- the bytes of all sync managers, and of all PDOs
 abbrev pub managersBytes : List SyncManager → List ℕ
@@ -37,12 +39,6 @@ pub record Parts (x : Data) (s : List ℕ) : Type 0 where
   pub pdos : Stands s (pdosPlace s) (pdosBytes (x .pdos))
   pub end : pdosPlace s + length (pdosBytes (x .pdos)) ≡ length s
 
--- a sync manager has five bytes
-managers-length : (ms : List SyncManager) → length (managersBytes ms) ≡ 5 * length ms
-unfolding flat
-managers-length [] = refl
-managers-length (m ∷ ms) = length-append (managerBytes m) (managersBytes ms) ∙ omega (arith, managers-length ms)
-
 -- the first eleven bytes of the sheet of device data
 abbrev headOf : Data → List ℕ
 headOf x =
@@ -60,13 +56,13 @@ body-stands x = stands-behind (headOf x) (bodyBytes x)
 
 usages-stand : (x : Data) → Stands (sheetOf x) (usagesPlace (sheetOf x)) (x .usages ++ pdosBytes (x .pdos))
 unfolding sheetOf
-usages-stand x = second-stands (managersBytes (x .managers)) (x .usages ++ pdosBytes (x .pdos)) (omega (arith, managers-length (x .managers))) (body-stands x)
+usages-stand x = second-stands (managersBytes (x .managers)) (x .usages ++ pdosBytes (x .pdos)) (omega (arith, managers-long (x .managers))) (body-stands x)
 
 -- where the last PDO ends, the sheet does
 body-ends : (x : Data) → pdosPlace (sheetOf x) + length (pdosBytes (x .pdos)) ≡ length (sheetOf x)
 unfolding sheetOf bodyBytes
 body-ends x =
-    let l = managers-length (x .managers) in
+    let l = managers-long (x .managers) in
     let a = length-append (managersBytes (x .managers)) (x .usages ++ pdosBytes (x .pdos)) in
     let b = length-append (x .usages) (pdosBytes (x .pdos)) in
     omega (arith, sheet-length x)
@@ -77,11 +73,11 @@ unfolding sheetOf
 parts x k =
     record {
       long = sheet-length x;
-      follow = number-back (9 + length (bodyBytes x)) (omega arith);
+      follow = big-joined (9 + length (bodyBytes x)) (omega arith);
       version = refl;
       flags = refl;
-      receive = number-back (x .receive) (k .receive);
-      send = number-back (x .send) (k .send);
+      receive = big-joined (x .receive) (k .receive);
+      send = big-joined (x .send) (k .send);
       n = refl;
       f = refl;
       p = refl;

@@ -7,6 +7,8 @@ use lib.ListN.{getD}
 use lib.Dec.{ltb}
 use borrow.Author.Tests.{ltb-false}
 use Rattle.wire.specs.Image.{Bytes}
+use Rattle.wire.proofs.Bytes.{big-fits}
+use Rattle.wire.proofs.Lists.{none-below, each-number}
 use Rattle.grammar.proofs.Length.{exact}
 use Rattle.grammar.proofs.Broken.{kept}
 use Rattle.sheet.specs.Sheet.{managerCount, usageCount, pdoCount, managerPlace, usagesPlace, pdosPlace, someManagerWrong, someUsageWrong, managerAt, sheetData}
@@ -14,8 +16,6 @@ use Rattle.sheet.proofs.Kept.{Accepts}
 use Rattle.sheet.proofs.Managers.{manager-count, usage-count}
 use Rattle.sheet.proofs.Sound.{length-pdos}
 use Rattle.writer.proofs.Keeps.{KeepsManager, Keeps}
-use Rattle.writer.proofs.From.{two-fit}
-use Rattle.writer.proofs.Numbered.{none-below, each-number}
 use Rattle.writer.proofs.Records.{fit-keeps}
 use Rattle.writer.proofs.Cleaned.{follow-is}
 
@@ -25,25 +25,25 @@ module _ (s : List ℕ) (h : Bytes s) (a : Accepts s) where
   unfolding someManagerWrong
   manager-keeps k l =
       record {
-        start = two-fit s (managerPlace k) h;
+        start = big-fits (managerPlace k) h;
         usage =
             ltb-false 4 (getD s (managerPlace k + 4) 0)
-            (none-below (λ j. ltb 4 (getD s (managerPlace j + 4) 0)) (managerCount s) k (kept s (a .whole) .manager-usages) l);
+            (none-below (λ j. ltb 4 (getD s (managerPlace j + 4) 0)) (managerCount s) (kept s (a .whole) .manager-usages) k l);
       }
 
   usage-keeps : (k : ℕ) → k < usageCount s → getD s (usagesPlace s + k) 0 ≤ 3
   unfolding someUsageWrong
   usage-keeps k l =
       ltb-false 3 (getD s (usagesPlace s + k) 0)
-      (none-below (λ j. ltb 3 (getD s (usagesPlace s + j) 0)) (usageCount s) k (kept s (a .whole) .fmmu-usages) l)
+      (none-below (λ j. ltb 3 (getD s (usagesPlace s + j) 0)) (usageCount s) (kept s (a .whole) .fmmu-usages) k l)
 
   -- all of it
   pub read-keeps : Keeps (sheetData s)
   unfolding sheetData
   read-keeps =
       record {
-        receive = two-fit s 4 h;
-        send = two-fit s 6 h;
+        receive = big-fits 4 h;
+        send = big-fits 6 h;
         few-managers = let n = manager-count s in let m = a .managers in omega arith;
         managers = each-number KeepsManager (λ k. managerAt s (managerPlace k)) (managerCount s) manager-keeps;
         few-usages = let n = usage-count s in let m = a .usages in omega arith;

@@ -1,5 +1,4 @@
--- PDO records that stand to a list's end, each kind going with its count: they are the bytes of the PDOs that are read there, and those PDOs have a
--- sheet.
+-- PDO records that stand to a list's end, each kind going with its count: they are the bytes of the PDOs read there, and those PDOs have a sheet.
 -- Assumes nothing.
 use mathlib.Core.Path.{_≡_, refl, sym, _∙_, ap, ap₂}
 use mathlib.Core.Bool.{Bool, true, false, cond}
@@ -13,13 +12,15 @@ use borrow.Author.Tests.{eq-eqb, ne-eqb, eqb-true, eqb-false}
 use Rattle.wire.specs.Image.{Bytes}
 use Rattle.wire.specs.Lists.{listOf, Each}
 use Rattle.wire.specs.Number.{bigAt, bigOf}
+use Rattle.wire.proofs.Bytes.{big-fits}
+use Rattle.wire.proofs.Numbers.{big-back}
 use Rattle.area.specs.Area.{flat}
 use Rattle.sheet.specs.Device.{nextPdo, pdoAt, pdosFrom}
 use Rattle.sheet.specs.Sheet.{kindFits, pdosFit}
 use Rattle.sheet.proofs.Sound.{fits-on, fits-two}
 use Rattle.writer.specs.Form.{pdoBytes}
 use Rattle.writer.proofs.Keeps.{KeepsPdo}
-use Rattle.writer.proofs.From.{from, from-length, from-bytes, stands, two-fit, two-back}
+use Rattle.writer.proofs.From.{from, from-length, from-bytes, stands}
 
 -- one record
 module _ (l : List ℕ) (at : ℕ) (h : Bytes l) (kind : kindFits (getD l at 0) (getD l (at + 4) 0) ≡ true) where
@@ -41,7 +42,7 @@ module _ (l : List ℕ) (at : ℕ) (h : Bytes l) (kind : kindFits (getD l at 0) 
       go : (b : Bool) → (b ≡ false → getD l at 0 ≡ 0 → ⊥) → held b ≡ from l (at + 5) count
       go true n = refl
       go false n =
-          two-back l (at + 5) h
+          big-back (at + 5) h
           ∙ ap (λ (x : ℕ). getD l x 0 ∷ getD l (at + 5 + 1) 0 ∷ []) (sym (add-zero (at + 5)))
           ∙ ap (from l (at + 5)) (sym (fits-two (getD l at 0) count kind (n refl) .1))
 
@@ -50,7 +51,7 @@ module _ (l : List ℕ) (at : ℕ) (h : Bytes l) (kind : kindFits (getD l at 0) 
   unfolding listOf
   record-is =
       let third : at + 2 + 1 ≡ at + 3 = omega arith in
-      let index = two-back l (at + 2) h ∙ ap (λ (x : ℕ). getD l (at + 2) 0 ∷ getD l x 0 ∷ []) third in
+      let index = big-back (at + 2) h ∙ ap (λ (x : ℕ). getD l (at + 2) 0 ∷ getD l x 0 ∷ []) third in
       let long : length (held (eqb (getD l at 0) 0)) ≡ count = ap length held-is ∙ from-length l (at + 5) count in
       λ i. getD l (sym (add-zero at) i) 0 ∷ getD l (at + 1) 0 ∷ (index i ++ (long i ∷ held-is i))
 
@@ -60,9 +61,9 @@ module _ (l : List ℕ) (at : ℕ) (h : Bytes l) (kind : kindFits (getD l at 0) 
       record {
         kind = go (eqb (getD l at 0) 0) (eqb-true (getD l at 0) 0) (eqb-false (getD l at 0) 0);
         manager = h .below (at + 1);
-        index = two-fit l (at + 2) h;
+        index = big-fits (at + 2) h;
         many = λ e. rw (eq-eqb (getD l at 0) 0 e) (let n = from-length l (at + 5) count in let m = h .below (at + 4) in omega arith, from-bytes l (at + 5) count h);
-        one = λ n. rw (ne-eqb (getD l at 0) 0 n) (refl, two-fit l (at + 5) h);
+        one = λ n. rw (ne-eqb (getD l at 0) 0 n) (refl, big-fits (at + 5) h);
       }
     where
       go : (b : Bool) → (b ≡ true → getD l at 0 ≡ 0) → (b ≡ false → getD l at 0 ≡ 0 → ⊥) → getD l at 0 ≤ 2

@@ -74,6 +74,7 @@ module _ (d : Device) (records : List ℕ) where
   unnamed-usage h = simp (h, or-true)
 
   -- past the others, the records decide
-  pub only-records : d .n ≤ 16 → d .f ≤ 16 → someOf unnamedUse (take (d .n) (d .managers)) ≡ false → someOf (ltb 3) (take (d .f) (d .usages)) ≡ false → ruleBroken d records ≡ not (pdosFit records (d .p) 0)
+  pub only-records : d .n ≤ 16 → d .f ≤ 16 → someOf unnamedUse (take (d .n) (d .managers)) ≡ false → someOf (ltb 3) (take (d .f) (d .usages)) ≡ false
+      → ruleBroken d records ≡ not (pdosFit records (d .p) 0)
   unfolding ruleBroken
   only-records a b u v = rw (le-ltb 16 (d .n) a, le-ltb 16 (d .f) b, u, v) refl

@@ -2,14 +2,14 @@
 -- Assumes nothing.
 use mathlib.Core.Path.{_≡_, refl, sym, _∙_, ap, ap₂}
 use mathlib.Core.List.{List, [], _∷_, _++_, append-assoc, append-nil}
-use Prim.Native.Nat.{ℕ, zero, suc, _+_, _<_}
-use native.Mathlib.Nat.{not-suc-le-zero, le-of-suc-le-suc}
+use Prim.Native.Nat.{ℕ, _+_, _<_}
 use native.Mathlib.Omega.{arith}
 use lib.ListN.{length, getD, drop, List·getD-append}
 use lib.Seq.{drop-append-seam, getD-drop, drop-drop, ext-getD}
 use Rattle.wire.specs.Number.{bigAt, bigOf}
-use Rattle.wire.specs.Lists.{listOf, Each}
+use Rattle.wire.specs.Lists.{listOf}
 use Rattle.wire.proofs.Lists.{length-listOf, getD-listOf}
+use Rattle.wire.proofs.Numbers.{big-joined}
 
 -- from that place on the list goes on with these bytes
 pub record Stands (s : List ℕ) (at : ℕ) (l : List ℕ) : Type 0 where
@@ -19,10 +19,6 @@ pub record Stands (s : List ℕ) (at : ℕ) (l : List ℕ) : Type 0 where
 -- a list stands in itself, behind whatever is before it
 pub stands-behind : (l m : List ℕ) → Stands (l ++ m) (length l) m
 stands-behind l m = record { rest = []; is = drop-append-seam l m ∙ sym (append-nil m) }
-
--- a number of two bytes, the high one first, written and read
-pub number-back : (y : ℕ) → y < 65536 → bigAt (bigOf 2 y) 0 2 ≡ y
-number-back y b = omega arith
 
 module _ {s : List ℕ} {at : ℕ} where
   -- of two lists after one another, the first stands there, and the second behind it
@@ -50,7 +46,7 @@ module _ {s : List ℕ} {at : ℕ} where
   stands-number y l b h =
       let high = stands-byte (bigOf 2 y ++ l) 0 {p = at} (omega arith) (omega arith) h in
       let low = stands-byte (bigOf 2 y ++ l) 1 {p = at + 1} refl (omega arith) h in
-      ap₂ (λ (x y : ℕ). bigAt (x ∷ y ∷ []) 0 2) high low ∙ number-back y b
+      ap₂ (λ (x y : ℕ). bigAt (x ∷ y ∷ []) 0 2) high low ∙ big-joined y b
 
   -- all of the bytes, gathered by number
   pub stands-all : (l : List ℕ) {n : ℕ} → n ≡ length l → Stands s at l → listOf (λ k. getD s (at + k) 0) n ≡ l
@@ -58,9 +54,3 @@ module _ {s : List ℕ} {at : ℕ} where
       let f : ℕ → ℕ = λ k. getD s (at + k) 0 in
       ext-getD 0 (listOf f n) l (length-listOf f n ∙ e)
       (λ k b. getD-listOf f n k 0 (omega (arith, length-listOf f n)) ∙ stands-byte l k refl (omega (arith, length-listOf f n)) h)
-
--- what every element has, the one with a number has
-pub each-at : {A : Type 0} (P : A → Type 0) (l : List A) (k : ℕ) (d : A) → k < length l → Each P l → P (getD l k d)
-each-at P [] k d b e = absurd (not-suc-le-zero b)
-each-at P (x ∷ l) zero d b e = e .0
-each-at P (x ∷ l) (suc k) d b e = each-at P l k d (le-of-suc-le-suc b) (e .1)

@@ -1,4 +1,4 @@
--- Bytes stored one part behind the other: as if all had been stored at once.
+-- Bytes stored one part behind the other: as if all had been stored at once; and those of the sync managers, five of each.
 -- Assumes nothing.
 use mathlib.Core.Path.{_≡_, refl, sym, _∙_, ap, ap₂}
 use mathlib.Core.List.{List, [], _∷_, _++_, map, append-assoc, append-nil}
@@ -43,7 +43,7 @@ stored-next at a b room {now} {place} h e q =
     ∙ stored-there at (a ++ b) room (omega arith)
 
 -- from the front on
-pub stored-front : (a room : List ℕ) → length a ≤ length room → storedAt 0 a room ≡ over a room
+stored-front : (a room : List ℕ) → length a ≤ length room → storedAt 0 a room ≡ over a room
 stored-front a room h =
     sym (stored-there 0 a room (omega arith)) ∙ ap (λ (k : ℕ). a ++ drop k room) (let z : 0 + length a ≡ length a = omega arith in z) ∙ sym (over-front a room h)
 
@@ -62,7 +62,7 @@ next-manager l k d h = ap (λ (i : ℕ). flat (map managerBytes (take i l))) (ad
 pub managers-long : (l : List SyncManager) → length (flat (map managerBytes l)) ≡ 5 * length l
 unfolding flat
 managers-long [] = refl
-managers-long (m ∷ l) = length-append (managerBytes m) (flat (map managerBytes l)) ∙ ap (λ (k : ℕ). 5 + k) (managers-long l) ∙ (let z : 5 + 5 * length l ≡ 5 * suc (length l) = omega arith in z)
+managers-long (m ∷ l) = length-append (managerBytes m) (flat (map managerBytes l)) ∙ omega (arith, managers-long l)
 
 pub first-managers-long : (l : List SyncManager) (k : ℕ) → k ≤ length l → length (flat (map managerBytes (take k l))) ≡ 5 * k
 first-managers-long l k h = managers-long (take k l) ∙ ap (λ (i : ℕ). 5 * i) (length-take-le k l h)

@@ -11,7 +11,6 @@ use Rattle.wire.specs.Outcome.{Outcome, Refusal, when, first}
 use Rattle.wire.specs.Room.{InRoom, textIn}
 use Rattle.wire.specs.declared.Written.{Written}
 pub use Rattle.grammar.specs.Grammar.{pdosEnd, pdosFit}
-use Rattle.sheet.specs.declared.SyncManager.{SyncManager}
 use Rattle.sheet.specs.declared.Device.{Device}
 use Rattle.sheet.specs.Device.{dataOf}
 use Rattle.writer.specs.Form.{sheetOf}

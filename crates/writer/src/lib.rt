@@ -167,18 +167,18 @@ fn too_short(room: &[u8], total: u16) -> bool
 
 // Writes device data as a sheet, its PDO records standing in the lent bytes from `pdos` on, and answers the sheet's length. It goes into the room
 // whole, or not at all. 2: the sheet would be too long; 4: the data breaks a rule of the sheet; 12: the room is too short.
-pub fn write(d: Device, bytes: &[u8], room: &mut [u8]) -> Written
-    ensures { λ r. ⌜ Writes d (now (bytes .entry)) (now (room .entry)) r (now (room .exit)) ⌝ }
+pub fn write(device: Device, bytes: &[u8], room: &mut [u8]) -> Written
+    ensures { λ r. ⌜ Writes device (now (bytes .entry)) (now (room .entry)) r (now (room .exit)) ⌝ }
 {
-    let behind = wire::behind(bytes, d.pdos);
-    let long = grammar::pdos_end(behind, d.p);
-    let follow = length_of(d.n, d.f, long);
+    let behind = wire::behind(bytes, device.pdos);
+    let long = grammar::pdos_end(behind, device.p);
+    let follow = length_of(device.n, device.f, long);
     if 16384 < follow {
         return Written::Refused(2);
     }
     let records = wire::front(behind, long);
     let total = follow + 2;
-    let broken = rule_broken(d, records);
+    let broken = rule_broken(device, records);
     let short = too_short(room, total);
     if broken {
         return Written::Refused(4);
@@ -186,6 +186,6 @@ pub fn write(d: Device, bytes: &[u8], room: &mut [u8]) -> Written
     if short {
         return Written::Refused(12);
     }
-    put_sheet(d, records, total, room);
+    put_sheet(device, records, total, room);
     Written::Len(total as usize)
 }

@@ -9,7 +9,6 @@ use lib.Dec.{ltb}
 use borrow.Author.Tests.{lt-ltb, le-ltb}
 use Rattle.wire.specs.Lists.{someOf}
 use Rattle.wire.proofs.Lists.{some-first, none-first}
-use Rattle.sheet.specs.declared.SyncManager.{SyncManager}
 use Rattle.writer.proofs.some_usage_unnamed.Statement.{statement}
 use Rattle.writer.proofs.some_usage_unnamed.Tie as tie
 

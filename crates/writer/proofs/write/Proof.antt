@@ -24,10 +24,10 @@ use Rattle.writer.proofs.write.Statement.{statement}
 use Rattle.writer.proofs.write.Tie as tie
 
 -- at every call the record's numbers and the lent bytes are in the range of their types
-pub in-range : (c : tie.After-shared-slice-known) → InRange (c .before .args .d) (now (c .before .args .bytes))
+pub in-range : (c : tie.After-shared-slice-known) → InRange (c .before .args .device) (now (c .before .args .bytes))
 in-range c =
     let g = c .before .good .0 .1 .1 .1 .1 .1 in
-    let d = c .before .args .d in
+    let d = c .before .args .device in
     record {
       receive = search needs;
       send = search needs;
@@ -44,7 +44,7 @@ begun c = c .before .before .before .before .before .before
 
 module _ (c : tie.After-front) where
   abbrev device : Device
-  device = begun c .before .args .d
+  device = begun c .before .args .device
 
   abbrev lent : List ℕ
   lent = now (begun c .before .args .bytes)
@@ -90,7 +90,7 @@ returns c =
     let b = l .before .before in
     let a = b .before .before .before .args in
     let s = now (a .bytes) in
-    refused-two (a .d) s (now (a .room)) (long-refused (a .d) s (b .behind .ensures) (l .before .pdos-end .ensures .0) (l .length-of .ensures) (c .if1 .taken))
+    refused-two (a .device) s (now (a .room)) (long-refused (a .device) s (b .behind .ensures) (l .before .pdos-end .ensures .0) (l .length-of .ensures) (c .if1 .taken))
 
 front-requires : tie.Need-front-requires
 front-requires c κs = search needs
