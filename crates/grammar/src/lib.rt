@@ -24,6 +24,11 @@ pub fn wrong_length(sheet: &[u8]) -> bool
     16384 < follow
 }
 
+// How many bytes stand before the sync managers, and how many each of these has.
+pub const HEAD_BYTES: usize = 11;
+
+pub const MANAGER_BYTES: usize = 5;
+
 // Where the parts of a sync manager stand in it: start address (2), control, EEPROM enable, usage.
 pub const CONTROL: usize = 2;
 
@@ -67,7 +72,7 @@ pub fn pdo_count(sheet: &[u8]) -> u8
 pub fn manager_place(k: u8) -> usize
     ensures { λ r. ⌜ (r ≡ managerPlace k) × (r ≤ 1286) ⌝ }
 {
-    11 + 5 * wire::wide(k)
+    HEAD_BYTES + MANAGER_BYTES * wire::wide(k)
 }
 
 // Where the FMMU usages stand.

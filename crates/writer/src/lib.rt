@@ -66,7 +66,11 @@ fn put_managers(list: [SyncManager; 16], n: usize, room: &mut [u8])
     let mut k = 0;
     while k < n {
         let m = list[k];
-        area::store(&manager_bytes(m), room, 11 + 5 * k);
+        area::store(
+            &manager_bytes(m),
+            room,
+            grammar::HEAD_BYTES + grammar::MANAGER_BYTES * k,
+        );
         k += 1;
     }
 }
@@ -85,7 +89,7 @@ fn put_sheet(d: Device, records: &[u8], total: u16, room: &mut [u8])
 {
     let managers = d.managers;
     let usages = d.usages;
-    let place = 11 + 5 * d.n;
+    let place = grammar::HEAD_BYTES + grammar::MANAGER_BYTES * d.n;
     area::store(&head_of(d, total), room, 0);
     put_managers(managers, d.n, room);
     put_usages(usages, d.f, room, place);
