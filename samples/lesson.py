@@ -189,6 +189,8 @@ START_BIT_8 = packed([0, 0, 8, 0, 0, 0, 0, 0, 0], FMMU_RECORD)
 CALLS = [
     ("Fmmu::unpack_from_slice of no bytes", Request("R")),
     ("an input pass of nothing on an FMMU area of 255 bytes", input_pass(bytes(255), sheet=NO_PARTS)),
+    ("writer::write of data whose f is 16,376", Request("v", room=KEPT, fmmus=device(f=16_376))),
+    ("writer::write of data with a PDO and no lent bytes", Request("v", room=KEPT, fmmus=device(p=1))),
     ("an input pass of 1 bit on an enabled entry of 65,535 bytes", input_pass(area(entry(0, 65_535, 0)), sheet=ONE_BIT)),
     ("PdiOffset::increment by 1 byte from offset 0xffffffff", Request("i", a=LIMIT, c=1)),
     ("an input pass of 1 bit from offset 0xffffffff", input_pass(a=LIMIT, sheet=ONE_BIT)),

@@ -95,7 +95,7 @@ def sample_data():
         yield name, told(SAMPLE, **SAMPLE_DATA, rest=rest)
     records = SAMPLE[38:]
     for before, behind in ((0, 0), (0, 1), (1, 0), (7, 9)):
-        lent, fields = pattern(before) + records + b"\xff" * behind, SAMPLE_DATA | dict(pdos=before)
+        lent, fields = pattern(before) + records + b"\x55" * behind, SAMPLE_DATA | dict(pdos=before)
         yield f"the sample's PDOs, {before} bytes before them, {behind} behind", told(lent, **fields)
     yield "one answer for several values, by fields", told(SAMPLE, **SAMPLE_DATA)._replace(c=7, times=3)
 

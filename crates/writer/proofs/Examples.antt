@@ -2,19 +2,20 @@
 -- Assumes nothing.
 use mathlib.Core.Path.{_≡_, refl}
 use mathlib.Core.List.{List, [], _∷_, _++_}
-use Prim.Native.Nat.{ℕ}
+use Prim.Native.Nat.{ℕ, _<_}
 use native.Mathlib.Omega.{arith}
 use lib.ListN.{replicate}
-use Rattle.wire.specs.Lists.{listOf, someBelow}
+use Rattle.wire.specs.Image.{Bytes}
+use Rattle.wire.specs.Lists.{listOf, someBelow, Each}
 use Rattle.wire.specs.Outcome.{Outcome, refused, accepted}
 use Rattle.wire.specs.Room.{roomAfter, writtenOf}
 use Rattle.wire.specs.declared.Written.the-variants.{Len, Refused}
-use Rattle.wire.proofs.Bytes.{no-bytes}
+use Rattle.wire.proofs.Bytes.{no-bytes, cons-bytes}
 use Rattle.wire.proofs.Unique.{written-back}
 use Rattle.area.specs.Area.{flat}
 use Rattle.channel_bytes.specs.Bytes.{controlAt, unnamed, controlByte}
 use Rattle.grammar.specs.Length.{wrongLength}
-use Rattle.grammar.specs.Grammar.{pdosEnd, pdosFit, someManagerWrong, someUsageWrong, broken}
+use Rattle.grammar.specs.Grammar.{pdosEnd, kindFits, pdosFit, someManagerWrong, someUsageWrong, broken}
 use Rattle.sheet.specs.Device.{pdosFrom, dataOf}
 use Rattle.sheet.specs.Sheet.{someUnnamed, sheetData, readSheet, deviceOf}
 use Rattle.writer.specs.Form.{bodyBytes, sheetOf}
@@ -33,53 +34,69 @@ pub smallest-again : sheetOf (sheetData smallest) ≡ smallest
 unfolding sheetOf sheetData bodyBytes listOf pdosFrom flat
 smallest-again = refl
 
--- a sheet with a sync manager at 0x1000, of this control, EEPROM enable and usage
-abbrev pub managed : (control enable usage : ℕ) → List ℕ
-managed control enable usage = (0 ∷ 14 ∷ 1 ∷ replicate 5 0) ++ (1 ∷ 0 ∷ 0 ∷ 16 ∷ 0 ∷ control ∷ enable ∷ usage ∷ [])
+-- a sheet with a sync manager at 0x1000, of this control, EEPROM enable and usage, and two PDOs, one by CoE and one by EEPROM
+abbrev pub bay : (control enable usage : ℕ) → List ℕ
+bay control enable usage =
+    (0 ∷ 28 ∷ 1 ∷ replicate 5 0)
+    ++ (1 ∷ 0 ∷ 2 ∷ 16 ∷ 0 ∷ control ∷ enable ∷ usage ∷ 0 ∷ 0 ∷ 26 ∷ 0 ∷ 2 ∷ 12 ∷ 5 ∷ 1 ∷ 0 ∷ 26 ∷ 1 ∷ 2 ∷ 2 ∷ 3 ∷ [])
 
 -- control 0xA6, enable 0xFE: it is accepted; control bit 7 and the enable bits that are ignored are 0 in what is written again, 0x26 and 0x00
-pub managed-reads : readSheet (managed 166 254 1) ≡ accepted (sheetData (managed 166 254 1))
-unfolding readSheet wrongLength broken someManagerWrong someUsageWrong pdosFit someUnnamed someBelow unnamed
-managed-reads = refl
+pub bay-reads : readSheet (bay 166 254 1) ≡ accepted (sheetData (bay 166 254 1))
+unfolding readSheet wrongLength broken someManagerWrong someUsageWrong kindFits pdosFit someUnnamed someBelow unnamed
+bay-reads = refl
 
-pub managed-cleaned : cleaned (managed 166 254 1) ≡ managed 38 0 1
+pub bay-cleaned : cleaned (bay 166 254 1) ≡ bay 38 0 1
 unfolding cleaned listOf flat
-managed-cleaned = refl
+bay-cleaned = refl
 
-pub managed-again : sheetOf (sheetData (managed 166 254 1)) ≡ managed 38 0 1
+pub bay-again : sheetOf (sheetData (bay 166 254 1)) ≡ bay 38 0 1
 unfolding sheetOf sheetData bodyBytes listOf pdosFrom flat controlAt controlByte
-managed-again = refl
+bay-again = refl
 
--- its record, with a usage, written into a room of twenty bytes: a call that keeps the promise
+-- what was read of it, with a usage, written again into a room of 34 bytes: a call that keeps the promise
 pub written-is : (o : Outcome ℕ) → writtenOf (written-back o) ≡ o
 written-is (refused n) = refl
 written-is (accepted n) = refl
 
-pub in-range : (usage : ℕ) → InRange (deviceOf (managed 166 254 usage)) []
-unfolding deviceOf listOf
-in-range usage = record { receive = omega arith; send = omega arith; managers = refl; starts = omega arith; usages = refl; count = omega arith; bytes = no-bytes }
+bytes-of : (l : List ℕ) → Each (λ (b : ℕ). b < 256) l → Bytes l
+bytes-of [] h = no-bytes
+bytes-of (b ∷ l) h = cons-bytes (h .0) (bytes-of l (h .1))
 
-abbrev pub call : ℕ → Call
-call usage =
-    let d = deviceOf (managed 166 254 usage) in
-    let room : List ℕ = replicate 20 7 in
-    let o = writing d [] room in
+pub bay-in-range : (usage : ℕ) → usage < 256 → InRange (deviceOf (bay 166 254 usage)) (bay 166 254 usage)
+unfolding deviceOf listOf
+bay-in-range usage h =
+    record {
+      receive = omega arith;
+      send = omega arith;
+      managers = refl;
+      starts = omega arith;
+      usages = refl;
+      count = omega arith;
+      bytes = bytes-of (bay 166 254 usage) (omega arith);
+    }
+
+abbrev pub call : (usage : ℕ) → usage < 256 → Call
+call usage h =
+    let s = bay 166 254 usage in
+    let d = deviceOf s in
+    let room : List ℕ = replicate 34 7 in
+    let o = writing d s room in
     record {
       device = d;
-      bytes = [];
+      bytes = s;
       room = room;
       answer = written-back o;
-      left = roomAfter o (sheetOf (dataOf d [])) room;
-      range = in-range usage;
+      left = roomAfter o (sheetOf (dataOf d s)) room;
+      range = bay-in-range usage h;
       promise = record { says = written-is o; holds = refl };
     }
 
 -- usage 1 has a name: the sheet is written, and the rest of the room stays
-pub call-writes : (call 1 .answer ≡ Len 16) × (call 1 .left ≡ managed 38 0 1 ++ replicate 4 7)
-unfolding writing tooLong ruleBroken pdosEnd pdosFit deviceOf dataOf sheetOf bodyBytes listOf pdosFrom flat controlAt controlByte
-call-writes = (refl, refl)
+pub call-writes : (h : 1 < 256) → (call 1 h .answer ≡ Len 30) × (call 1 h .left ≡ bay 38 0 1 ++ replicate 4 7)
+unfolding writing tooLong ruleBroken pdosEnd kindFits pdosFit deviceOf dataOf sheetOf bodyBytes listOf pdosFrom flat controlAt controlByte
+call-writes h = (refl, refl)
 
 -- usage 5 has none: all of the room stays
-pub call-refused : (call 5 .answer ≡ Refused 4) × (call 5 .left ≡ call 5 .room)
+pub call-refused : (h : 5 < 256) → (call 5 h .answer ≡ Refused 4) × (call 5 h .left ≡ call 5 h .room)
 unfolding writing tooLong ruleBroken pdosEnd deviceOf listOf
-call-refused = (refl, refl)
+call-refused h = (refl, refl)

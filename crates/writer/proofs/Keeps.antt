@@ -1,4 +1,4 @@
--- What device data keeps that has a sheet: each number in its range, each value with its name, and no more bytes than a sheet has.
+-- What holds of device data for which there is a sheet: each number in its range, each value with a name, and no more bytes than a sheet has.
 -- Assumes nothing.
 use mathlib.Core.Path.{_≡_}
 use mathlib.Core.List.{[], _∷_}

@@ -36,8 +36,8 @@ module _ (d : Device) (s : List ℕ) where
     unfolding tooLong
     short-enough h = let l = long-is in le-ltb 16384 (9 + 5 * d .n + d .f + recordsLong d s) (omega arith)
 
-    pub follow-is : follow ≤ 16384 → follow ≡ 9 + 5 * d .n + d .f + recordsLong d s
-    follow-is h = let l = long-is in omega arith
+    pub length-is : follow ≤ 16384 → follow ≡ 9 + 5 * d .n + d .f + recordsLong d s
+    length-is h = let l = long-is in omega arith
 
     pub records-are : {records : List ℕ} → records ≡ take long behind → records ≡ recordsOf d s
     records-are r = r ∙ ap₂ (λ (k : ℕ) (l : List ℕ). take k l) long-is b

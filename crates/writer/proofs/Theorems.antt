@@ -41,7 +41,7 @@ given c = dataOf (c .device) (c .bytes)
 -- a call that answers a length: neither 2 nor 4 held, and the sheet stands at the front of the room
 record Wrote (c : Call) (n : ℕ) : Type 0 where
   keeps : Keeps (given c)
-  there : take n (c .left) ≡ sheetOf (given c)
+  stands : take n (c .left) ≡ sheetOf (given c)
 
 wrote : (c : Call) (n : ℕ) → c .answer ≡ Len n → Wrote c n
 unfolding writing
@@ -60,7 +60,7 @@ wrote c n e =
     let holds : c .left ≡ over t room = c .promise .holds ∙ ap (λ (x : Outcome ℕ). roomAfter x t room) (sym o) in
     record {
       keeps = data-keeps d s (c .range) (a .0) (b .0);
-      there =
+      stands =
           ap₂ (λ (k : ℕ) (l : List ℕ). take k l) (passed-answer (two ∷ four ∷ twelve ∷ []) (length t) n o) (holds ∙ over-front t room fits)
           ∙ take-append-seam t (drop (length t) room);
     }
@@ -74,7 +74,7 @@ answered (answer.Refused n) x y e = absurd (never e)
 pub reads-back : ReadsBack
 reads-back c n r e reads =
     let w = wrote c n e in
-    answered (r .answer) (dataOf (r .device) (take n (c .left))) (given c) (reads .says ∙ ap readSheet (w .there) ∙ kept-reads (given c) (w .keeps))
+    answered (r .answer) (dataOf (r .device) (take n (c .left))) (given c) (reads .says ∙ ap readSheet (w .stands) ∙ kept-reads (given c) (w .keeps))
 
 -- the record of an accepted sheet, with the sheet lent: no refusal but 12, and `cleaned` of the sheet is written
 module _ (s : List ℕ) (a : Accepts s) (r : InRange (deviceOf s) s) where
@@ -109,11 +109,11 @@ module _ (c : Call) where
   abbrev long : Bool
   long = tooLong (c .device) (c .bytes)
 
-  abbrev odd : Bool
-  odd = ruleBroken (c .device) (recordsOf (c .device) (c .bytes))
+  abbrev broken : Bool
+  broken = ruleBroken (c .device) (recordsOf (c .device) (c .bytes))
 
   -- neither 2 nor 4: what is refused is refused with 12
-  only-twelve : long ≡ false → odd ≡ false → (n : ℕ) → c .answer ≡ Refused n → n ≡ 12
+  only-twelve : long ≡ false → broken ≡ false → (n : ℕ) → c .answer ≡ Refused n → n ≡ 12
   unfolding writing
   only-twelve a b n e =
       let t = sheetOf (given c) in
@@ -130,7 +130,7 @@ module _ (c : Call) where
   refused-with n o = sym (written-determined (c .answer)) ∙ ap written-back (c .promise .says ∙ o)
 
   -- not neither: one of them was given
-  given-by : (x y : Bool) → long ≡ x → odd ≡ y → (long ≡ false → odd ≡ false → ⊥) → (c .answer ≡ Refused 2) ⊎ (c .answer ≡ Refused 4)
+  given-by : (x y : Bool) → long ≡ x → broken ≡ y → (long ≡ false → broken ≡ false → ⊥) → (c .answer ≡ Refused 2) ⊎ (c .answer ≡ Refused 4)
   unfolding writing
   given-by true y p q h = let o : writing (c .device) (c .bytes) (c .room) ≡ refused 2 = rw p in inl (refused-with 2 o)
   given-by false true p q h = let o : writing (c .device) (c .bytes) (c .room) ≡ refused 4 = rw (p, q) in inr (refused-with 4 o)
@@ -139,10 +139,10 @@ module _ (c : Call) where
 -- 2 or 4 exactly where there is no sheet
 pub refused-exactly : RefusedExactly
 unfolding readSheet
-refused-exactly c n f e = (no-sheet, λ none. given-by c (long c) (odd c) refl refl (λ p q. none (sheet (data-keeps (c .device) (c .bytes) (c .range) p q))))
+refused-exactly c n f e = (no-sheet, λ none. given-by c (long c) (broken c) refl refl (λ p q. none (sheet (data-keeps (c .device) (c .bytes) (c .range) p q))))
   where
     -- data that a sheet reads as is refused with neither
-    neither : SheetFor (given c) → (long c ≡ false) × (odd c ≡ false)
+    neither : SheetFor (given c) → (long c ≡ false) × (broken c ≡ false)
     neither x =
         let s = x .sheet in
         let o : accepted (given c) ≡ readSheet s = sym (x .reads) in

@@ -19,7 +19,7 @@ use Rattle.writer.specs.Again.{InRange}
 use Rattle.writer.proofs.Range.{starts-fit}
 use Rattle.writer.proofs.Rules.{kept}
 use Rattle.writer.proofs.Lent.{records-long}
-use Rattle.writer.proofs.Outcomes.{long-refused, short-enough, follow-is, records-are, refused-two, refused-four, refused-twelve, written-whole}
+use Rattle.writer.proofs.Outcomes.{long-refused, short-enough, length-is, records-are, refused-two, refused-four, refused-twelve, written-whole}
 use Rattle.writer.proofs.write.Statement.{statement}
 use Rattle.writer.proofs.write.Tie as tie
 
@@ -62,7 +62,7 @@ module _ (c : tie.After-front) where
   total =
       let l = c .before .before in
       let b = l .before .before in
-      let e = follow-is device lent (b .behind .ensures) (l .before .pdos-end .ensures .0) (l .length-of .ensures) (c .before .if1 .left) in
+      let e = length-is device lent (b .behind .ensures) (l .before .pdos-end .ensures .0) (l .length-of .ensures) (c .before .if1 .left) in
       omega arith
 
   records : now (c .front .result) ≡ recordsOf device lent
