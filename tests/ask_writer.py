@@ -5,7 +5,7 @@ from build import FIVE, SAMPLE, SAMPLE_DATA, coe, device, eeprom, managers, on_e
 from registers import Refused
 from sheet import read_sheet
 from stored import samples
-from stream import Request, packed
+from stream import Request
 
 MOST = 20_480  # all that the probe lends
 LONG = longest(16_384)[:16_386]
@@ -36,8 +36,7 @@ def stored_sheets():
         data = bytes.fromhex(text)
         yield from again(name, data, (len(data) - 1, len(data)))
     for name, data in limits():
-        if data[:2] == packed([len(data) - 2], [2]):  # the other is long, and refused as `d` has it
-            yield from again(name, data, (len(data) - 1, len(data)))
+        yield from again(name, data, (len(data) - 1, len(data)))
     yield from again("16,386 bytes", LONG, (MOST, len(LONG) - 1, len(LONG)))
 
 
