@@ -3,3 +3,4 @@ pub mod Pieces
 pub mod Kept
 pub mod Once
 pub mod Same
+pub mod Unique

@@ -19,6 +19,7 @@ use Rattle.pdo.proofs.Lacking.{SameBits}
 use Rattle.area.specs.Area.{entriesOf, flat}
 use Rattle.channels.specs.Channels.{channelsAfter}
 use Rattle.passes.specs.declared.Configured.{Configured}
+use Rattle.passes.specs.declared.Settings.{Settings}
 use Rattle.passes.specs.Use.{usesOf, sizeOf}
 use Rattle.passes.specs.Entries.{Planned, planned, entryRefusals, entryArea}
 use Rattle.passes.specs.Pass.{notAreas, someTooMany, noEntry, wantedRefusals, dataPass, dataSize, entriesAfter, channelAreaAfter, Configures, segmentAlone, offsetAfter, Passes}
@@ -49,17 +50,17 @@ module _ (sheet ws vs : List ℕ) (r : PdoDirection) (same : SameBits (sheetData
   sizes-same = λ i k m. cond (eqb (m .«usage_type») (usageOf r)) (some (bytesOf (same (pathKind d r) k i))) none
 
   -- the outcome, and what both areas then hold
-  module _ (offset group : ℕ) (fmmus channels : List ℕ) where
+  module _ (offset : ℕ) (settings : Settings) (fmmus channels : List ℕ) where
     abbrev outcome : List ℕ → Outcome Planned
-    outcome us = dataPass sheet us r offset group fmmus channels
+    outcome us = dataPass sheet us r offset settings fmmus channels
 
     outcome-same : outcome ws ≡ outcome vs
     unfolding dataPass
     outcome-same =
         λ i.
         decide
-        (when 1 (notAreas fmmus channels) ∷ sheetRefusals sheet ++ (wanted-same i ++ entryRefusals (uses-same i) (size-same i) offset group (entriesOf 16 fmmus)))
-        (planned offset group (size-same i))
+        (when 1 (notAreas fmmus channels) ∷ sheetRefusals sheet ++ (wanted-same i ++ entryRefusals (uses-same i) (size-same i) r offset settings (entriesOf 16 fmmus)))
+        (planned offset (settings .group) (size-same i))
 
     images-same : (o : Outcome Planned) → channelAreaAfter o d ws r channels ≡ channelAreaAfter o d vs r channels
     images-same (refused n) = refl
@@ -67,22 +68,22 @@ module _ (sheet ws vs : List ℕ) (r : PdoDirection) (same : SameBits (sheetData
 
     pass-same :
         (outcome ws ≡ outcome vs)
-        × (entriesAfter (outcome ws) d ws r offset fmmus ≡ entriesAfter (outcome vs) d vs r offset fmmus)
+        × (entriesAfter (outcome ws) d ws r offset (settings .old) fmmus ≡ entriesAfter (outcome vs) d vs r offset (settings .old) fmmus)
         × (channelAreaAfter (outcome ws) d ws r channels ≡ channelAreaAfter (outcome vs) d vs r channels)
-    pass-same = (outcome-same, (λ i. entryArea (outcome-same i) r offset (uses-same i) fmmus), (λ i. images-same (outcome-same i) i))
+    pass-same = (outcome-same, (λ i. entryArea (outcome-same i) r offset (settings .old) (uses-same i) fmmus), (λ i. images-same (outcome-same i) i))
 
   -- so the promises of the pass are the same
   pub configures-same :
-      {offset group : ℕ} {fmmus channels : List ℕ} {answer : Configured} {fmmusThen channelsThen : List ℕ}
-      → Configures sheet ws r offset group fmmus channels answer fmmusThen channelsThen → Configures sheet vs r offset group fmmus channels answer fmmusThen channelsThen
-  configures-same {offset} {group} {fmmus} {channels} c =
-      let s = pass-same offset group fmmus channels in
+      {offset : ℕ} {settings : Settings} {fmmus channels : List ℕ} {answer : Configured} {fmmusThen channelsThen : List ℕ}
+      → Configures sheet ws r offset settings fmmus channels answer fmmusThen channelsThen → Configures sheet vs r offset settings fmmus channels answer fmmusThen channelsThen
+  configures-same {offset} {settings} {fmmus} {channels} c =
+      let s = pass-same offset settings fmmus channels in
       record { says = c .says ∙ s .0; entries = c .entries ∙ s .1; images = c .images ∙ s .2 }
 
   pub passes-same :
-      {offset : PdiOffset} {group : ℕ} {fmmus channels : List ℕ} {answer : Placed} {next : PdiOffset} {fmmusThen channelsThen : List ℕ}
-      → Passes sheet ws r offset group fmmus channels answer next fmmusThen channelsThen → Passes sheet vs r offset group fmmus channels answer next fmmusThen channelsThen
-  passes-same {offset} {group} {fmmus} {channels} p =
-      let s = pass-same (offset .«start_address») group fmmus channels in
+      {offset : PdiOffset} {settings : Settings} {fmmus channels : List ℕ} {answer : Placed} {next : PdiOffset} {fmmusThen channelsThen : List ℕ}
+      → Passes sheet ws r offset settings fmmus channels answer next fmmusThen channelsThen → Passes sheet vs r offset settings fmmus channels answer next fmmusThen channelsThen
+  passes-same {offset} {settings} {fmmus} {channels} p =
+      let s = pass-same (offset .«start_address») settings fmmus channels in
       let m = ap (λ (o : Outcome Planned). offsetAfter o offset) (s .0) in
       record { says = p .says ∙ ap segmentAlone (s .0); moves = p .moves ∙ m; entries = p .entries ∙ s .1; images = p .images ∙ s .2 }

@@ -17,6 +17,10 @@ use Rattle.fmmu.specs.Image.{fieldsOf, imageOf}
 use Rattle.pdo.specs.declared.PdoDirection.{PdoDirection}
 use Rattle.pdo.specs.Direction.{isRead, isWrite}
 use Rattle.passes.specs.Use.{Use, total, totalOn}
+use Rattle.passes.specs.Old.{beginning, inTheWay}
+use Rattle.passes.specs.declared.OldEntries.{OldEntries}
+use Rattle.passes.specs.declared.OldEntries.the-variants.{Clear, Keep}
+use Rattle.passes.specs.declared.Settings.{Settings}
 use Rattle.passes.specs.declared.Configured.{Configured}
 use Rattle.passes.specs.declared.Configured.the-variants.{Mapped, Refused}
 
@@ -71,9 +75,14 @@ lengthOf f = cond (f .enable) (f .«length_bytes» .0) 0
 abbrev pub lengthNow : List ℕ → ℕ
 lengthNow e = lengthOf (fieldsOf e)
 
+-- keeping, 8 counts from the length that an entry has; by default from zero, whatever stands there
+abbrev pub lengthBefore : OldEntries → List ℕ → ℕ
+lengthBefore Clear e = 0
+lengthBefore Keep e = lengthNow e
+
 -- 8: an entry's exact length would exceed 65,535
-unfoldable pub tooLong : List Use → List (List ℕ) → Bool
-tooLong us entries = someBelow (λ k. ltb 65535 (lengthNow (getD entries k []) + totalOn k us)) 16
+unfoldable pub tooLong : OldEntries → List Use → List (List ℕ) → Bool
+tooLong old us entries = someBelow (λ k. ltb 65535 (lengthBefore old (getD entries k []) + totalOn k us)) 16
 
 -- an accepted pass: the segment, start to end less the group start, and the next offset
 pub record Planned : Type 0 where
@@ -88,22 +97,26 @@ abbrev pub configuredOf : Configured → Outcome Planned
 configuredOf (Mapped s o) = accepted (record { segment = s; next = o .«start_address» })
 configuredOf (Refused n) = refused n
 
--- the refusals that look at the entries and the offset, in their order; 9: the exact end offset exceeds 4,294,967,295; 10: the offset is below the group start
-abbrev pub entryRefusals : List Use → ℕ → ℕ → ℕ → List (List ℕ) → List Refusal
-entryRefusals us size offset group entries =
-    when 8 (tooLong us entries) ∷ when 9 (pastEnd (offset + size)) ∷ when 10 (ltb offset group) ∷ []
+-- the refusals that look at the entries and the offset, in their order, in which 15 is last; 9: the exact end offset exceeds 4,294,967,295; 10: the offset is below the group start
+abbrev pub entryRefusals : List Use → ℕ → PdoDirection → ℕ → Settings → List (List ℕ) → List Refusal
+entryRefusals us size r offset settings entries =
+    when 8 (tooLong (settings .old) us entries)
+    ∷ when 9 (pastEnd (offset + size))
+    ∷ when 10 (ltb offset (settings .group))
+    ∷ when 15 (inTheWay (settings .old) r us entries)
+    ∷ []
 
 -- 1 comes before them
-abbrev pub entriesOutcome : List Use → ℕ → ℕ → List ℕ → Outcome Planned
-entriesOutcome us offset group area =
-    decide (when 1 (notEntries area) ∷ entryRefusals us (total us) offset group (entriesOf 16 area)) (planned offset group (total us))
+abbrev pub entriesOutcome : List Use → PdoDirection → ℕ → Settings → List ℕ → Outcome Planned
+entriesOutcome us r offset settings area =
+    decide (when 1 (notEntries area) ∷ entryRefusals us (total us) r offset settings (entriesOf 16 area)) (planned offset (settings .group) (total us))
 
 -- what the area then holds: a refusal writes nothing
-abbrev pub entryArea : Outcome Planned → PdoDirection → ℕ → List Use → List ℕ → List ℕ
-entryArea (refused n) r offset us area = area
-entryArea (accepted p) r offset us area = flat (plan r offset us (entriesOf 16 area))
+abbrev pub entryArea : Outcome Planned → PdoDirection → ℕ → OldEntries → List Use → List ℕ → List ℕ
+entryArea (refused n) r offset old us area = area
+entryArea (accepted p) r offset old us area = flat (plan r offset us (beginning old r (entriesOf 16 area)))
 
 -- the promise of writing the entries
-pub record WritesEntries (us : List Use) (r : PdoDirection) (offset group : ℕ) (area : List ℕ) (answer : Configured) (after : List ℕ) : Type 0 where
-  pub says : configuredOf answer ≡ entriesOutcome us offset group area
-  pub holds : after ≡ entryArea (entriesOutcome us offset group area) r offset us area
+pub record WritesEntries (us : List Use) (r : PdoDirection) (offset : ℕ) (settings : Settings) (area : List ℕ) (answer : Configured) (after : List ℕ) : Type 0 where
+  pub says : configuredOf answer ≡ entriesOutcome us r offset settings area
+  pub holds : after ≡ entryArea (entriesOutcome us r offset settings area) r offset (settings .old) us area

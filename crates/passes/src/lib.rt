@@ -1,4 +1,6 @@
 // What the parts of a data pass hand to one another; what a pass means stands in specs/.
+ghost use mathlib.Core.Path.{_≡_};
+ghost use Rattle.passes.specs.Old.{clean};
 use pdi::PdiOffset;
 use pdi::PdiSegment;
 
@@ -8,10 +10,34 @@ pub struct Route {
     pub entry: u8,
 }
 
-// Where a pass begins: its offset, and its group's start.
+// What a pass does with the enabled entries that carry its direction bit alone: sets them to zero first, or keeps them.
+pub enum OldEntries {
+    Clear,
+    Keep,
+}
+
+// How a pass is made: its group's start, and what becomes of old entries.
+pub struct Settings {
+    pub group: u32,
+    pub old: OldEntries,
+}
+
+impl Settings {
+    // The default: old entries are cleared. Keeping is asked for by its name.
+    pub fn clean(group: u32) -> Settings
+        ensures { λ r. ⌜ r ≡ clean group ⌝ }
+    {
+        Settings {
+            group,
+            old: OldEntries::Clear,
+        }
+    }
+}
+
+// Where a pass begins, and how it is made.
 pub struct Place {
     pub offset: PdiOffset,
-    pub group: u32,
+    pub settings: Settings,
 }
 
 // What a pass answers: the segment, counted from the group start, and the next offset.
