@@ -21,6 +21,7 @@ use Rattle.wire.proofs.Lists.{some-hit, some-none, some-same}
 use Rattle.fmmu.specs.declared.Fmmu.{Fmmu}
 use Rattle.fmmu.specs.Image.{fieldsOf, imageOf}
 use Rattle.pdo.specs.declared.PdoDirection.{PdoDirection}
+use Rattle.passes.specs.declared.OldEntries.the-variants.{Keep}
 use Rattle.passes.specs.Use.{Use, totalOn}
 use Rattle.passes.specs.Entries.{mapped, grown, laid, withUse, lengthOf, lengthNow, tooLong}
 use Rattle.entries.specs.Lay.{noRoom, Short}
@@ -62,18 +63,18 @@ module _ (u : Use) (us : List Use) (k : ℕ) where
   unfolding totalOn
   total-here e = rw (eq-eqb (u .entry) k e)
 
-  total-other : (u .entry ≡ k → ⊥) → totalOn k (u ∷ us) ≡ totalOn k us
+  pub total-other : (u .entry ≡ k → ⊥) → totalOn k (u ∷ us) ≡ totalOn k us
   unfolding totalOn
   total-other e = rw (ne-eqb (u .entry) k e, zero-add)
 
 -- nothing to lay
-pub too-long-none : (entries : List (List ℕ)) → Short entries → tooLong [] entries ≡ false
+pub too-long-none : (entries : List (List ℕ)) → Short entries → tooLong Keep [] entries ≡ false
 unfolding tooLong totalOn
 too-long-none entries s =
     some-none (λ k. ltb 65535 (lengthNow (getD entries k []) + 0)) 16 (λ k h. le-ltb 65535 (lengthNow (getD entries k []) + 0) (let f = s .short k h in omega arith))
 
 -- the first use's entry has no room
-pub too-long-first : (u : Use) (us : List Use) (entries : List (List ℕ)) → noRoom u entries ≡ true → tooLong (u ∷ us) entries ≡ true
+pub too-long-first : (u : Use) (us : List Use) (entries : List (List ℕ)) → noRoom u entries ≡ true → tooLong Keep (u ∷ us) entries ≡ true
 unfolding tooLong
 too-long-first u us entries e =
     let p = both (ltb (u .entry) 16) (ltb 65535 (lengthNow (getD entries (u .entry) []) + u .size)) e in
@@ -117,7 +118,7 @@ module _ (u : Use) (entries : List (List ℕ)) (r : PdoDirection) (o : ℕ) (man
   abbrev Same : List Use → ℕ → Type 0
   Same us k = lengthNow (getD after k []) + totalOn k us ≡ lengthNow (getD entries k []) + totalOn k (u ∷ us)
 
-  pub too-long-rest : (us : List Use) → tooLong (u ∷ us) entries ≡ tooLong us after
+  pub too-long-rest : (us : List Use) → tooLong Keep (u ∷ us) entries ≡ tooLong Keep us after
   unfolding tooLong
   too-long-rest us =
       some-same (λ k. ltb 65535 (lengthNow (getD entries k []) + totalOn k (u ∷ us))) (λ k. ltb 65535 (lengthNow (getD after k []) + totalOn k us)) 16

@@ -4,5 +4,7 @@ pub mod Uses
 pub mod Entry
 pub mod Laying
 pub mod Turn
+pub mod Clearing
+pub mod Blocked
 pub mod Decided
 pub mod Unique

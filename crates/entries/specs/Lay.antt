@@ -10,6 +10,7 @@ use Rattle.wire.specs.Outcome.{Outcome, refused, accepted, when, decide}
 use Rattle.pdi.specs.Offset.{pastEnd}
 use Rattle.pdi.specs.Segment.{segment, belowGroup}
 use Rattle.pdo.specs.declared.PdoDirection.{PdoDirection}
+use Rattle.passes.specs.declared.OldEntries.the-variants.{Keep}
 use Rattle.passes.specs.declared.Route.{Route}
 use Rattle.passes.specs.Use.{Use, total}
 use Rattle.passes.specs.Entries.{withUse, plan, lengthNow, tooLong, Planned}
@@ -44,9 +45,9 @@ pub record Run : Type 0 where
   pub end : ℕ
   pub entries : List (List ℕ)
 
--- all laid, or 8
+-- all laid on the entries as they are, or 8
 abbrev pub laidAll : PdoDirection → ℕ → List Use → List (List ℕ) → Outcome Run
-laidAll r offset us entries = decide (when 8 (tooLong us entries) ∷ []) (record { end = offset + total us; entries = plan r offset us entries })
+laidAll r offset us entries = decide (when 8 (tooLong Keep us entries) ∷ []) (record { end = offset + total us; entries = plan r offset us entries })
 
 -- what the cases of `Laid` say, beside the entries
 abbrev pub laidOf : Laid → List (List ℕ) → Outcome Run
@@ -57,3 +58,8 @@ laidOf (laid.Refused n) entries = refused n
 abbrev pub segmentTo : ℕ → ℕ → ℕ → Outcome Planned
 segmentTo offset group end =
     decide (when 9 (pastEnd end) ∷ when 10 (belowGroup (segment offset end) group) ∷ []) (record { segment = segment (offset - group) (end - group); next = end })
+
+-- 15 comes after what else was found
+abbrev pub thenInTheWay : Bool → Outcome Planned → Outcome Planned
+thenInTheWay blocked (refused n) = refused n
+thenInTheWay blocked (accepted p) = decide (when 15 blocked ∷ []) p

@@ -7,7 +7,10 @@ ghost use Rattle.sheet.specs.Sheet.{managersIn, answerOf};
 ghost use Rattle.passes.specs.Handed.{usesBy};
 ghost use Rattle.passes.specs.Entries as Entries;
 ghost use Rattle.passes.specs.Entries.{configuredOf, WritesEntries};
-ghost use Rattle.entries.specs.Lay.{takesEntry, entryBy, useAt, laidOne, Short, laidAll, laidOf, segmentTo};
+ghost use Rattle.entries.specs.Lay.{takesEntry, entryBy, useAt, laidOne, Short, laidAll, laidOf, segmentTo, thenInTheWay};
+
+mod ready;
+
 use fmmu::Fmmu;
 use passes::Configured;
 use passes::Place;
@@ -154,11 +157,11 @@ fn lay(
 
 // Where a pass ends, counted from the group start: 9, then 10.
 fn segment_to(end: u64, place: Place) -> Configured
-    ensures { λ r. ⌜ configuredOf r ≡ segmentTo (place .offset .«start_address») (place .group) end ⌝ }
+    ensures { λ r. ⌜ configuredOf r ≡ segmentTo (place .offset .«start_address») (place .settings .group) end ⌝ }
 {
     let offset = place.offset;
     match PdiOffset::at(end) {
-        Moved::To(next) => match offset.up_to(next).less(place.group) {
+        Moved::To(next) => match offset.up_to(next).less(place.settings.group) {
             Placed::Segment(segment) => Configured::Mapped(segment, next),
             Placed::Refused(number) => Configured::Refused(number),
         },
@@ -166,7 +169,20 @@ fn segment_to(end: u64, place: Place) -> Configured
     }
 }
 
-// Writes the entries of a pass into a lent FMMU area, or refuses with 1, 8, 9 or 10 and writes nothing.
+// 15, unless something before it was found.
+fn unless_in_the_way(answer: Configured, blocked: bool) -> Configured
+    ensures { λ r. ⌜ configuredOf r ≡ thenInTheWay blocked (configuredOf answer) ⌝ }
+{
+    if !blocked {
+        return answer;
+    }
+    match answer {
+        Configured::Mapped(_, _) => Configured::Refused(15),
+        Configured::Refused(number) => Configured::Refused(number),
+    }
+}
+
+// Writes the entries of a pass into a lent FMMU area, or refuses with 1, 8, 9, 10 or 15 and writes nothing.
 pub fn write_entries(
     area: &mut [u8],
     sheet: &[u8],
@@ -175,15 +191,18 @@ pub fn write_entries(
     place: Place,
     direction: PdoDirection,
 ) -> Configured
-    ensures { λ r. ⌜ WritesEntries (usesBy route sizes direction (managersIn (now (sheet .entry)))) direction (place .offset .«start_address») (place .group) (now (area .entry)) r (now (area .exit)) ⌝ }
+    ensures { λ r. ⌜ WritesEntries (usesBy route sizes direction (managersIn (now (sheet .entry)))) direction (place .offset .«start_address») (place .settings) (now (area .entry)) r (now (area .exit)) ⌝ }
 {
     if area.len() != 256 {
         return Configured::Refused(1);
     }
     let mut entries = area::load(area);
+    let settings = place.settings;
+    let old = settings.old;
+    let blocked = ready::make_ready(&mut entries, sheet, sizes, route, old, direction);
     match lay(&mut entries, sheet, sizes, route, place.offset, direction) {
         Laid::End(end) => {
-            let answer = segment_to(end, place);
+            let answer = unless_in_the_way(segment_to(end, place), blocked);
             if let Configured::Mapped(_, _) = answer {
                 area::store_all(&entries, area);
             }

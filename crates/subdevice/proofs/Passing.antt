@@ -22,6 +22,7 @@ use Rattle.pdo.specs.declared.PdoDirection.{PdoDirection}
 use Rattle.pdo.specs.Direction.{usageOf}
 use Rattle.passes.specs.declared.Configured.{Configured}
 use Rattle.passes.specs.declared.Configured.the-variants.{Mapped, Refused}
+use Rattle.passes.specs.declared.Settings.{Settings}
 use Rattle.passes.specs.Use.{total, usesOf, sizeOf}
 use Rattle.passes.specs.Entries.{Planned, planned, configuredOf, entryRefusals, entriesOutcome, entryArea, WritesEntries}
 use Rattle.passes.specs.Pass.{notAreas, wantedRefusals, plannedOf, dataPass, entriesAfter, channelAreaAfter, Configures}
@@ -41,41 +42,41 @@ channels-wrong fmmus channels e h = rw (eq-eqb (length fmmus) 256 e, ne-eqb (len
 areas-right : (fmmus channels : List ℕ) → length fmmus ≡ 256 → length channels ≡ 128 → notAreas fmmus channels ≡ false
 areas-right fmmus channels e h = rw (eq-eqb (length fmmus) 256 e, eq-eqb (length channels) 128 h)
 
-module _ (sheet ws : List ℕ) (r : PdoDirection) (offset group : ℕ) (fmmus channels : List ℕ) where
+module _ (sheet ws : List ℕ) (r : PdoDirection) (offset : ℕ) (settings : Settings) (fmmus channels : List ℕ) where
   abbrev d : Data
   d = sheetData sheet
 
   abbrev outcome : Outcome Planned
-  outcome = dataPass sheet ws r offset group fmmus channels
+  outcome = dataPass sheet ws r offset settings fmmus channels
 
   -- a refusal writes nothing
-  refuses : (n : ℕ) → refused n ≡ outcome → Configures sheet ws r offset group fmmus channels (Refused n) fmmus channels
+  refuses : (n : ℕ) → refused n ≡ outcome → Configures sheet ws r offset settings fmmus channels (Refused n) fmmus channels
   refuses n e =
       record {
         says = e;
-        entries = ap (λ (o : Outcome Planned). entriesAfter o d ws r offset fmmus) e;
+        entries = ap (λ (o : Outcome Planned). entriesAfter o d ws r offset (settings .old) fmmus) e;
         images = ap (λ (o : Outcome Planned). channelAreaAfter o d ws r channels) e;
       }
 
-  pub one-configures : notAreas fmmus channels ≡ true → Configures sheet ws r offset group fmmus channels (Refused 1) fmmus channels
+  pub one-configures : notAreas fmmus channels ≡ true → Configures sheet ws r offset settings fmmus channels (Refused 1) fmmus channels
   unfolding dataPass
   one-configures h = refuses 1 (rw h)
 
   module _ (long : length fmmus ≡ 256) (wide : length channels ≡ 128) (x : Wanted) (h : Wants sheet ws r x) where
     -- what 2 to 7 leave to decide
     abbrev later : Outcome Planned
-    later = decide (entryRefusals (usesOf d ws r) (sizeOf d ws r) offset group (entriesOf 16 fmmus)) (plannedOf d ws r offset group)
+    later = decide (entryRefusals (usesOf d ws r) (sizeOf d ws r) r offset settings (entriesOf 16 fmmus)) (plannedOf d ws r offset (settings .group))
 
     rest : outcome ≡ first (sheetRefusals sheet ++ wantedRefusals d ws r) later
     unfolding dataPass
     rest = rw (areas-right fmmus channels long wide)
 
-    pub unwanted-configures : (n : ℕ) → x .answer ≡ answer.Refused n → Configures sheet ws r offset group fmmus channels (Refused n) fmmus channels
+    pub unwanted-configures : (n : ℕ) → x .answer ≡ answer.Refused n → Configures sheet ws r offset settings fmmus channels (Refused n) fmmus channels
     unwanted-configures n e = refuses n (stopped {A = Unit {0}} (sheetRefusals sheet ++ wantedRefusals d ws r) tt n later (wanted-refused sheet ws r x h n e) ∙ sym rest)
 
     -- none of them holds: then the entries decide
     module _ (e : x .answer ≡ answer.Accepted) (fmmusThen : List ℕ) (said : Configured)
-        (w : WritesEntries (usesBy (x .route) (x .sizes) r (managersIn sheet)) r offset group fmmus said fmmusThen) where
+        (w : WritesEntries (usesBy (x .route) (x .sizes) r (managersIn sheet)) r offset settings fmmus said fmmusThen) where
       few : length (d .managers) ≤ 16
       few = let n = wanted-accepted sheet ws r x h e .0 .managers in omega (arith, manager-count sheet)
 
@@ -87,18 +88,18 @@ module _ (sheet ws : List ℕ) (r : PdoDirection) (offset group : ℕ) (fmmus ch
       size-then : total (usesBy (x .route) (x .sizes) r (managersIn sheet)) ≡ sizeOf d ws r
       size-then = ap total uses-then ∙ uses-total d ws r
 
-      decided : entriesOutcome (usesBy (x .route) (x .sizes) r (managersIn sheet)) offset group fmmus ≡ outcome
+      decided : entriesOutcome (usesBy (x .route) (x .sizes) r (managersIn sheet)) r offset settings fmmus ≡ outcome
       decided =
           let all = wanted-accepted sheet ws r x h e in
-          (λ i. decide (when 1 (not (eq-eqb (length fmmus) 256 long i)) ∷ entryRefusals (uses-then i) (size-then i) offset group (entriesOf 16 fmmus)) (planned offset group (size-then i)))
+          (λ i. decide (when 1 (not (eq-eqb (length fmmus) 256 long i)) ∷ entryRefusals (uses-then i) (size-then i) r offset settings (entriesOf 16 fmmus)) (planned offset (settings .group) (size-then i)))
           ∙ sym (rest ∙ passed {A = Unit {0}} (sheetRefusals sheet ++ wantedRefusals d ws r) tt tt later (all .1))
 
-      entries-then : fmmusThen ≡ entriesAfter outcome d ws r offset fmmus
-      entries-then = w .holds ∙ (λ i. entryArea (decided i) r offset (uses-then i) fmmus)
+      entries-then : fmmusThen ≡ entriesAfter outcome d ws r offset (settings .old) fmmus
+      entries-then = w .holds ∙ (λ i. entryArea (decided i) r offset (settings .old) (uses-then i) fmmus)
 
       images-then :
           {usage : ℕ} → usage ≡ usageOf r
-          → channelArea (channelsAfter (sizeBy usage (x .sizes)) 0 (managersIn sheet)) channels ≡ channelAreaAfter (accepted (plannedOf d ws r offset group)) d ws r channels
+          → channelArea (channelsAfter (sizeBy usage (x .sizes)) 0 (managersIn sheet)) channels ≡ channelAreaAfter (accepted (plannedOf d ws r offset (settings .group))) d ws r channels
       images-then {usage} u =
           let all = wanted-accepted sheet ws r x h e in
           (λ i. channelArea (channelsAfter (sizeBy (u i) (all .2 i .sizes)) 0 (all .0 .few i)) channels)
@@ -108,12 +109,12 @@ module _ (sheet ws : List ℕ) (r : PdoDirection) (offset group : ℕ) (fmmus ch
       pub mapped-configures :
           {usage : ℕ} (s : PdiSegment) (o : PdiOffset) (channelsThen : List ℕ) → said ≡ Mapped s o → usage ≡ usageOf r
           → channelsThen ≡ channelArea (channelsAfter (sizeBy usage (x .sizes)) 0 (managersIn sheet)) channels
-          → Configures sheet ws r offset group fmmus channels (Mapped s o) fmmusThen channelsThen
+          → Configures sheet ws r offset settings fmmus channels (Mapped s o) fmmusThen channelsThen
       mapped-configures s o channelsThen is u c =
           let says = sym (ap configuredOf is) ∙ w .says ∙ decided in
           record { says = says; entries = entries-then; images = c ∙ images-then u ∙ ap (λ (y : Outcome Planned). channelAreaAfter y d ws r channels) says }
 
-      pub refused-configures : (n : ℕ) → said ≡ Refused n → Configures sheet ws r offset group fmmus channels (Refused n) fmmusThen channels
+      pub refused-configures : (n : ℕ) → said ≡ Refused n → Configures sheet ws r offset settings fmmus channels (Refused n) fmmusThen channels
       refused-configures n is =
           let says = sym (ap configuredOf is) ∙ w .says ∙ decided in
           record { says = says; entries = entries-then; images = ap (λ (y : Outcome Planned). channelAreaAfter y d ws r channels) says }

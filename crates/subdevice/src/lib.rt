@@ -14,7 +14,7 @@ pub fn pass(
     place: Place,
     direction: PdoDirection,
 ) -> Configured
-    ensures { λ r. ⌜ Configures (now (sheet .entry)) (now (multipliers .entry)) direction (place .offset .«start_address») (place .group) (now (fmmus .entry)) (now (channels .entry)) r (now (fmmus .exit)) (now (channels .exit)) ⌝ }
+    ensures { λ r. ⌜ Configures (now (sheet .entry)) (now (multipliers .entry)) direction (place .offset .«start_address») (place .settings) (now (fmmus .entry)) (now (channels .entry)) r (now (fmmus .exit)) (now (channels .exit)) ⌝ }
 {
     if fmmus.len() != 256 {
         return Configured::Refused(1);

@@ -37,8 +37,8 @@ returns c =
     let a = n .before .before .before .before .args in
     let moved = sym (ap movedOf (n .next .given .1)) ∙ n .before .before .at .ensures in
     let s = c .before .segment .given in
-    let placed = sym (ap placedOf (s .1)) ∙ l .less .ensures ∙ ap (λ (x : PdiSegment). lessGroup x (a .place .group)) (l .before .up-to .ensures) in
-    segment-reached (a .place .offset .«start_address») (a .place .group) (a .end) _ moved (s .0 .0) placed
+    let placed = sym (ap placedOf (s .1)) ∙ l .less .ensures ∙ ap (λ (x : PdiSegment). lessGroup x (a .place .settings .group)) (l .before .up-to .ensures) in
+    segment-reached (a .place .offset .«start_address») (a .place .settings .group) (a .end) _ moved (s .0 .0) placed
 
 returns-2 : tie.Need-returns-2
 returns-2 c =
@@ -47,15 +47,15 @@ returns-2 c =
     let a = n .before .before .before .before .args in
     let moved = sym (ap movedOf (n .next .given .1)) ∙ n .before .before .at .ensures in
     let k = c .before .number .given in
-    let placed = sym (ap placedOf (k .1)) ∙ l .less .ensures ∙ ap (λ (x : PdiSegment). lessGroup x (a .place .group)) (l .before .up-to .ensures) in
-    group-refused (a .place .offset .«start_address») (a .place .group) (a .end) _ moved (k .0 .0) placed
+    let placed = sym (ap placedOf (k .1)) ∙ l .less .ensures ∙ ap (λ (x : PdiSegment). lessGroup x (a .place .settings .group)) (l .before .up-to .ensures) in
+    group-refused (a .place .offset .«start_address») (a .place .settings .group) (a .end) _ moved (k .0 .0) placed
 
 returns-3 : tie.Need-returns-3
 returns-3 c =
     let t = c .before .before .before in
     let a = t .before .before .args in
     let k = c .before .number2 .given in
-    end-refused (a .place .offset .«start_address») (a .place .group) (a .end) (k .0 .0) (sym (ap movedOf (k .1)) ∙ t .at .ensures)
+    end-refused (a .place .offset .«start_address») (a .place .settings .group) (a .end) (k .0 .0) (sym (ap movedOf (k .1)) ∙ t .at .ensures)
 
 pub segment-to-spec : {M : Type 1} → statement M
 segment-to-spec =

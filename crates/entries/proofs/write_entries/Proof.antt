@@ -1,12 +1,19 @@
--- `entries::write_entries`: the refusals in their order; the area is written after the last of them.
+-- `entries::write_entries`: the entries are made ready, the refusals come in their order, and the area is written after the last of them.
 -- Assumes nothing.
 use native.Mathlib.Omega.{arith}
+use lib.ListN.{length}
 use borrow.Author.Needs.{needs}
 use Rattle.area.proofs.Rows.{rows-bytes}
+use Rattle.entries.specs.Lay.{Short}
 use Rattle.entries.proofs.Lengths.{short-bytes}
+use Rattle.entries.proofs.Blocked.{short-made}
 use Rattle.entries.proofs.Decided.{wrong-area-refused, too-long-refused, end-refuses, entries-written}
 use Rattle.entries.proofs.write_entries.Statement.{statement}
 use Rattle.entries.proofs.write_entries.Tie as tie
+
+-- what was loaded is sixteen entries, none longer than its two bytes say
+short-loaded : (d : tie.After-load) → Short (d .load .result)
+short-loaded d = short-bytes (d .load .result) (omega arith) (rows-bytes 16 16 (d .load .result) (d .load .ok))
 
 returns : tie.Need-returns
 returns c = wrong-area-refused _ _ _ _ _ (λ e. omega arith)
@@ -14,14 +21,20 @@ returns c = wrong-area-refused _ _ _ _ _ (λ e. omega arith)
 load-requires : tie.Need-load-requires
 load-requires c κs = search needs
 
+make-ready-requires : tie.Need-make-ready-requires
+make-ready-requires c κs = short-loaded (c .before .before) .many
+
 lay-requires : tie.Need-lay-requires
-lay-requires c κs = let l = c .before .load in short-bytes (l .result) (omega arith) (rows-bytes 16 16 (l .result) (l .ok))
+lay-requires c κs = let m = c .before in short-made (m .make-ready .ensures) (short-loaded (m .before .before .before))
 
 enum-known-end : tie.Need-enum-known-end
 enum-known-end c = search needs
 
 segment-to-requires : tie.Need-segment-to-requires
 segment-to-requires c κs = search needs
+
+unless-in-the-way-requires : tie.Need-unless-in-the-way-requires
+unless-in-the-way-requires c κs = search needs
 
 enum-told : tie.Need-enum-told
 enum-told c = search needs
@@ -43,11 +56,12 @@ returns-2 c =
     let y = c .before .before in
     let e = y .before .before .before in
     let g = e .before .before in
-    let n = g .before .before in
+    let n = g .before .before .before in
     let t = n .before .before in
-    let d = t .before .before in
-    entries-written _ _ _ _ _ (omega arith) (d .load .result) (d .load .ensures) _ _ (n .end .given .0 .0) (t .lay .ensures) (n .end .given .1)
-    _ _ _ _ (g .segment-to .ensures) (e .enum-told .given .1) (y .store-all .ensures)
+    let m = t .before .before in
+    let d = m .before .before .before in
+    entries-written _ _ _ _ _ (omega arith) (d .load .ensures) (short-loaded d) (m .make-ready .ensures) _ _ (n .end .given .0 .0) (t .lay .ensures) (n .end .given .1)
+    (g .before .segment-to .result) (g .unless-in-the-way .result) (g .before .segment-to .ensures) (g .unless-in-the-way .ensures) _ _ _ (e .enum-told .given .1) (y .store-all .ensures)
 
 same-length-2 : tie.Need-same-length-2
 same-length-2 c = search needs
@@ -55,10 +69,12 @@ same-length-2 c = search needs
 returns-3 : tie.Need-returns-3
 returns-3 c =
     let g = c .before .before in
-    let n = g .before .before in
+    let n = g .before .before .before in
     let t = n .before .before in
-    let d = t .before .before in
-    end-refuses _ _ _ _ _ (omega arith) (d .load .result) (d .load .ensures) _ _ (n .end .given .0 .0) (t .lay .ensures) (n .end .given .1) _ _ (g .segment-to .ensures) (c .enum-told2 .given .1)
+    let m = t .before .before in
+    let d = m .before .before .before in
+    end-refuses _ _ _ _ _ (omega arith) (d .load .ensures) (short-loaded d) (m .make-ready .ensures) _ _ (n .end .given .0 .0) (t .lay .ensures) (n .end .given .1)
+    (g .before .segment-to .result) (g .unless-in-the-way .result) (g .before .segment-to .ensures) (g .unless-in-the-way .ensures) _ (c .enum-told2 .given .1)
 
 same-length-3 : tie.Need-same-length-3
 same-length-3 c = search needs
@@ -67,8 +83,9 @@ returns-4 : tie.Need-returns-4
 returns-4 c =
     let n = c .before .number .given in
     let t = c .before .before .before in
-    let d = t .before .before in
-    too-long-refused _ _ _ _ _ (omega arith) (d .load .result) (d .load .ensures) _ _ (n .0 .0) (t .lay .ensures) (n .1)
+    let m = t .before .before in
+    let d = m .before .before .before in
+    too-long-refused _ _ _ _ _ (omega arith) (d .load .ensures) (short-loaded d) (m .make-ready .ensures) _ _ (n .0 .0) (t .lay .ensures) (n .1)
 
 pub write-entries-spec : {M : Type 1} → statement M
 write-entries-spec =
@@ -76,9 +93,11 @@ write-entries-spec =
     (tie.spec
     returns
     load-requires
+    make-ready-requires
     lay-requires
     enum-known-end
     segment-to-requires
+    unless-in-the-way-requires
     enum-told
     store-all-requires
     enum-told-2

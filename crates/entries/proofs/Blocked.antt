@@ -1,0 +1,214 @@
+-- What is in the way of a pass: asked sync manager by sync manager; what the entries are then, and that 8 on those is 8 of the pass.
+-- Assumes nothing.
+use mathlib.Core.Path.{_≡_, refl, sym, _∙_, ap, subst}
+use mathlib.Core.Bool.{Bool, true, false, cond, not, _&&_, _||_, false≢true}
+use mathlib.Core.List.{List, [], _∷_, map}
+use mathlib.Core.Logic.{_⊎_, inl, inr, ⊎-elim}
+use Prim.Native.Nat.{ℕ, zero, suc, _+_, _<_, _≤_, min}
+use native.Mathlib.Decide.{ℕ-discrete}
+use native.Mathlib.Omega.{arith}
+use lib.ListN.{length, getD, drop, replicate, length-map, List·getD-eq-default}
+use lib.Dec.{ltb}
+use borrow.Author.Tests.{le-ltb}
+use Rattle.wire.specs.Lists.{someOf}
+use Rattle.wire.proofs.Lists.{or-none, some-same}
+use Rattle.pdi.specs.declared.ByteLen.{ByteLen}
+use Rattle.fmmu.specs.Image.{fieldsOf}
+use Rattle.sheet.specs.declared.SyncManager.{SyncManager}
+use Rattle.sheet.specs.Sheet.{managerCount, managerPlace, managerAt, managersIn}
+use Rattle.sheet.proofs.Managers.{front-manager, front-over}
+use Rattle.pdo.specs.declared.PdoDirection.{PdoDirection}
+use Rattle.pdo.specs.Direction.{usageOf}
+use Rattle.channels.specs.Channels.{sizeAt}
+use Rattle.passes.specs.declared.OldEntries.{OldEntries}
+use Rattle.passes.specs.declared.OldEntries.the-variants.{Clear, Keep}
+use Rattle.passes.specs.declared.Route.{Route}
+use Rattle.passes.specs.Use.{Use, totalOn}
+use Rattle.passes.specs.Handed.{usesBy}
+use Rattle.passes.specs.Entries.{lengthNow, tooLong}
+use Rattle.passes.specs.Old.{isOld, cleared, bothBits, someEnabled, inTheWay}
+use Rattle.entries.specs.Lay.{takesEntry, entryBy, Short}
+use Rattle.entries.specs.Ready.{on, nothing, ready, Clears, Readies}
+use Rattle.entries.proofs.Lengths.{total-other}
+use Rattle.entries.proofs.Clearing.{cleared-at, zeros-off}
+use Rattle.entries.proofs.Uses.{usesAt, uses-end, uses-other, uses-skip, uses-next}
+
+-- a number past the last one is no entry
+pub past-off : (es : List (List ℕ)) (k : ℕ) → length es ≡ 16 → 15 < k → false ≡ on (getD es k [])
+unfolding fieldsOf
+past-off es k many h = ap on (sym (List·getD-eq-default es [] (omega arith)))
+
+-- whether an entry of the sync managers from the number k on is enabled
+abbrev enabledFrom : List ℕ → Route → List ByteLen → ℕ → List (List ℕ) → ℕ → Bool
+enabledFrom sheet route sizes usage es k = someEnabled (usesAt route sizes usage (managersIn sheet) k) es
+
+-- before the number k none is
+pub record NoneYet (sheet : List ℕ) (route : Route) (sizes : List ByteLen) (usage : ℕ) (es : List (List ℕ)) (k : ℕ) : Type 0 where
+  pub same : enabledFrom sheet route sizes usage es k ≡ enabledFrom sheet route sizes usage es 0
+
+pub none-asked : {sheet : List ℕ} {route : Route} {sizes : List ByteLen} {usage : ℕ} {es : List (List ℕ)} → NoneYet sheet route sizes usage es 0
+none-asked = record { same = refl }
+
+module _ {sheet : List ℕ} {route : Route} {sizes : List ByteLen} {usage : ℕ} {es : List (List ℕ)} {k : ℕ} (y : NoneYet sheet route sizes usage es k) where
+  -- what is asked, by the direction whose usage it is
+  abbrev Asked : Bool → Type 0
+  Asked b = (r : PdoDirection) → usage ≡ usageOf r → b ≡ someEnabled (usesBy route sizes r (managersIn sheet)) es
+
+  answered : {b : Bool} → b ≡ enabledFrom sheet route sizes usage es 0 → Asked b
+  answered e r u = e ∙ ap (λ (n : ℕ). enabledFrom sheet route sizes n es 0) u
+
+  pub none-enabled : min (managerCount sheet) 16 ≤ k → Asked false
+  none-enabled h = answered (sym (ap (λ (us : List Use). someEnabled us es) (uses-end route sizes usage (managersIn sheet) k (front-over sheet k h))) ∙ y .same)
+
+  module _ (h : k < managerCount sheet) (g : k < 16) where
+    abbrev m : SyncManager
+    m = managerAt sheet (managerPlace k)
+
+    next : drop k (managersIn sheet) ≡ m ∷ drop (k + 1) (managersIn sheet)
+    next = front-manager sheet k h g
+
+    passes-over : usesAt route sizes usage (managersIn sheet) k ≡ usesAt route sizes usage (managersIn sheet) (k + 1) → NoneYet sheet route sizes usage es (k + 1)
+    passes-over e = record { same = ap (λ (us : List Use). someEnabled us es) (sym e) ∙ y .same }
+
+    -- of another usage; it takes no entry
+    pub other-passed : (m .«usage_type» ≡ usage → ⊥) → NoneYet sheet route sizes usage es (k + 1)
+    other-passed d = passes-over (uses-other route sizes usage (managersIn sheet) k m next d)
+
+    module _ (used : m .«usage_type» ≡ usage) {size : ℕ} (s : size ≡ sizeAt sizes k) where
+      pub skip-passed : takesEntry route size ≡ false → NoneYet sheet route sizes usage es (k + 1)
+      skip-passed t = passes-over (uses-skip route sizes usage (managersIn sheet) k m next used (sym (ap (takesEntry route) s) ∙ t))
+
+      -- its entry is enabled, or not
+      module _ (t : takesEntry route size ≡ true) {e : ℕ} (q : e ≡ entryBy route k) where
+        asked : on (getD es e []) || enabledFrom sheet route sizes usage es (k + 1) ≡ enabledFrom sheet route sizes usage es 0
+        asked =
+            ap (λ (i : ℕ). on (getD es i []) || enabledFrom sheet route sizes usage es (k + 1)) q
+            ∙ ap (λ (us : List Use). someEnabled us es) (sym (uses-next route sizes usage (managersIn sheet) k m next used (sym (ap (takesEntry route) s) ∙ t)))
+            ∙ y .same
+
+        pub enabled-found : on (getD es e []) ≡ true → Asked true
+        enabled-found o = answered (sym (ap (λ (b : Bool). b || enabledFrom sheet route sizes usage es (k + 1)) o) ∙ asked)
+
+        pub free-passed : on (getD es e []) ≡ false → NoneYet sheet route sizes usage es (k + 1)
+        free-passed o = record { same = sym (ap (λ (b : Bool). b || enabledFrom sheet route sizes usage es (k + 1)) o) ∙ asked }
+
+-- where no entry is enabled, none that is used is
+off-at : (es : List (List ℕ)) → someOf on es ≡ false → (k : ℕ) → on (getD es k []) ≡ false
+unfolding fieldsOf
+off-at [] e k = refl
+off-at (x ∷ es) e zero = or-none (on x) (someOf on es) e .0
+off-at (x ∷ es) e (suc k) = off-at es (or-none (on x) (someOf on es) e .1) k
+
+none-used : (us : List Use) (es : List (List ℕ)) → someOf on es ≡ false → someEnabled us es ≡ false
+none-used [] es e = refl
+none-used (u ∷ us) es e = λ i. off-at es e (u .entry) i || none-used us es e i
+
+-- clearing leaves as many
+pub cleared-many : {r : PdoDirection} {before after : List (List ℕ)} {enabled both : Bool} → Clears r before after enabled both → length before ≡ 16 → length after ≡ 16
+cleared-many {r} {before} c many = ap length (c .holds) ∙ length-map before (cleared r) ∙ many
+
+-- the entries as they are made ready
+module _ {old : OldEntries} (r : PdoDirection) (us : List Use) (before : List (List ℕ)) where
+  pub keeps : old ≡ Keep → Readies old r us before before false
+  unfolding inTheWay
+  keeps is = subst (λ (o : OldEntries). Readies o r us before before false) (sym is) (record { says = refl; holds = refl })
+
+  module _ (is : old ≡ Clear) {after : List (List ℕ)} {enabled both : Bool} (c : Clears r before after enabled both) where
+    by-both : (x y : Bool) → someOf bothBits before ≡ x → someEnabled us (map (cleared r) before) ≡ y → inTheWay Clear r us before ≡ x || y
+    unfolding inTheWay
+    by-both x y e f = λ i. e i || f i
+
+    made : {now : List (List ℕ)} {b : Bool} → inTheWay Clear r us before ≡ b → now ≡ cond b nothing (map (cleared r) before) → Readies old r us before now b
+    made {now} {b} w h =
+        subst (λ (o : OldEntries). Readies o r us before now b) (sym is)
+        (record { says = sym w; holds = h ∙ ap (λ (x : Bool). cond x nothing (map (cleared r) before)) (sym w) })
+
+    -- none is enabled any more; none that is wanted
+    pub all-off : both ≡ false → enabled ≡ false → Readies old r us before after false
+    all-off b e = made (by-both false false (sym (c .twice) ∙ b) (none-used us (map (cleared r) before) (sym (c .some) ∙ e))) (c .holds)
+
+    pub none-wanted : both ≡ false → someEnabled us after ≡ false → Readies old r us before after false
+    none-wanted b e = made (by-both false false (sym (c .twice) ∙ b) (sym (ap (someEnabled us) (c .holds)) ∙ e)) (c .holds)
+
+    -- one with both bits; one that is wanted
+    pub both-blocks : both ≡ true → Readies old r us before nothing true
+    both-blocks b = made (by-both true _ (sym (c .twice) ∙ b) refl) refl
+
+    pub wanted-blocks : both ≡ false → someEnabled us after ≡ true → Readies old r us before nothing true
+    wanted-blocks b e = made (by-both false true (sym (c .twice) ∙ b) (sym (ap (someEnabled us) (c .holds)) ∙ e)) refl
+
+-- zeros have no length, and no entry has
+length-off : (e : List ℕ) → on e ≡ false → lengthNow e ≡ 0
+length-off e o = ap (λ (b : Bool). cond b (fieldsOf e .«length_bytes» .0) 0) o
+
+nothing-off : (n k : ℕ) → on (getD (replicate n (replicate 16 0)) k []) ≡ false
+unfolding fieldsOf
+nothing-off zero k = refl
+nothing-off (suc n) zero = refl
+nothing-off (suc n) (suc k) = nothing-off n k
+
+-- a cleared entry is one of zeros or the one that it was
+cleared-short : (r : PdoDirection) (e : List ℕ) → lengthNow e ≤ 65535 → lengthNow (cleared r e) ≤ 65535
+unfolding cleared
+cleared-short r e h = go (isOld r (fieldsOf e))
+  where
+    go : (b : Bool) → lengthNow (cond b (replicate 16 0) e) ≤ 65535
+    go true = let z = length-off (replicate 16 0) zeros-off in omega arith
+    go false = h
+
+short-nothing : Short nothing
+short-nothing = record { many = refl; short = λ k h. (let z = length-off (getD nothing k []) (nothing-off 16 k) in omega arith) }
+
+short-cleared : (r : PdoDirection) (es : List (List ℕ)) → Short es → Short (map (cleared r) es)
+short-cleared r es s =
+    record {
+      many = length-map es (cleared r) ∙ s .many;
+      short = λ k h. subst (λ (e : List ℕ). lengthNow e ≤ 65535) (sym (cleared-at r es k)) (cleared-short r (getD es k []) (s .short k h));
+    }
+
+-- what is made ready is as short
+short-ready : (old : OldEntries) (r : PdoDirection) (us : List Use) (es : List (List ℕ)) → Short es → Short (ready old r us es)
+unfolding inTheWay
+short-ready Keep r us es s = s
+short-ready Clear r us es s = go (inTheWay Clear r us es)
+  where
+    go : (b : Bool) → Short (cond b nothing (map (cleared r) es))
+    go true = short-nothing
+    go false = short-cleared r es s
+
+pub short-made : {old : OldEntries} {r : PdoDirection} {us : List Use} {before after : List (List ℕ)} {blocked : Bool} → Readies old r us before after blocked → Short before → Short after
+short-made {old} {r} {us} {before} m s = subst (λ (es : List (List ℕ)). Short es) (sym (m .holds)) (short-ready old r us before s)
+
+-- an entry is disabled, or no use is on it
+off-or-unused : (us : List Use) (es : List (List ℕ)) (k : ℕ) → someEnabled us es ≡ false → (on (getD es k []) ≡ false) ⊎ (totalOn k us ≡ 0)
+unfolding totalOn
+off-or-unused [] es k e = inr refl
+off-or-unused (u ∷ us) es k e = let f = or-none (on (getD es (u .entry) [])) (someEnabled us es) e in go (ℕ-discrete (u .entry) k) (f .0) (off-or-unused us es k (f .1))
+  where
+    go : Dec (u .entry ≡ k) → on (getD es (u .entry) []) ≡ false → (on (getD es k []) ≡ false) ⊎ (totalOn k us ≡ 0) → (on (getD es k []) ≡ false) ⊎ (totalOn k (u ∷ us) ≡ 0)
+    go (yes i) o rest = inl (ap (λ (j : ℕ). on (getD es j [])) (sym i) ∙ o)
+    go (no i) o rest = ⊎-elim (λ f. inl f) (λ t. inr (total-other u us k i ∙ t)) rest
+
+-- where each entry is disabled or unused, 8 counts from zero
+from-zero :
+    (us : List Use) (ls es : List (List ℕ)) → Short ls → ((k : ℕ) → (on (getD ls k []) ≡ false) ⊎ (totalOn k us ≡ 0)) → tooLong Keep us ls ≡ tooLong Clear us es
+unfolding tooLong
+from-zero us ls es s f =
+    some-same (λ k. ltb 65535 (lengthNow (getD ls k []) + totalOn k us)) (λ k. ltb 65535 (0 + totalOn k us)) 16
+    (λ k h.
+    ⊎-elim
+    (λ o. ap (λ (n : ℕ). ltb 65535 (n + totalOn k us)) (length-off (getD ls k []) o))
+    (λ z. let l = s .short k h in le-ltb 65535 (lengthNow (getD ls k []) + totalOn k us) (omega arith) ∙ sym (le-ltb 65535 (0 + totalOn k us) (omega arith)))
+    (f k))
+
+-- 8 on what is laid on is 8 of the pass
+pub too-long-ready : (old : OldEntries) (r : PdoDirection) (us : List Use) (es : List (List ℕ)) → Short es → tooLong Keep us (ready old r us es) ≡ tooLong old us es
+unfolding inTheWay
+too-long-ready Keep r us es s = refl
+too-long-ready Clear r us es s = go (inTheWay Clear r us es) refl
+  where
+    go : (b : Bool) → inTheWay Clear r us es ≡ b → tooLong Keep us (cond b nothing (map (cleared r) es)) ≡ tooLong Clear us es
+    go true w = from-zero us nothing es short-nothing (λ k. inl (nothing-off 16 k))
+    go false w =
+        from-zero us (map (cleared r) es) es (short-cleared r es s)
+        (λ k. off-or-unused us (map (cleared r) es) k (or-none (someOf bothBits es) (someEnabled us (map (cleared r) es)) w .1))

@@ -1,0 +1,163 @@
+-- Old entries cleared one after another: an entry that is disabled, one that is old, any other; and what is still enabled then.
+-- Assumes nothing.
+use mathlib.Core.Path.{_≡_, refl, sym, _∙_, ap, ap₂, subst}
+use mathlib.Core.Bool.{Bool, true, false, cond, not, _&&_, _||_}
+use mathlib.Core.List.{List, [], _∷_, _++_, map}
+use Prim.Native.Nat.{ℕ, zero, suc, _+_, _<_, _≤_}
+use native.Mathlib.Nat.{not-suc-le-zero, le-of-suc-le-suc}
+use native.Mathlib.Numerals.{add-one}
+use native.Mathlib.Omega.{arith}
+use lib.ListN.{length, getD, take, drop, set, replicate, length-map, List·getD-map}
+use lib.Seq.{take-all, drop-cons, set-getD, getD-at, length-take-le}
+use Rattle.wire.specs.Field.{flagAt}
+use Rattle.wire.specs.Lists.{someOf}
+use Rattle.wire.proofs.Copied.{copied, copied-whole}
+use Rattle.fmmu.specs.Image.{fieldsOf}
+use Rattle.pdo.specs.declared.PdoDirection.{PdoDirection}
+use Rattle.pdo.specs.declared.PdoDirection.the-variants.{MasterRead, MasterWrite}
+use Rattle.pdo.specs.Direction.{other}
+use Rattle.passes.specs.Old.{bitOf, cleared, bothBits}
+use Rattle.entries.specs.Ready.{accessBit, carriesAlone, withBoth, on, Clears}
+
+-- the bits of an image that are asked
+pub enable-is : (e : List ℕ) → flagAt (getD e 12 0) 0 ≡ on e
+unfolding fieldsOf
+enable-is e = refl
+
+pub access-is : (r : PdoDirection) (e : List ℕ) {b : ℕ} → b ≡ accessBit r → flagAt (getD e 11 0) b ≡ bitOf r (fieldsOf e)
+unfolding fieldsOf
+access-is MasterRead e i = ap (flagAt (getD e 11 0)) i
+access-is MasterWrite e i = ap (flagAt (getD e 11 0)) i
+
+-- the other direction's bit decides first
+pub not-alone : (r : PdoDirection) (e : List ℕ) → bitOf (other r) (fieldsOf e) ≡ true → false ≡ carriesAlone r (fieldsOf e)
+not-alone r e o = go (bitOf r (fieldsOf e)) ∙ ap (λ (b : Bool). bitOf r (fieldsOf e) && not b) (sym o)
+  where
+    go : (b : Bool) → false ≡ b && false
+    go true = refl
+    go false = refl
+
+pub alone : (r : PdoDirection) (e : List ℕ) → bitOf (other r) (fieldsOf e) ≡ false → bitOf r (fieldsOf e) ≡ carriesAlone r (fieldsOf e)
+alone r e o = go (bitOf r (fieldsOf e)) ∙ ap (λ (b : Bool). bitOf r (fieldsOf e) && not b) (sym o)
+  where
+    go : (b : Bool) → b ≡ b && true
+    go true = refl
+    go false = refl
+
+-- of the first k elements and the next
+some-next : {A : Type 0} (f : A → Bool) (l : List A) (k : ℕ) (d : A) → k < length l → someOf f (take (k + 1) l) ≡ someOf f (take k l) || f (getD l k d)
+some-next {A} f l k d h = ap (λ (n : ℕ). someOf f (take n l)) (add-one k) ∙ go l k h
+  where
+    swap : (b : Bool) → b || false ≡ b
+    swap true = refl
+    swap false = refl
+
+    assoc : (a b c : Bool) → a || (b || c) ≡ (a || b) || c
+    assoc true b c = refl
+    assoc false b c = refl
+
+    go : (l : List A) (k : ℕ) → k < length l → someOf f (take (suc k) l) ≡ someOf f (take k l) || f (getD l k d)
+    go [] k h = absurd (not-suc-le-zero h)
+    go (x ∷ l) zero h = swap (f x)
+    go (x ∷ l) (suc k) h = ap (λ (b : Bool). f x || b) (go l k (le-of-suc-le-suc h)) ∙ assoc (f x) (someOf f (take k l)) (f (getD l k d))
+
+-- no entry stays none
+pub cleared-nil : (r : PdoDirection) → cleared r [] ≡ []
+unfolding cleared fieldsOf
+cleared-nil r = refl
+
+pub cleared-at : (r : PdoDirection) (es : List (List ℕ)) (k : ℕ) → getD (map (cleared r) es) k [] ≡ cleared r (getD es k [])
+cleared-at r es k = ap (getD (map (cleared r) es) k) (sym (cleared-nil r)) ∙ List·getD-map (cleared r) es k []
+
+-- zeros are disabled
+pub zeros-off : on (replicate 16 0) ≡ false
+unfolding fieldsOf
+zeros-off = refl
+
+-- the first k entries are cleared
+pub record Clearing (r : PdoDirection) (before : List (List ℕ)) (k : ℕ) (now : List (List ℕ)) (enabled both : Bool) : Type 0 where
+  pub holds : now ≡ take k (map (cleared r) before) ++ drop k before
+  pub some : enabled ≡ someOf on (take k (map (cleared r) before))
+  pub twice : both ≡ someOf bothBits (take k before)
+
+pub clearing-starts : (r : PdoDirection) (before : List (List ℕ)) → Clearing r before 0 before false false
+clearing-starts r before = record { holds = refl; some = refl; twice = refl }
+
+-- by another name
+pub clearing-at :
+    {r : PdoDirection} {before : List (List ℕ)} {k : ℕ} {now after : List (List ℕ)} {enabled both en bo : Bool} → Clearing r before k now enabled both
+    → after ≡ now → en ≡ enabled → bo ≡ both → Clearing r before k after en bo
+clearing-at c a e b = record { holds = a ∙ c .holds; some = e ∙ c .some; twice = b ∙ c .twice }
+
+module _ {r : PdoDirection} {before : List (List ℕ)} {k : ℕ} {now : List (List ℕ)} {enabled both : Bool} (many : length before ≡ 16) (c : Clearing r before k now enabled both) where
+  pub clearing-ends : 16 ≤ k → Clears r before now enabled both
+  clearing-ends h =
+      let n = length-map before (cleared r) in
+      record {
+        holds = copied-whole (map (cleared r) before) before now k (omega arith) (omega arith) (c .holds);
+        some = c .some ∙ ap (someOf on) (take-all k (map (cleared r) before) (omega arith));
+        twice = c .twice ∙ ap (someOf bothBits) (take-all k before (omega arith));
+      }
+
+  module _ (h : k < 16) where
+    -- the entry with the number k is still as it was
+    pub untouched : getD now k [] ≡ getD before k []
+    untouched =
+        let n = length-map before (cleared r) in
+        ap (λ (l : List (List ℕ)). getD l k []) (c .holds ∙ ap (λ (l : List (List ℕ)). take k (map (cleared r) before) ++ l) (drop-cons before k [] (omega arith)))
+        ∙ getD-at (take k (map (cleared r) before)) (getD before k []) (drop (suc k) before) [] k (length-take-le k (map (cleared r) before) (omega arith))
+
+    -- a turn, by what becomes of that entry
+    turned :
+        {after : List (List ℕ)} {en bo : Bool} → after ≡ set now k (cleared r (getD now k [])) → en ≡ enabled || on (cleared r (getD now k [])) → bo ≡ both || bothBits (getD now k [])
+        → Clearing r before (k + 1) after en bo
+    turned {after} a e b =
+        let n = length-map before (cleared r) in
+        let at : cleared r (getD now k []) ≡ getD (map (cleared r) before) k [] = ap (cleared r) untouched ∙ sym (cleared-at r before k) in
+        record {
+          holds = a ∙ ap (set now k) at ∙ copied [] (map (cleared r) before) before now k (omega arith) (omega arith) (c .holds);
+          some = e ∙ (λ i. c .some i || on (at i)) ∙ sym (some-next on (map (cleared r) before) k [] (omega arith));
+          twice = b ∙ (λ i. c .twice i || bothBits (untouched i)) ∙ sym (some-next bothBits before k [] (omega arith));
+        }
+
+    or-false : (b : Bool) → b ≡ b || false
+    or-false true = refl
+    or-false false = refl
+
+    or-true : (b : Bool) → true ≡ b || true
+    or-true true = refl
+    or-true false = refl
+
+    -- a disabled entry stays
+    pub clearing-off : on (getD now k []) ≡ false → Clearing r before (k + 1) now enabled both
+    unfolding cleared
+    clearing-off o =
+        let stays : cleared r (getD now k []) ≡ getD now k [] = rw o refl in
+        turned (sym (ap (set now k) stays ∙ set-getD now k [])) (or-false enabled ∙ ap (λ (b : Bool). enabled || b) (sym (ap on stays ∙ o)))
+        (or-false both ∙ ap (λ (b : Bool). both || (b && withBoth (getD now k []))) (sym o))
+
+    -- an old one is set to zero
+    pub clearing-old : on (getD now k []) ≡ true → carriesAlone r (fieldsOf (getD now k [])) ≡ true → Clearing r before (k + 1) (set now k (replicate 16 0)) enabled both
+    unfolding cleared
+    clearing-old o a =
+        let zero : cleared r (getD now k []) ≡ replicate 16 0 = λ i. cond (o i && a i) (replicate 16 0) (getD now k []) in
+        turned (ap (set now k) (sym zero)) (or-false enabled ∙ ap (λ (b : Bool). enabled || b) (sym (ap on zero ∙ zeros-off)))
+        (or-false both ∙ ap (λ (b : Bool). both || b) (sym (ap (λ (b : Bool). b && withBoth (getD now k [])) o ∙ not-both r (getD now k []) a)))
+      where
+        and-not : (x y : Bool) → x && not y ≡ true → (x && y ≡ false) × (y && x ≡ false)
+        and-not true false e = (refl, refl)
+        and-not true true e = absurd (mathlib.Core.Bool.false≢true e)
+        and-not false y e = absurd (mathlib.Core.Bool.false≢true e)
+
+        not-both : (r : PdoDirection) (e : List ℕ) → carriesAlone r (fieldsOf e) ≡ true → withBoth e ≡ false
+        not-both MasterRead e a = and-not (fieldsOf e .«read_enable») (fieldsOf e .«write_enable») a .0
+        not-both MasterWrite e a = and-not (fieldsOf e .«write_enable») (fieldsOf e .«read_enable») a .1
+
+    -- any other is still enabled
+    pub clearing-other :
+        {bo : Bool} → on (getD now k []) ≡ true → carriesAlone r (fieldsOf (getD now k [])) ≡ false → bo ≡ both || withBoth (getD now k []) → Clearing r before (k + 1) now true bo
+    unfolding cleared
+    clearing-other o a b =
+        let stays : cleared r (getD now k []) ≡ getD now k [] = λ i. cond (o i && a i) (replicate 16 0) (getD now k []) in
+        turned (sym (ap (set now k) stays ∙ set-getD now k [])) (or-true enabled ∙ ap (λ (b : Bool). enabled || b) (sym (ap on stays ∙ o)))
+        (b ∙ ap (λ (x : Bool). both || (x && withBoth (getD now k []))) (sym o))

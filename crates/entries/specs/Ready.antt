@@ -1,0 +1,48 @@
+-- What the parts of making the entries ready promise one another.
+-- Assumes nothing.
+use mathlib.Core.Path.{_≡_}
+use mathlib.Core.Bool.{Bool, cond, not, _&&_}
+use mathlib.Core.List.{List, [], map}
+use Prim.Native.Nat.{ℕ}
+use lib.ListN.{replicate}
+use Rattle.wire.specs.Lists.{someOf}
+use Rattle.fmmu.specs.declared.Fmmu.{Fmmu}
+use Rattle.fmmu.specs.Image.{fieldsOf}
+use Rattle.pdo.specs.declared.PdoDirection.{PdoDirection}
+use Rattle.pdo.specs.declared.PdoDirection.the-variants.{MasterRead, MasterWrite}
+use Rattle.pdo.specs.Direction.{other}
+use Rattle.passes.specs.Use.{Use}
+use Rattle.passes.specs.Old.{bitOf, cleared, beginning, bothBits, inTheWay}
+use Rattle.passes.specs.declared.OldEntries.{OldEntries}
+
+-- byte 11: bit 0 read, bit 1 write
+abbrev pub accessBit : PdoDirection → ℕ
+accessBit MasterRead = 0
+accessBit MasterWrite = 1
+
+abbrev pub carriesAlone : PdoDirection → Fmmu → Bool
+carriesAlone r f = bitOf r f && not (bitOf (other r) f)
+
+abbrev pub withBoth : List ℕ → Bool
+withBoth e = fieldsOf e .«read_enable» && fieldsOf e .«write_enable»
+
+abbrev pub on : List ℕ → Bool
+on e = fieldsOf e .enable
+
+-- the direction's old entries cleared; whether one is still enabled, and whether one has both bits
+pub record Clears (r : PdoDirection) (before after : List (List ℕ)) (enabled both : Bool) : Type 0 where
+  pub holds : after ≡ map (cleared r) before
+  pub some : enabled ≡ someOf on (map (cleared r) before)
+  pub twice : both ≡ someOf bothBits before
+
+-- sixteen entries of zeros
+abbrev pub nothing : List (List ℕ)
+nothing = replicate 16 (replicate 16 0)
+
+-- what is laid on: the entries with which the pass begins; where one is in the way nothing of them is written, and 8 counts from zero
+abbrev pub ready : OldEntries → PdoDirection → List Use → List (List ℕ) → List (List ℕ)
+ready old r us entries = cond (inTheWay old r us entries) nothing (beginning old r entries)
+
+pub record Readies (old : OldEntries) (r : PdoDirection) (us : List Use) (before after : List (List ℕ)) (blocked : Bool) : Type 0 where
+  pub says : blocked ≡ inTheWay old r us before
+  pub holds : after ≡ ready old r us before
