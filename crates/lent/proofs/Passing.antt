@@ -11,17 +11,18 @@ use Rattle.pdo.specs.declared.PdoDirection.{PdoDirection}
 use Rattle.passes.specs.declared.Configured.{Configured}
 use Rattle.passes.specs.declared.Configured.the-variants.{Mapped}
 use Rattle.passes.specs.declared.Configured.the-variants.{Refused as Stopped}
+use Rattle.passes.specs.declared.Settings.{Settings}
 use Rattle.passes.specs.Entries.{Planned, configuredOf}
 use Rattle.passes.specs.Pass.{Configures, Passes, segmentAlone, offsetAfter}
 
-module _ {sheet ws : List ℕ} {r : PdoDirection} (offset : PdiOffset) {group : ℕ} {fmmus channels : List ℕ} {answer : Configured} {fmmusThen channelsThen : List ℕ}
-    (c : Configures sheet ws r (offset .«start_address») group fmmus channels answer fmmusThen channelsThen) where
-  pub mapped : (s : PdiSegment) (next : PdiOffset) → answer ≡ Mapped s next → Passes sheet ws r offset group fmmus channels (Segment s) next fmmusThen channelsThen
+module _ {sheet ws : List ℕ} {r : PdoDirection} (offset : PdiOffset) {settings : Settings} {fmmus channels : List ℕ} {answer : Configured} {fmmusThen channelsThen : List ℕ}
+    (c : Configures sheet ws r (offset .«start_address») settings fmmus channels answer fmmusThen channelsThen) where
+  pub mapped : (s : PdiSegment) (next : PdiOffset) → answer ≡ Mapped s next → Passes sheet ws r offset settings fmmus channels (Segment s) next fmmusThen channelsThen
   mapped s next e =
       let o = sym (ap configuredOf e) ∙ c .says in
       record { says = ap segmentAlone o; moves = ap (λ (p : Outcome Planned). offsetAfter p offset) o; entries = c .entries; images = c .images }
 
-  pub stopped : (n : ℕ) → answer ≡ Stopped n → Passes sheet ws r offset group fmmus channels (Refused n) offset fmmusThen channelsThen
+  pub stopped : (n : ℕ) → answer ≡ Stopped n → Passes sheet ws r offset settings fmmus channels (Refused n) offset fmmusThen channelsThen
   stopped n e =
       let o = sym (ap configuredOf e) ∙ c .says in
       record { says = ap segmentAlone o; moves = ap (λ (p : Outcome Planned). offsetAfter p offset) o; entries = c .entries; images = c .images }

@@ -5,6 +5,7 @@ ghost use Rattle.pdo.specs.Bits.{multipliersOf};
 ghost use Rattle.passes.specs.Pass.{Passes};
 use passes::Configured;
 use passes::Place;
+use passes::Settings;
 use pdi::PdiOffset;
 use pdi::Placed;
 use pdo::Oversampling;
@@ -25,7 +26,7 @@ fn passed(
     place: Place,
     direction: PdoDirection,
 ) -> Done
-    ensures { λ r. ⌜ Passes (now (sheet .entry)) (now (multipliers .entry)) direction (place .offset) (place .group) (now (fmmus .entry)) (now (channels .entry)) (r .answer) (r .next) (now (fmmus .exit)) (now (channels .exit)) ⌝ }
+    ensures { λ r. ⌜ Passes (now (sheet .entry)) (now (multipliers .entry)) direction (place .offset) (place .settings) (now (fmmus .entry)) (now (channels .entry)) (r .answer) (r .next) (now (fmmus .exit)) (now (channels .exit)) ⌝ }
 {
     let start = place.offset;
     match subdevice::pass(sheet, multipliers, fmmus, channels, place, direction) {
@@ -48,7 +49,7 @@ fn without_table(
     place: Place,
     direction: PdoDirection,
 ) -> Done
-    ensures { λ r. ⌜ Passes (now (sheet .entry)) (multipliersOf [] (sheetData (now (sheet .entry)) .pdos)) direction (place .offset) (place .group) (now (fmmus .entry)) (now (channels .entry)) (r .answer) (r .next) (now (fmmus .exit)) (now (channels .exit)) ⌝ }
+    ensures { λ r. ⌜ Passes (now (sheet .entry)) (multipliersOf [] (sheetData (now (sheet .entry)) .pdos)) direction (place .offset) (place .settings) (now (fmmus .entry)) (now (channels .entry)) (r .answer) (r .next) (now (fmmus .exit)) (now (channels .exit)) ⌝ }
 {
     passed(sheet, &[], fmmus, channels, place, direction)
 }
@@ -62,7 +63,7 @@ fn with_table(
     place: Place,
     direction: PdoDirection,
 ) -> Done
-    ensures { λ r. ⌜ Passes (now (sheet .entry)) (multipliersOf (now (table .entry)) (sheetData (now (sheet .entry)) .pdos)) direction (place .offset) (place .group) (now (fmmus .entry)) (now (channels .entry)) (r .answer) (r .next) (now (fmmus .exit)) (now (channels .exit)) ⌝ }
+    ensures { λ r. ⌜ Passes (now (sheet .entry)) (multipliersOf (now (table .entry)) (sheetData (now (sheet .entry)) .pdos)) direction (place .offset) (place .settings) (now (fmmus .entry)) (now (channels .entry)) (r .answer) (r .next) (now (fmmus .exit)) (now (channels .exit)) ⌝ }
 {
     let mut multipliers = [1u8; 255];
     oversampling::multipliers_for(table, sheet, &mut multipliers);
@@ -76,14 +77,14 @@ pub fn configure_fmmus(
     fmmus: &mut [u8],
     channels: &mut [u8],
     offset: &mut PdiOffset,
-    group_start_address: u32,
+    settings: Settings,
     direction: PdoDirection,
 ) -> Placed
-    ensures { λ r. ⌜ Passes (now (sheet .entry)) (multipliersOf (now (table .entry)) (sheetData (now (sheet .entry)) .pdos)) direction (now (offset .entry)) «group_start_address» (now (fmmus .entry)) (now (channels .entry)) r (now (offset .exit)) (now (fmmus .exit)) (now (channels .exit)) ⌝ }
+    ensures { λ r. ⌜ Passes (now (sheet .entry)) (multipliersOf (now (table .entry)) (sheetData (now (sheet .entry)) .pdos)) direction (now (offset .entry)) settings (now (fmmus .entry)) (now (channels .entry)) r (now (offset .exit)) (now (fmmus .exit)) (now (channels .exit)) ⌝ }
 {
     let place = Place {
         offset: *offset,
-        group: group_start_address,
+        settings,
     };
     let done = if table.len() == 0 {
         without_table(sheet, fmmus, channels, place, direction)

@@ -16,14 +16,14 @@ returns : tie.Need-returns
 returns c =
     let s = c .before .before .before .before .before in
     let a = s .args in
-    one-configures (now (a .sheet)) (now (a .multipliers)) (a .direction) (a .place .offset .«start_address») (a .place .group) (now (a .fmmus)) (now (a .channels))
+    one-configures (now (a .sheet)) (now (a .multipliers)) (a .direction) (a .place .offset .«start_address») (a .place .settings) (now (a .fmmus)) (now (a .channels))
     (entries-wrong (now (a .fmmus)) (now (a .channels)) (c .if1 .taken))
 
 returns-2 : tie.Need-returns-2
 returns-2 c =
     let s = c .before .before .before .before .before .before in
     let a = s .args in
-    one-configures (now (a .sheet)) (now (a .multipliers)) (a .direction) (a .place .offset .«start_address») (a .place .group) (now (a .fmmus)) (now (a .channels))
+    one-configures (now (a .sheet)) (now (a .multipliers)) (a .direction) (a .place .offset .«start_address») (a .place .settings) (now (a .fmmus)) (now (a .channels))
     (channels-wrong (now (a .fmmus)) (now (a .channels)) (c .before .if1 .left) (c .if2 .taken))
 
 wanted-of-requires : tie.Need-wanted-of-requires
@@ -37,7 +37,7 @@ returns-3 c =
     let v = c .before .before .before in
     let a = start v .args in
     let n = c .before .answer .given in
-    unwanted-configures (now (a .sheet)) (now (a .multipliers)) (a .direction) (a .place .offset .«start_address») (a .place .group) (now (a .fmmus)) (now (a .channels))
+    unwanted-configures (now (a .sheet)) (now (a .multipliers)) (a .direction) (a .place .offset .«start_address») (a .place .settings) (now (a .fmmus)) (now (a .channels))
     (v .before .before .if1 .left) (v .before .if2 .left) (v .wanted-of .result) (v .wanted-of .ensures) (n .0 .0) (n .1)
 
 enum-told : tie.Need-enum-told
@@ -73,7 +73,7 @@ returns-4 c =
     let v = e .before .before in
     let a = start v .args in
     let s = g .segment .given in
-    mapped-configures (now (a .sheet)) (now (a .multipliers)) (a .direction) (a .place .offset .«start_address») (a .place .group) (now (a .fmmus)) (now (a .channels))
+    mapped-configures (now (a .sheet)) (now (a .multipliers)) (a .direction) (a .place .offset .«start_address») (a .place .settings) (now (a .fmmus)) (now (a .channels))
     (v .before .before .if1 .left) (v .before .if2 .left) (v .wanted-of .result) (v .wanted-of .ensures) (e .enum-told .given .1)
     (w .write-entries .last .0) (w .write-entries .result) (w .write-entries .ensures)
     (s .0 .0) (s .0 .1 .0) (i .write-channels .last .0) (s .1) (ap (λ (t : Terms). t .usage) (i .before .filter-terms .ensures)) (i .write-channels .ensures)
@@ -88,7 +88,7 @@ returns-5 c =
     let v = e .before .before in
     let a = start v .args in
     let n = c .before .number .given in
-    refused-configures (now (a .sheet)) (now (a .multipliers)) (a .direction) (a .place .offset .«start_address») (a .place .group) (now (a .fmmus)) (now (a .channels))
+    refused-configures (now (a .sheet)) (now (a .multipliers)) (a .direction) (a .place .offset .«start_address») (a .place .settings) (now (a .fmmus)) (now (a .channels))
     (v .before .before .if1 .left) (v .before .if2 .left) (v .wanted-of .result) (v .wanted-of .ensures) (e .enum-told .given .1)
     (w .write-entries .last .0) (w .write-entries .result) (w .write-entries .ensures) (n .0 .0) (n .1)
 
