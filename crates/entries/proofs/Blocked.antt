@@ -27,10 +27,9 @@ use Rattle.passes.specs.Use.{Use, totalOn}
 use Rattle.passes.specs.Handed.{usesBy}
 use Rattle.passes.specs.Entries.{lengthNow, tooLong}
 use Rattle.passes.specs.Old.{isOld, cleared, bothBits, someEnabled, inTheWay}
+use Rattle.passes.proofs.Cleared.{cleared-at, length-off, cleared-short, from-zero, cleared-eight}
 use Rattle.entries.specs.Lay.{takesEntry, entryBy, Short}
 use Rattle.entries.specs.Ready.{on, nothing, ready, Clears, Readies}
-use Rattle.entries.proofs.Lengths.{total-other}
-use Rattle.entries.proofs.Clearing.{cleared-at, zeros-off}
 use Rattle.entries.proofs.Uses.{usesAt, uses-end, uses-other, uses-skip, uses-next}
 
 -- a number past the last one is no entry
@@ -137,24 +136,11 @@ module _ {old : OldEntries} (r : PdoDirection) (us : List Use) (before : List (L
     pub wanted-blocks : both ≡ false → someEnabled us after ≡ true → Readies old r us before nothing true
     wanted-blocks b e = made (by-both false true (sym (c .twice) ∙ b) (sym (ap (someEnabled us) (c .holds)) ∙ e)) refl
 
--- zeros have no length, and no entry has
-length-off : (e : List ℕ) → on e ≡ false → lengthNow e ≡ 0
-length-off e o = ap (λ (b : Bool). cond b (fieldsOf e .«length_bytes» .0) 0) o
-
 nothing-off : (n k : ℕ) → on (getD (replicate n (replicate 16 0)) k []) ≡ false
 unfolding fieldsOf
 nothing-off zero k = refl
 nothing-off (suc n) zero = refl
 nothing-off (suc n) (suc k) = nothing-off n k
-
--- a cleared entry is one of zeros or the one that it was
-cleared-short : (r : PdoDirection) (e : List ℕ) → lengthNow e ≤ 65535 → lengthNow (cleared r e) ≤ 65535
-unfolding cleared
-cleared-short r e h = go (isOld r (fieldsOf e))
-  where
-    go : (b : Bool) → lengthNow (cond b (replicate 16 0) e) ≤ 65535
-    go true = let z = length-off (replicate 16 0) zeros-off in omega arith
-    go false = h
 
 short-nothing : Short nothing
 short-nothing = record { many = refl; short = λ k h. (let z = length-off (getD nothing k []) (nothing-off 16 k) in omega arith) }
@@ -179,28 +165,6 @@ short-ready Clear r us es s = go (inTheWay Clear r us es)
 pub short-made : {old : OldEntries} {r : PdoDirection} {us : List Use} {before after : List (List ℕ)} {blocked : Bool} → Readies old r us before after blocked → Short before → Short after
 short-made {old} {r} {us} {before} m s = subst (λ (es : List (List ℕ)). Short es) (sym (m .holds)) (short-ready old r us before s)
 
--- an entry is disabled, or no use is on it
-off-or-unused : (us : List Use) (es : List (List ℕ)) (k : ℕ) → someEnabled us es ≡ false → (on (getD es k []) ≡ false) ⊎ (totalOn k us ≡ 0)
-unfolding totalOn
-off-or-unused [] es k e = inr refl
-off-or-unused (u ∷ us) es k e = let f = or-none (on (getD es (u .entry) [])) (someEnabled us es) e in go (ℕ-discrete (u .entry) k) (f .0) (off-or-unused us es k (f .1))
-  where
-    go : Dec (u .entry ≡ k) → on (getD es (u .entry) []) ≡ false → (on (getD es k []) ≡ false) ⊎ (totalOn k us ≡ 0) → (on (getD es k []) ≡ false) ⊎ (totalOn k (u ∷ us) ≡ 0)
-    go (yes i) o rest = inl (ap (λ (j : ℕ). on (getD es j [])) (sym i) ∙ o)
-    go (no i) o rest = ⊎-elim (λ f. inl f) (λ t. inr (total-other u us k i ∙ t)) rest
-
--- where each entry is disabled or unused, 8 counts from zero
-from-zero :
-    (us : List Use) (ls es : List (List ℕ)) → Short ls → ((k : ℕ) → (on (getD ls k []) ≡ false) ⊎ (totalOn k us ≡ 0)) → tooLong Keep us ls ≡ tooLong Clear us es
-unfolding tooLong
-from-zero us ls es s f =
-    some-same (λ k. ltb 65535 (lengthNow (getD ls k []) + totalOn k us)) (λ k. ltb 65535 (0 + totalOn k us)) 16
-    (λ k h.
-    ⊎-elim
-    (λ o. ap (λ (n : ℕ). ltb 65535 (n + totalOn k us)) (length-off (getD ls k []) o))
-    (λ z. let l = s .short k h in le-ltb 65535 (lengthNow (getD ls k []) + totalOn k us) (omega arith) ∙ sym (le-ltb 65535 (0 + totalOn k us) (omega arith)))
-    (f k))
-
 -- 8 on what is laid on is 8 of the pass
 pub too-long-ready : (old : OldEntries) (r : PdoDirection) (us : List Use) (es : List (List ℕ)) → Short es → tooLong Keep us (ready old r us es) ≡ tooLong old us es
 unfolding inTheWay
@@ -208,7 +172,5 @@ too-long-ready Keep r us es s = refl
 too-long-ready Clear r us es s = go (inTheWay Clear r us es) refl
   where
     go : (b : Bool) → inTheWay Clear r us es ≡ b → tooLong Keep us (cond b nothing (map (cleared r) es)) ≡ tooLong Clear us es
-    go true w = from-zero us nothing es short-nothing (λ k. inl (nothing-off 16 k))
-    go false w =
-        from-zero us (map (cleared r) es) es (short-cleared r es s)
-        (λ k. off-or-unused us (map (cleared r) es) k (or-none (someOf bothBits es) (someEnabled us (map (cleared r) es)) w .1))
+    go true w = from-zero us nothing es (short-nothing .short) (λ k. inl (nothing-off 16 k))
+    go false w = cleared-eight r us es (s .short) w

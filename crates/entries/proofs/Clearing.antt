@@ -1,13 +1,13 @@
 -- Old entries cleared one after another: an entry that is disabled, one that is old, any other; and what is still enabled then.
 -- Assumes nothing.
 use mathlib.Core.Path.{_≡_, refl, sym, _∙_, ap, ap₂, subst}
-use mathlib.Core.Bool.{Bool, true, false, cond, not, _&&_, _||_}
+use mathlib.Core.Bool.{Bool, true, false, not, _&&_, _||_, false≢true}
 use mathlib.Core.List.{List, [], _∷_, _++_, map}
 use Prim.Native.Nat.{ℕ, zero, suc, _+_, _<_, _≤_}
 use native.Mathlib.Nat.{not-suc-le-zero, le-of-suc-le-suc}
 use native.Mathlib.Numerals.{add-one}
 use native.Mathlib.Omega.{arith}
-use lib.ListN.{length, getD, take, drop, set, replicate, length-map, List·getD-map}
+use lib.ListN.{length, getD, take, drop, set, replicate, length-map}
 use lib.Seq.{take-all, drop-cons, set-getD, getD-at, length-take-le}
 use Rattle.wire.specs.Field.{flagAt}
 use Rattle.wire.specs.Lists.{someOf}
@@ -17,6 +17,7 @@ use Rattle.pdo.specs.declared.PdoDirection.{PdoDirection}
 use Rattle.pdo.specs.declared.PdoDirection.the-variants.{MasterRead, MasterWrite}
 use Rattle.pdo.specs.Direction.{other}
 use Rattle.passes.specs.Old.{bitOf, cleared, bothBits}
+use Rattle.passes.proofs.Cleared.{zeros-off, cleared-old, cleared-not, cleared-off, cleared-at}
 use Rattle.entries.specs.Ready.{accessBit, carriesAlone, withBoth, on, Clears}
 
 -- the bits of an image that are asked
@@ -44,6 +45,16 @@ alone r e o = go (bitOf r (fieldsOf e)) ∙ ap (λ (b : Bool). bitOf r (fieldsOf
     go true = refl
     go false = refl
 
+-- who carries one bit alone has not both
+and-not : (x y : Bool) → x && not y ≡ true → (x && y ≡ false) × (y && x ≡ false)
+and-not true false e = (refl, refl)
+and-not true true e = absurd (false≢true e)
+and-not false y e = absurd (false≢true e)
+
+not-both : (r : PdoDirection) (e : List ℕ) → carriesAlone r (fieldsOf e) ≡ true → withBoth e ≡ false
+not-both MasterRead e a = and-not (fieldsOf e .«read_enable») (fieldsOf e .«write_enable») a .0
+not-both MasterWrite e a = and-not (fieldsOf e .«write_enable») (fieldsOf e .«read_enable») a .1
+
 -- of the first k elements and the next
 some-next : {A : Type 0} (f : A → Bool) (l : List A) (k : ℕ) (d : A) → k < length l → someOf f (take (k + 1) l) ≡ someOf f (take k l) || f (getD l k d)
 some-next {A} f l k d h = ap (λ (n : ℕ). someOf f (take n l)) (add-one k) ∙ go l k h
@@ -60,19 +71,6 @@ some-next {A} f l k d h = ap (λ (n : ℕ). someOf f (take n l)) (add-one k) ∙
     go [] k h = absurd (not-suc-le-zero h)
     go (x ∷ l) zero h = swap (f x)
     go (x ∷ l) (suc k) h = ap (λ (b : Bool). f x || b) (go l k (le-of-suc-le-suc h)) ∙ assoc (f x) (someOf f (take k l)) (f (getD l k d))
-
--- no entry stays none
-pub cleared-nil : (r : PdoDirection) → cleared r [] ≡ []
-unfolding cleared fieldsOf
-cleared-nil r = refl
-
-pub cleared-at : (r : PdoDirection) (es : List (List ℕ)) (k : ℕ) → getD (map (cleared r) es) k [] ≡ cleared r (getD es k [])
-cleared-at r es k = ap (getD (map (cleared r) es) k) (sym (cleared-nil r)) ∙ List·getD-map (cleared r) es k []
-
--- zeros are disabled
-pub zeros-off : on (replicate 16 0) ≡ false
-unfolding fieldsOf
-zeros-off = refl
 
 -- the first k entries are cleared
 pub record Clearing (r : PdoDirection) (before : List (List ℕ)) (k : ℕ) (now : List (List ℕ)) (enabled both : Bool) : Type 0 where
@@ -130,34 +128,22 @@ module _ {r : PdoDirection} {before : List (List ℕ)} {k : ℕ} {now : List (Li
 
     -- a disabled entry stays
     pub clearing-off : on (getD now k []) ≡ false → Clearing r before (k + 1) now enabled both
-    unfolding cleared
     clearing-off o =
-        let stays : cleared r (getD now k []) ≡ getD now k [] = rw o refl in
+        let stays = cleared-off r (getD now k []) o in
         turned (sym (ap (set now k) stays ∙ set-getD now k [])) (or-false enabled ∙ ap (λ (b : Bool). enabled || b) (sym (ap on stays ∙ o)))
         (or-false both ∙ ap (λ (b : Bool). both || (b && withBoth (getD now k []))) (sym o))
 
     -- an old one is set to zero
     pub clearing-old : on (getD now k []) ≡ true → carriesAlone r (fieldsOf (getD now k [])) ≡ true → Clearing r before (k + 1) (set now k (replicate 16 0)) enabled both
-    unfolding cleared
     clearing-old o a =
-        let zero : cleared r (getD now k []) ≡ replicate 16 0 = λ i. cond (o i && a i) (replicate 16 0) (getD now k []) in
+        let zero = cleared-old r (getD now k []) (λ i. o i && a i) in
         turned (ap (set now k) (sym zero)) (or-false enabled ∙ ap (λ (b : Bool). enabled || b) (sym (ap on zero ∙ zeros-off)))
         (or-false both ∙ ap (λ (b : Bool). both || b) (sym (ap (λ (b : Bool). b && withBoth (getD now k [])) o ∙ not-both r (getD now k []) a)))
-      where
-        and-not : (x y : Bool) → x && not y ≡ true → (x && y ≡ false) × (y && x ≡ false)
-        and-not true false e = (refl, refl)
-        and-not true true e = absurd (mathlib.Core.Bool.false≢true e)
-        and-not false y e = absurd (mathlib.Core.Bool.false≢true e)
-
-        not-both : (r : PdoDirection) (e : List ℕ) → carriesAlone r (fieldsOf e) ≡ true → withBoth e ≡ false
-        not-both MasterRead e a = and-not (fieldsOf e .«read_enable») (fieldsOf e .«write_enable») a .0
-        not-both MasterWrite e a = and-not (fieldsOf e .«write_enable») (fieldsOf e .«read_enable») a .1
 
     -- any other is still enabled
     pub clearing-other :
         {bo : Bool} → on (getD now k []) ≡ true → carriesAlone r (fieldsOf (getD now k [])) ≡ false → bo ≡ both || withBoth (getD now k []) → Clearing r before (k + 1) now true bo
-    unfolding cleared
     clearing-other o a b =
-        let stays : cleared r (getD now k []) ≡ getD now k [] = λ i. cond (o i && a i) (replicate 16 0) (getD now k []) in
+        let stays = cleared-not r (getD now k []) (λ i. o i && a i) in
         turned (sym (ap (set now k) stays ∙ set-getD now k [])) (or-true enabled ∙ ap (λ (b : Bool). enabled || b) (sym (ap on stays ∙ o)))
         (b ∙ ap (λ (x : Bool). both || (x && withBoth (getD now k []))) (sym o))

@@ -63,7 +63,7 @@ module _ (u : Use) (us : List Use) (k : ℕ) where
   unfolding totalOn
   total-here e = rw (eq-eqb (u .entry) k e)
 
-  pub total-other : (u .entry ≡ k → ⊥) → totalOn k (u ∷ us) ≡ totalOn k us
+  total-other : (u .entry ≡ k → ⊥) → totalOn k (u ∷ us) ≡ totalOn k us
   unfolding totalOn
   total-other e = rw (ne-eqb (u .entry) k e, zero-add)
 

@@ -1,6 +1,7 @@
 -- Laws that belong to no one function.
 pub mod Pieces
 pub mod Kept
+pub mod Cleared
 pub mod Once
 pub mod Same
 pub mod Unique

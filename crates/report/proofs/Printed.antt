@@ -26,6 +26,8 @@ use Rattle.channels.proofs.After.{channels-kept}
 use Rattle.passes.specs.Use.{usesOf}
 use Rattle.passes.specs.Entries.{Planned, plan}
 use Rattle.passes.proofs.Kept.{plan-length, rows-plan}
+use Rattle.passes.proofs.Cleared.{begun-length, rows-begun}
+use Rattle.passes.specs.Old.{clean, beginning}
 use Rattle.mailboxes.specs.Mailbox.{Recorded, mailboxPass, mailboxSize, mailboxChannels}
 use Rattle.passes.specs.Pass.{dataSize}
 use Rattle.lines.specs.Text.{line, inputsFront, outputsFront, channelLine, imageLine, enabledLine, lines, bayText}
@@ -90,10 +92,11 @@ mailbox-right sheet a c h = record { entries = h .entries; images = go (sheetDat
 pass-right : (sheet : List ℕ) (r : PdoDirection) (offset : ℕ) (a : Areas) (p : Planned) → Right a → Right (passLeaves sheet r offset a p)
 pass-right sheet r offset a p h =
     let d = sheetData sheet in
-    let es = entriesOf 16 (a .fmmus) in
+    let old = clean 0 .old in
+    let es = beginning old r (entriesOf 16 (a .fmmus)) in
     let us = usesOf d (once sheet) r in
-    let many = plan-length r offset us es ∙ length-chunks 16 16 (a .fmmus) in
-    let rows = rows-plan r offset us es (rows-chunks 16 16 (a .fmmus) (h .entries)) in
+    let many = plan-length r offset us es ∙ begun-length old r (entriesOf 16 (a .fmmus)) ∙ length-chunks 16 16 (a .fmmus) in
+    let rows = rows-plan r offset us es (rows-begun old r (entriesOf 16 (a .fmmus)) (rows-chunks 16 16 (a .fmmus) (h .entries))) in
     record { entries = flat-bytes 16 16 (plan r offset us es) (many, rows); images = images-after (dataSize d (once sheet) r) (d .managers) (a .channels) (h .images) }
 
 -- what holds of whatever follows an accepted answer holds of the whole

@@ -13,6 +13,7 @@ use Rattle.sheet.specs.Sheet.{sheetData, managerCount}
 use Rattle.pdo.specs.declared.PdoDirection.{PdoDirection}
 use Rattle.pdo.specs.declared.PdoDirection.the-variants.{MasterRead, MasterWrite}
 use Rattle.pdo.specs.Bits.{multipliersOf}
+use Rattle.passes.specs.Old.{clean}
 use Rattle.passes.specs.Entries.{Planned}
 use Rattle.mailboxes.specs.Mailbox.{Recorded, mailboxPass, mailboxArea}
 use Rattle.lines.specs.Text.{line, numbered, inputsFront, outputsFront, lines, enabledLine, refusedText, bayText}
@@ -50,14 +51,14 @@ once sheet = multipliersOf [] (sheetData sheet .pdos)
 abbrev pub ended : PdiSegment → ℕ → Planned
 ended segment next = record { segment = segment; next = next }
 
--- a data pass from an offset, in group 0, and the areas that it leaves where it is accepted
+-- a data pass by default from an offset, in group 0, and the areas that it leaves where it is accepted
 abbrev pub pass : List ℕ → PdoDirection → ℕ → Areas → Outcome Planned
-pass sheet r offset a = dataPass sheet (once sheet) r offset 0 (a .fmmus) (a .channels)
+pass sheet r offset a = dataPass sheet (once sheet) r offset (clean 0) (a .fmmus) (a .channels)
 
 abbrev pub passLeaves : List ℕ → PdoDirection → ℕ → Areas → Planned → Areas
 passLeaves sheet r offset a p =
     areas
-    (entriesAfter (accepted p) (sheetData sheet) (once sheet) r offset (a .fmmus))
+    (entriesAfter (accepted p) (sheetData sheet) (once sheet) r offset (clean 0 .old) (a .fmmus))
     (channelAreaAfter (accepted p) (sheetData sheet) (once sheet) r (a .channels))
 
 -- the output pass starts at the offset where the input pass ended

@@ -2,11 +2,13 @@
 ghost use mathlib.Core.Path.{_≡_};
 ghost use Rattle.wire.specs.Room.{InRoom, textIn};
 ghost use Rattle.wire.specs.Text.{page, Types};
+ghost use Rattle.passes.specs.Old.{clean};
 ghost use Rattle.passes.specs.Pass.{Configures};
 ghost use Rattle.report.specs.Plan.{areas, once, planBay, bayOf, reportText};
 use mailboxes::MailboxAnswer;
 use passes::Configured;
 use passes::Place;
+use passes::Settings;
 use pdi::PdiOffset;
 use pdi::PdiSegment;
 use pdo::PdoDirection;
@@ -18,7 +20,7 @@ enum Plan {
     Refused(u8),
 }
 
-// A data pass in group 0, with no oversampling.
+// A data pass by default, in group 0, with no oversampling.
 fn data_pass(
     sheet: &[u8],
     fmmus: &mut [u8],
@@ -26,14 +28,17 @@ fn data_pass(
     offset: PdiOffset,
     direction: PdoDirection,
 ) -> Configured
-    ensures { λ r. ⌜ Configures (now (sheet .entry)) (once (now (sheet .entry))) direction (offset .«start_address») 0 (now (fmmus .entry)) (now (channels .entry)) r (now (fmmus .exit)) (now (channels .exit)) ⌝ }
+    ensures { λ r. ⌜ Configures (now (sheet .entry)) (once (now (sheet .entry))) direction (offset .«start_address») (clean 0) (now (fmmus .entry)) (now (channels .entry)) r (now (fmmus .exit)) (now (channels .exit)) ⌝ }
 {
     subdevice::pass(
         sheet,
         &[],
         fmmus,
         channels,
-        Place { offset, group: 0 },
+        Place {
+            offset,
+            settings: Settings::clean(0),
+        },
         direction,
     )
 }

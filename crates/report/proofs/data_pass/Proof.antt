@@ -1,17 +1,33 @@
--- `report::data_pass`: a pass that is lent no multiplier counts each PDO once.
+-- `report::data_pass`: a pass by default that is lent no multiplier counts each PDO once.
 -- Assumes nothing.
-use mathlib.Core.List.{[]}
+use mathlib.Core.Path.{_≡_, subst}
+use mathlib.Core.List.{List, []}
+use Prim.Native.Nat.{ℕ}
 use denote.Ref.{now}
 use borrow.Author.Needs.{needs}
 use Rattle.sheet.specs.Sheet.{sheetData}
+use Rattle.pdo.specs.declared.PdoDirection.{PdoDirection}
 use Rattle.pdo.proofs.Lacking.{bits-none}
+use Rattle.passes.specs.declared.Configured.{Configured}
+use Rattle.passes.specs.declared.Settings.{Settings}
+use Rattle.passes.specs.Pass.{Configures}
 use Rattle.passes.proofs.Same.{configures-same}
 use Rattle.report.specs.Plan.{once}
 use Rattle.report.proofs.data_pass.Statement.{statement}
 use Rattle.report.proofs.data_pass.Tie as tie
 
+-- the settings that it makes are the default
+settings-are :
+    {sheet ws : List ℕ} {r : PdoDirection} {offset : ℕ} {made meant : Settings} {fmmus channels : List ℕ} {answer : Configured} {fmmusThen channelsThen : List ℕ} → made ≡ meant
+    → Configures sheet ws r offset made fmmus channels answer fmmusThen channelsThen → Configures sheet ws r offset meant fmmus channels answer fmmusThen channelsThen
+settings-are {sheet} {ws} {r} {offset} {made} {meant} {fmmus} {channels} {answer} {fmmusThen} {channelsThen} e h =
+    subst (λ (settings : Settings). Configures sheet ws r offset settings fmmus channels answer fmmusThen channelsThen) e h
+
 slice-aggregate-pass : tie.Need-slice-aggregate-pass
 slice-aggregate-pass c = search needs
+
+clean-requires : tie.Need-clean-requires
+clean-requires c κs = search needs
 
 pass-requires : tie.Need-pass-requires
 pass-requires c κs = search needs
@@ -25,9 +41,11 @@ same-length-2 c = search needs
 returns : tie.Need-returns
 returns c =
     let p = c .before .before .before .before in
-    let a = p .before .before .before .before .before .before .before .args in
+    let d = p .before in
+    let a = d .before .before .before .before .before .before .before .args in
     let s = now (a .sheet) in
-    configures-same s [] (once s) (a .direction) (bits-none (sheetData s .pdos)) (p .pass .ensures)
+    settings-are (d .clean .ensures)
+    (configures-same s [] (once s) (a .direction) (bits-none (sheetData s .pdos)) (p .pass .ensures))
 
 pub data-pass-spec : {M : Type 1} → statement M
-data-pass-spec = tie.close (tie.spec slice-aggregate-pass pass-requires same-length same-length-2 returns)
+data-pass-spec = tie.close (tie.spec slice-aggregate-pass clean-requires pass-requires same-length same-length-2 returns)

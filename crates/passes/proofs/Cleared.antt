@@ -1,0 +1,111 @@
+-- Old entries cleared: one entry, and all that a pass begins with; and 8, which counts from zero then.
+-- Assumes nothing.
+use mathlib.Core.Path.{_≡_, refl, sym, _∙_, ap, subst}
+use mathlib.Core.Bool.{Bool, true, false, cond}
+use mathlib.Core.List.{List, [], _∷_, map}
+use mathlib.Core.Logic.{_⊎_, inl, inr, ⊎-elim}
+use Prim.Native.Nat.{ℕ, _+_, _<_, _≤_}
+use native.Mathlib.Nat.{zero-add}
+use native.Mathlib.Decide.{ℕ-discrete}
+use native.Mathlib.Omega.{arith}
+use lib.ListN.{length, getD, replicate, length-map, List·getD-map}
+use lib.Dec.{ltb}
+use borrow.Author.Tests.{le-ltb, ne-eqb}
+use Rattle.wire.specs.Lists.{someOf}
+use Rattle.wire.proofs.Lists.{or-none, some-same}
+use Rattle.fmmu.specs.Image.{fieldsOf}
+use Rattle.area.proofs.Flat.{Rows}
+use Rattle.pdo.specs.declared.PdoDirection.{PdoDirection}
+use Rattle.passes.specs.declared.OldEntries.{OldEntries}
+use Rattle.passes.specs.declared.OldEntries.the-variants.{Clear, Keep}
+use Rattle.passes.specs.Use.{Use, totalOn}
+use Rattle.passes.specs.Old.{isOld, cleared, beginning, bothBits, someEnabled, inTheWay}
+use Rattle.passes.specs.Entries.{lengthNow, tooLong}
+
+-- a disabled entry
+abbrev pub Off : List ℕ → Type 0
+Off e = fieldsOf e .enable ≡ false
+
+pub zeros-off : Off (replicate 16 0)
+unfolding fieldsOf
+zeros-off = refl
+
+pub nil-off : Off []
+unfolding fieldsOf
+nil-off = refl
+
+-- an old entry, and one that is none
+pub cleared-old : (r : PdoDirection) (e : List ℕ) → isOld r (fieldsOf e) ≡ true → cleared r e ≡ replicate 16 0
+unfolding cleared
+cleared-old r e h = ap (λ (b : Bool). cond b (replicate 16 0) e) h
+
+pub cleared-not : (r : PdoDirection) (e : List ℕ) → isOld r (fieldsOf e) ≡ false → cleared r e ≡ e
+unfolding cleared
+cleared-not r e h = ap (λ (b : Bool). cond b (replicate 16 0) e) h
+
+-- a disabled entry is none, so it stays
+pub cleared-off : (r : PdoDirection) (e : List ℕ) → Off e → cleared r e ≡ e
+cleared-off r e h = cleared-not r e (rw h refl)
+
+-- a fact of an entry cleared, given of zeros, and of the entry where it is no old one
+pub cleared-has : (r : PdoDirection) (e : List ℕ) (P : List ℕ → Type 0) → P (replicate 16 0) → (isOld r (fieldsOf e) ≡ false → P e) → P (cleared r e)
+cleared-has r e P zeros same = go (isOld r (fieldsOf e)) refl
+  where
+    go : (b : Bool) → isOld r (fieldsOf e) ≡ b → P (cleared r e)
+    go true h = subst P (sym (cleared-old r e h)) zeros
+    go false h = subst P (sym (cleared-not r e h)) (same h)
+
+-- what a pass begins with: entry by entry, as many, each as long
+pub cleared-at : (r : PdoDirection) (es : List (List ℕ)) (k : ℕ) → getD (map (cleared r) es) k [] ≡ cleared r (getD es k [])
+cleared-at r es k = ap (getD (map (cleared r) es) k) (sym (cleared-off r [] nil-off)) ∙ List·getD-map (cleared r) es k []
+
+pub begun-length : (old : OldEntries) (r : PdoDirection) (es : List (List ℕ)) → length (beginning old r es) ≡ length es
+begun-length Keep r es = refl
+begun-length Clear r es = length-map es (cleared r)
+
+pub rows-begun : (old : OldEntries) (r : PdoDirection) (es : List (List ℕ)) → Rows 16 es → Rows 16 (beginning old r es)
+rows-begun Keep r es h = h
+rows-begun Clear r [] h = tt
+rows-begun Clear r (e ∷ es) h = (cleared-has r e (λ x. length x ≡ 16) refl (λ z. h .0), rows-begun Clear r es (h .1))
+
+-- a disabled entry has no length
+pub length-off : (e : List ℕ) → Off e → lengthNow e ≡ 0
+length-off e o = ap (λ (b : Bool). cond b (fieldsOf e .«length_bytes» .0) 0) o
+
+pub cleared-short : (r : PdoDirection) (e : List ℕ) → lengthNow e ≤ 65535 → lengthNow (cleared r e) ≤ 65535
+cleared-short r e h = cleared-has r e (λ x. lengthNow x ≤ 65535) (let z = length-off (replicate 16 0) zeros-off in omega arith) (λ n. h)
+
+-- where none that is used is enabled, an entry is disabled or no use is on it
+off-or-unused : (us : List Use) (es : List (List ℕ)) (k : ℕ) → someEnabled us es ≡ false → Off (getD es k []) ⊎ (totalOn k us ≡ 0)
+unfolding totalOn
+off-or-unused [] es k e = inr refl
+off-or-unused (u ∷ us) es k e =
+    let f = or-none (fieldsOf (getD es (u .entry) []) .enable) (someEnabled us es) e in
+    go (ℕ-discrete (u .entry) k) (f .0) (off-or-unused us es k (f .1))
+  where
+    go : Dec (u .entry ≡ k) → Off (getD es (u .entry) []) → Off (getD es k []) ⊎ (totalOn k us ≡ 0) → Off (getD es k []) ⊎ (totalOn k (u ∷ us) ≡ 0)
+    go (yes i) o rest = inl (subst (λ (j : ℕ). Off (getD es j [])) i o)
+    go (no i) o rest = ⊎-elim (λ f. inl f) (λ t. inr (rw (ne-eqb (u .entry) k i) (zero-add (totalOn k us) ∙ t))) rest
+
+-- where each entry is disabled or unused, 8 counts from zero
+pub from-zero :
+    (us : List Use) (ls es : List (List ℕ)) → ((k : ℕ) → k < 16 → lengthNow (getD ls k []) ≤ 65535) → ((k : ℕ) → Off (getD ls k []) ⊎ (totalOn k us ≡ 0))
+    → tooLong Keep us ls ≡ tooLong Clear us es
+unfolding tooLong
+from-zero us ls es short f =
+    some-same (λ k. ltb 65535 (lengthNow (getD ls k []) + totalOn k us)) (λ k. ltb 65535 (0 + totalOn k us)) 16
+    (λ k h.
+    ⊎-elim
+    (λ o. ap (λ (n : ℕ). ltb 65535 (n + totalOn k us)) (length-off (getD ls k []) o))
+    (λ z. let l = short k h in le-ltb 65535 (lengthNow (getD ls k []) + totalOn k us) (omega arith) ∙ sym (le-ltb 65535 (0 + totalOn k us) (omega arith)))
+    (f k))
+
+-- where nothing is in the way, 8 on the entries cleared is 8 from zero
+pub cleared-eight :
+    (r : PdoDirection) (us : List Use) (es : List (List ℕ)) → ((k : ℕ) → k < 16 → lengthNow (getD es k []) ≤ 65535) → inTheWay Clear r us es ≡ false
+    → tooLong Keep us (map (cleared r) es) ≡ tooLong Clear us es
+unfolding inTheWay
+cleared-eight r us es short free =
+    from-zero us (map (cleared r) es) es
+    (λ k h. subst (λ (e : List ℕ). lengthNow e ≤ 65535) (sym (cleared-at r es k)) (cleared-short r (getD es k []) (short k h)))
+    (λ k. off-or-unused us (map (cleared r) es) k (or-none (someOf bothBits es) (someEnabled us (map (cleared r) es)) free .1))
