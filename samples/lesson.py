@@ -2,7 +2,9 @@
 """What docs/TRAINING.md and docs/SHEET.md show by the program `probe`: asks it and prints its answers as a student reads them.
 
     python3 samples/lesson.py gap           a merged FMMU doesn't follow the second sync manager
-    python3 samples/lesson.py stale         an input pass on the registers of a cancelled job, then on fresh ones
+    python3 samples/lesson.py stale         an input pass on the registers of a cancelled job, keeping old entries and by default
+    python3 samples/lesson.py in-the-way    the default on entries that it doesn't clear
+    python3 samples/lesson.py repair        a sync manager is added to a bay in service, keeping old entries and by default
     python3 samples/lesson.py group         an input pass in a group that doesn't begin at 0
     python3 samples/lesson.py exercise-6    the pass of docs/EXERCISES.md's exercise 6
     python3 samples/lesson.py exercise-7    that of exercise 7
@@ -20,7 +22,7 @@ from pathlib import Path
 ROOT = Path(__file__).resolve().parent.parent
 sys.path.append(str(ROOT / "tests"))
 
-from build import SAMPLE, SAMPLE_DATA, STALE, area, device, eeprom, entry, managers, on_eeprom, sheet
+from build import BOXES, FIVE, SAMPLE, SAMPLE_DATA, STALE, area, coe, device, eeprom, entry, managers, on_coe, on_eeprom, sheet
 from portions import KEPT
 from registers import LIMIT, Fmmu, segment_text
 from stored import sample
@@ -81,8 +83,12 @@ def fmmus_after(line):
 # ---- the lessons: each asks, and yields lines
 
 
-def input_pass(fmmus=area(), **words):
-    return Request("p", fmmus=fmmus, channels=bytes(128), **words)
+DEFAULT, KEEPING = "p", "K"
+WAYS = {"keeping": KEEPING, "by default": DEFAULT}
+
+
+def input_pass(fmmus=area(), way=DEFAULT, **words):
+    return Request(way, fmmus=fmmus, channels=bytes(128), **words)
 
 
 def gap(ask):
@@ -93,21 +99,61 @@ def gap(ask):
     yield from map(both_ways, lines)
 
 
-def on_registers(ask, name, before, offset):
-    """The inputs of bay.hex, from an offset, on an FMMU area that isn't fresh; and both ways up to where they end."""
-    [[passed]] = ask([(f"{name}: the input pass", input_pass(before, a=offset, sheet=SAMPLE))])
+def both_ways_on(ask, name, inputs, bay):
+    """An input pass that is accepted: its segment, entry 1, and both ways for a bay's sheet, counted from an offset."""
+    [[passed]] = ask([(f"{name}: the input pass", inputs)])
     after = fmmus_after(passed)
-    both = Request("A", a=offset, times=offset + 7, sheet=SAMPLE, fmmus=after)
+    offset, counted = bay
+    both = Request("A", a=offset, times=inputs.a + 7, sheet=counted, fmmus=after)
     [[read], lines] = ask([(f"{name}: entry 1", Request("R", fmmus=after[16:32])), (f"{name}: both ways", both)])
     yield segment(passed)
     yield entry_one(read)
     yield from map(both_ways, lines)
 
 
+def on_registers(ask, before, offset):
+    """The inputs of bay.hex, from an offset, on an FMMU area that isn't fresh; and both ways up to where they end."""
+    for name, way in WAYS.items():
+        yield f"{name}:"
+        yield from both_ways_on(ask, name, input_pass(before, way, a=offset, sheet=SAMPLE), (offset, SAMPLE))
+
+
 def stale(ask):
-    for name, before in (("the cancelled job's registers", STALE), ("fresh registers", area())):
-        yield f"on {name}:"
-        yield from on_registers(ask, name, before, 5)
+    return on_registers(ask, STALE, 5)
+
+
+OLD = [
+    ("FMMU1 enabled with W", area(entry(0, 5, 0x1180, 2), first=1)),
+    ("FMMU1 enabled with O", area(entry(0, 5, 0x1180, 0), first=1)),
+    ("FMMU7 enabled with RW", area(entry(0, 5, 0x1180, 3), first=7)),
+    ("FMMU7 enabled with W", area(entry(0, 5, 0x1180, 2), first=7)),
+    ("FMMU1 disabled with RW", area(entry(0, 5, 0x1180, 3, on=0), first=1)),
+]
+
+
+def in_the_way(ask):
+    asked = [(name, input_pass(fmmus, a=5, sheet=SAMPLE)) for name, fmmus in OLD]
+    for (name, _), [line] in zip(OLD, ask(asked)):
+        words = line.split()
+        yield f"{name}: " + (f"refused {words[1]}" if words[0] == "refused" else segment(line))
+
+
+# a board of two bytes behind SM4 of bay.hex: a sheet that plans it alone, the others being of no direction, and the whole bay's
+BOARD = (0x1185, 0x20, 1, 4)
+BOARD_ALONE = on_coe(coe(5, 0x1A02, 16), rows=managers(*BOXES, *[(start, control, 1, 0) for start, control, _, _ in FIVE[2:]], BOARD))
+WITH_BOARD = on_coe(coe(3, 0x1A00, 17), coe(4, 0x1A01, 9), coe(5, 0x1A02, 16), rows=managers(*FIVE, BOARD))
+
+
+def repair(ask):
+    [[passed]] = ask([("repair: the bay in service", input_pass(sheet=SAMPLE))])
+    [[read]] = ask([("repair: entry 1 in service", Request("R", fmmus=fmmus_after(passed)[16:32]))])
+    yield "in service:"
+    yield segment(passed)
+    yield entry_one(read)
+    for name, way in WAYS.items():
+        yield f"{name}:"
+        board = input_pass(fmmus_after(passed), way, a=5, sheet=BOARD_ALONE)
+        yield from both_ways_on(ask, name, board, (0, WITH_BOARD))
 
 
 def in_group(ask, start, offset):
@@ -122,7 +168,7 @@ def group(ask):
 
 
 def exercise_6(ask):
-    return on_registers(ask, "exercise 6", area(entry(2, 3, 0x1180), first=1), 0x10)
+    return on_registers(ask, area(entry(2, 3, 0x1180), first=1), 0x10)
 
 
 def exercise_7(ask):
@@ -191,7 +237,7 @@ CALLS = [
     ("an input pass of nothing on an FMMU area of 255 bytes", input_pass(bytes(255), sheet=NO_PARTS)),
     ("writer::write of data whose f is 16,376", Request("v", room=KEPT, fmmus=device(f=16_376))),
     ("writer::write of data with a PDO and no lent bytes", Request("v", room=KEPT, fmmus=device(p=1))),
-    ("an input pass of 1 bit on an enabled entry of 65,535 bytes", input_pass(area(entry(0, 65_535, 0)), sheet=ONE_BIT)),
+    ("an input pass of 1 bit on an enabled entry of 65,535 bytes, keeping", input_pass(area(entry(0, 65_535, 0)), KEEPING, sheet=ONE_BIT)),
     ("PdiOffset::increment by 1 byte from offset 0xffffffff", Request("i", a=LIMIT, c=1)),
     ("an input pass of 1 bit from offset 0xffffffff", input_pass(a=LIMIT, sheet=ONE_BIT)),
     ("PdiSegment::less of 0 up to 0, group start 1", Request("g", c=1)),
@@ -201,6 +247,8 @@ CALLS = [
     ("writer::write of data with no parts into room of 10 bytes", Request("v", room=10, fmmus=device())),
     ("Fmmu::pack_to_slice of a record with start bit 8", Request("W", room=16, fmmus=START_BIT_8)),
     ("portions::end with room of 16,385 bytes", Request("t", room=KEPT - 1)),
+    ("an input pass of nothing beside an enabled entry with both bits", input_pass(area(entry(0, 0, 0, 3)), sheet=NO_PARTS)),
+    ("an input pass of 1 bit on an enabled entry of outputs", input_pass(area(entry(0, 0, 0, 2)), sheet=ONE_BIT)),
 ]
 
 
@@ -212,6 +260,8 @@ def refused(ask):
 LESSONS = {
     "gap": gap,
     "stale": stale,
+    "in-the-way": in_the_way,
+    "repair": repair,
     "group": group,
     "exercise-6": exercise_6,
     "exercise-7": exercise_7,

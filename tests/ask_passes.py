@@ -1,11 +1,18 @@
-"""Requests to the passes: each bay's mailbox pass, then its data passes over the areas that the one before left."""
+"""Requests to the passes: each bay's mailbox pass, then its data passes over the areas that the one before left.
+
+Each bay's data passes are asked in the default and keeping, from the same areas.
+"""
 
 from ask_sheets import longest
 from bays import EITHER_ORDER, ONE_ORDER
 from build import SAMPLE
-from planning import configure_fmmus, configure_mailboxes
+from planning import OldEntries, configure_fmmus, configure_mailboxes
 from registers import Refused
 from stream import Request
+
+DIRECTIONS = "inputs", "outputs"
+# how each is asked for, and what a request's name then says
+LETTERS = {OldEntries.CLEAR: ("p", ""), OldEntries.KEEP: ("K", ", keeping")}
 
 
 def after(change, *lent):
@@ -16,29 +23,34 @@ def after(change, *lent):
         return None
 
 
-def data_passes(bay, fmmus, channels, order):
+def data_passes(bay, channels, order, old):
     """A pass starts where the one before ended, or where that one started if it was refused."""
-    offset = bay.offset
+    offset, fmmus, channels = bay.offset, bytearray(bay.fmmus), bytearray(channels)
+    letter, told = LETTERS[old]
     for write in order:
-        name = f"{bay.name}: {'outputs' if write else 'inputs'}"
-        yield name, Request(
-            "p", write, a=offset, b=bay.group, sheet=bay.sheet, table=bay.table,
+        yield f"{bay.name}{told}: {DIRECTIONS[write]}", Request(
+            letter, write, a=offset, b=bay.group, sheet=bay.sheet, table=bay.table,
             fmmus=bytes(fmmus), channels=bytes(channels),
         )
-        answer = after(configure_fmmus, write, offset, bay.group, bay.sheet, bay.table, fmmus, channels)
+        answer = after(configure_fmmus, write, offset, bay.group, bay.sheet, bay.table, fmmus, channels, old)
         offset = answer[2] if answer else offset
 
 
+def either_way(bay, channels, order):
+    for old in OldEntries:
+        yield from data_passes(bay, channels, order, old)
+
+
 def passes(bay):
-    fmmus, channels = bytearray(bay.fmmus), bytearray(bay.channels)
+    channels = bytearray(bay.channels)
     yield f"{bay.name}: mailboxes", Request("m", sheet=bay.sheet, channels=bay.channels)
     after(configure_mailboxes, bay.sheet, channels)
-    yield from data_passes(bay, fmmus, channels, (0, 1))
+    yield from either_way(bay, channels, (0, 1))
 
 
 def other_order(bay):
     """Outputs first, over sync managers that no mailbox pass has written."""
-    yield from data_passes(bay, bytearray(bay.fmmus), bytearray(bay.channels), (1, 0))
+    yield from either_way(bay, bay.channels, (1, 0))
 
 
 def ask():
@@ -52,5 +64,6 @@ def ask():
 
 def limits():
     lent = dict(fmmus=bytes(256), channels=bytes(128))
-    yield "any other direction is MasterWrite", Request("p", 255, sheet=SAMPLE, **lent)
-    yield "L is 16384", Request("p", sheet=longest(16_384)[:16_386], **lent)
+    for letter, told in LETTERS.values():
+        yield f"any other direction is MasterWrite{told}", Request(letter, 255, sheet=SAMPLE, **lent)
+        yield f"L is 16384{told}", Request(letter, sheet=longest(16_384)[:16_386], **lent)

@@ -2,7 +2,7 @@
 
 from bays import IN, OUT, PAIR
 from build import FOUR, SAMPLE, STALE, area, coe, eeprom, entry, managers, on_coe, on_eeprom, sheet
-from planning import configure_fmmus
+from planning import OldEntries, configure_fmmus
 from registers import LIMIT
 from stored import sample
 from stream import Request
@@ -17,11 +17,11 @@ AT_THE_END = on_eeprom(eeprom(1, 0, IN, 24), rows=managers((0xFFFE, 0x20, 1, 4))
 LARGE = on_eeprom(eeprom(1, 0, IN, 65_528), rows=managers((0x1000, 0x20, 1, 4)))
 
 
-def planned(sheet, passes, fmmus=area(), table=()):
+def planned(sheet, passes, fmmus=area(), table=(), old=OldEntries.CLEAR):
     """The FMMU area after the passes, each (direction, offset)."""
     fmmus, channels = bytearray(fmmus), bytearray(128)
     for write, offset in passes:
-        configure_fmmus(write, offset, 0, sheet, table, fmmus, channels)
+        configure_fmmus(write, offset, 0, sheet, table, fmmus, channels, old)
     return bytes(fmmus)
 
 
@@ -69,10 +69,33 @@ def tables():
 
 
 def stale():
-    """Last spring's fault, and the same passes on a fresh area."""
+    """Last spring's fault, which is keeping; the same passes in the default, and on a fresh area."""
     passes = [(0, 5), (1, 10)]
-    for name, fmmus in (("a stale entry", STALE), ("a fresh area", area())):
-        yield from both_sides(name, SAMPLE, passes, planned(SAMPLE, passes, fmmus), (0, 15), "TC")
+    for name, fmmus, old in (
+        ("a stale entry, keeping", STALE, OldEntries.KEEP),
+        ("a stale entry", STALE, OldEntries.CLEAR),
+        ("a fresh area", area(), OldEntries.CLEAR),
+    ):
+        yield from both_sides(name, SAMPLE, passes, planned(SAMPLE, passes, fmmus, old=old), (0, 15), "ATC")
+
+
+def old_areas(own):
+    """Areas in which entries with these rights were left; none of them is in the way of a pass that clears them."""
+    odd = entry(0, 4, 0x1180, own, bits=(1, 7, 0), reserved=True)
+    yield "old entries everywhere", area(*[entry(8 * k, 8, 0x3000, own) for k in range(16)])
+    yield "an old entry of odd bits", area(odd, odd)
+    yield "old and disabled entries", area(entry(0, 9, 0x3000, own), entry(2, 4, 0x4000, own), entry(0, 9, 0x5000, 3, 0))
+    yield "another job's entries", area(entry(0, 9, 0x3000, own), entry(0, 40, 0x4000, 3 - own), first=3)
+
+
+def used():
+    """In the default both sides agree for the pass's direction, whatever stood in the area; keeping, they needn't."""
+    for write in (0, 1):
+        for name, fmmus in old_areas(2 if write else 1):
+            for path, data in (("the sample", SAMPLE), ("a gap, EEPROM", OWN), ("empty between", EMPTY_BETWEEN)):
+                for told, old in (("", OldEntries.CLEAR), (", keeping", OldEntries.KEEP)):
+                    after = planned(data, [(write, 3)], fmmus, old=old)
+                    yield from both_sides(f"{path} over {name}{told}", data, [(write, 3)], after, (0, 40), "A")
 
 
 def translation():
@@ -154,5 +177,5 @@ def refused_sides():
 
 
 def ask():
-    for part in (agreeing, far, tables, stale, translation, eleven, counting, refused_sides):
+    for part in (agreeing, far, tables, stale, used, translation, eleven, counting, refused_sides):
         yield from part()

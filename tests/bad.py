@@ -96,7 +96,7 @@ def parts():
     yield between("all at their most", longest("R"), "refused 1")
     past = {"room": ROOM + 1, "sheet": bytes(SHEET + 1), "fmmus": bytes(FMMUS + 1), "channels": bytes(CHANNELS + 1)}
     past["table"] = last[:1] + last
-    for letter in "sprtHwvz":
+    for letter in "spKrtHwvz":
         for part, value in past.items():
             yield refused(f"{letter}, {part} past its limit", Request(letter, **zeros(letter) | {part: value}).bytes() + GOOD)
 
@@ -139,6 +139,10 @@ def refusals():
     yield between("the first pass refused is named", Request("B", a=2, sheet=seven), "refused 7")
     yield between("lockerplan refuses", Request("L", sheet=seven), "refused 7")
     yield between("any other direction", Request("C", write=255, sheet=SAMPLE), "2 0 4352")
+    used = dict(sheet=SAMPLE[:-1], a=7, fmmus=area(entry(0, 1, 0)), channels=bytes(128))
+    for letter in "pK":
+        as_it_came = f"refused 2 7 {used['fmmus'].hex()} {used['channels'].hex()}"
+        yield between(f"a pass refuses, {letter}", Request(letter, **used), as_it_came)
     strange = Request("z", room=1, sheet=SAMPLE, table=[(1, 2)], fmmus=bytes(3), channels=bytes(5))
     yield between("no such letter, with parts", strange, "no such entry point")
 

@@ -1,6 +1,7 @@
 """The bays that the passes are tried on.
 
-Document 01's sample, both paths, the limits of each rule, each refusal alone and beside its neighbours.
+Document 01's sample, both paths, the limits of each rule, each refusal alone and beside its neighbours. Where an entry is
+in use before the first pass, keeping adds to it, and the default clears it or refuses with 15; ask_old.py has more of that.
 """
 
 from typing import NamedTuple
@@ -35,10 +36,10 @@ SIXTEEN = managers(
     *BOXES, (0x1100, 0x64, 1, 3), (0x1180, 0x20, 1, 4),
     *[(0x1000 + 256 * k, 0x24 - 4 * (k % 2), 1, 3 + k % 2) for k in range(4, 16)],
 )
-FULL = area(entry(0, 65535, 0, 2), entry(0, 65535, 0))
+FULL = area(entry(0, 65535, 0, 2), entry(0, 65535, 0))  # keeping, a byte more on either is 8
 
 
-def kept(old):
+def with_old(old):
     """An area whose entry 1 is as given: the inputs' entry on both paths."""
     return area(old, first=1)
 
@@ -153,21 +154,21 @@ NEAR = entry(77, 65533, 0x2222, reserved=True)
 STALE = entry(77, 65535, 0x2222, 3, 0, reserved=True)
 TWO_BYTES_IN = on_coe(coe(3, IN, 16))
 USED = [
-    bay("an enabled entry kept", TWO_BYTES_IN, offset=100, fmmus=kept(entry(77, 4, 0x2222))),
-    bay("an enabled entry kept, reserved bits set", TWO_BYTES_IN, offset=100,
-        fmmus=kept(entry(0x01020304, 4, 0x2222, reserved=True))),
-    bay("an enabled entry kept, 0 bits, EEPROM", on_eeprom(), fmmus=kept(OLD)),
-    bay("an enabled entry kept, 0 bits, CoE", on_coe(), fmmus=kept(OLD)),
-    bay("an enabled entry of the other direction", TWO_BYTES_IN, fmmus=kept(entry(77, 4, 0x2222, 2))),
-    bay("an enabled entry of neither direction", TWO_BYTES_IN, fmmus=kept(entry(77, 4, 0x2222, 0))),
-    bay("bits 3 to 4 at 5 kept", TWO_BYTES_IN, fmmus=kept(entry(0, 1, 0x1000, 3, bits=(3, 4, 5), reserved=True))),
-    bay("length 65,535 exactly", TWO_BYTES_IN, fmmus=kept(NEAR)),
-    bay("length 65,536", on_coe(coe(3, IN, 17)), fmmus=kept(NEAR)),
-    bay("65,535 plus 1, EEPROM", on_eeprom(ONE_IN), fmmus=kept(entry(77, 65535, 0x2222))),
-    bay("65,535 plus 0, EEPROM", on_eeprom(), fmmus=kept(entry(77, 65535, 0x2222))),
+    bay("an enabled entry", TWO_BYTES_IN, offset=100, fmmus=with_old(entry(77, 4, 0x2222))),
+    bay("an enabled entry, reserved bits set", TWO_BYTES_IN, offset=100,
+        fmmus=with_old(entry(0x01020304, 4, 0x2222, reserved=True))),
+    bay("an enabled entry, 0 bits, EEPROM", on_eeprom(), fmmus=with_old(OLD)),
+    bay("an enabled entry, 0 bits, CoE", on_coe(), fmmus=with_old(OLD)),
+    bay("an enabled entry of the other direction", TWO_BYTES_IN, fmmus=with_old(entry(77, 4, 0x2222, 2))),
+    bay("an enabled entry of neither direction", TWO_BYTES_IN, fmmus=with_old(entry(77, 4, 0x2222, 0))),
+    bay("an enabled entry of bits 3 to 4 at 5", TWO_BYTES_IN, fmmus=with_old(entry(0, 1, 0x1000, 3, bits=(3, 4, 5), reserved=True))),
+    bay("65,533 plus 2", TWO_BYTES_IN, fmmus=with_old(NEAR)),
+    bay("65,533 plus 3", on_coe(coe(3, IN, 17)), fmmus=with_old(NEAR)),
+    bay("65,535 plus 1, EEPROM", on_eeprom(ONE_IN), fmmus=with_old(entry(77, 65535, 0x2222))),
+    bay("65,535 plus 0, EEPROM", on_eeprom(), fmmus=with_old(entry(77, 65535, 0x2222))),
     bay("65,535 in an entry unused", on_eeprom(ONE_IN), fmmus=area(entry(77, 65535, 0x2222), first=2)),
-    bay("a stale entry of 65,535", TWO_BYTES_IN, offset=9, fmmus=kept(STALE)),
-    bay("a stale entry, EEPROM", on_eeprom(), offset=9, fmmus=kept(STALE)),
+    bay("a stale entry of 65,535", TWO_BYTES_IN, offset=9, fmmus=with_old(STALE)),
+    bay("a stale entry, EEPROM", on_eeprom(), offset=9, fmmus=with_old(STALE)),
     bay("every byte 255, EEPROM, 0 bits", on_eeprom(), fmmus=b"\xff" * 256, channels=b"\xff" * 128),
     bay("every byte 255", SAMPLE, fmmus=b"\xff" * 256, channels=b"\xff" * 128),
     bay("bytes of all kinds", SAMPLE, fmmus=pattern(256)),
@@ -199,19 +200,19 @@ REFUSED = [
     bay("6 alone", on_coe(coe(2, OUT, 255, 255), coe(3, IN, 255, 255)), [(OUT, 255), (IN, 255)]),
     bay("7 alone", on_coe(coe(2, OUT, 1), coe(3, IN, 1), usages=(0, 3))),
     bay("7 for inputs alone", on_coe(coe(2, OUT, 8), coe(3, IN, 8), usages=(1, 1))),
-    bay("8 alone", on_eeprom(ONE_IN, ONE_OUT), fmmus=FULL),
+    bay("full entries", on_eeprom(ONE_IN, ONE_OUT), fmmus=FULL),
     bay("9 alone", on_eeprom(ONE_IN, ONE_OUT), offset=LIMIT),
     bay("10 alone", on_eeprom(ONE_IN, ONE_OUT), offset=3, group=4),
     bay("5 and 6", on_eeprom(eeprom(1, 1, IN, 65529), rows=managers((0, 0x02, 0, 0), (0, 0x0C, 0, 4)))),
     bay("6 and 7", on_coe(coe(3, IN, 255, 255), usages=()), [(IN, 255)]),
-    bay("6 and 8", on_eeprom(eeprom(1, 1, IN, 65529)), fmmus=kept(entry(0, 65535, 0))),
+    bay("6, full entries", on_eeprom(eeprom(1, 1, IN, 65529)), fmmus=with_old(entry(0, 65535, 0))),
     bay("7 and 9", on_coe(coe(2, OUT, 8), coe(3, IN, 8), usages=()), offset=LIMIT),
     bay("7 and 10", on_coe(coe(2, OUT, 8), coe(3, IN, 8), usages=()), group=1),
-    bay("8 and 9", on_eeprom(ONE_IN, ONE_OUT), fmmus=FULL, offset=LIMIT),
-    bay("8 and 10", on_eeprom(ONE_IN, ONE_OUT), fmmus=FULL, group=1),
-    bay("9 in one sync manager, 8 in a later one", on_eeprom(ONE_IN, eeprom(1, 0, IN + 1, 8), rows=TWO_IN),
-        offset=LIMIT, fmmus=kept(entry(0, 65535, 0))),
-    bay("6, 8, 9 and 10", on_eeprom(eeprom(1, 1, IN, 65529), ONE_OUT), offset=LIMIT - 1, group=LIMIT, fmmus=FULL),
+    bay("9, full entries", on_eeprom(ONE_IN, ONE_OUT), fmmus=FULL, offset=LIMIT),
+    bay("10, full entries", on_eeprom(ONE_IN, ONE_OUT), fmmus=FULL, group=1),
+    bay("9 in one sync manager, a full entry in a later one", on_eeprom(ONE_IN, eeprom(1, 0, IN + 1, 8), rows=TWO_IN),
+        offset=LIMIT, fmmus=with_old(entry(0, 65535, 0))),
+    bay("6, 9 and 10, full entries", on_eeprom(eeprom(1, 1, IN, 65529), ONE_OUT), offset=LIMIT - 1, group=LIMIT, fmmus=FULL),
     bay("9 and 10", on_eeprom(eeprom(1, 1, IN, 16), ONE_OUT), offset=LIMIT - 1, group=LIMIT),
 ]
 

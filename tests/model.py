@@ -10,6 +10,7 @@ import planning
 import portions
 import registers as reg
 import writer
+from planning import OldEntries
 from registers import LIMIT, Refused
 from sheet import COE, COMPLETE_ACCESS, MAILBOX, read_sheet
 from stream import BadRequest, calls, channel_record, device_record, fmmu_record, requests
@@ -78,10 +79,10 @@ def mailbox_answer(q):
     return f"{answer} {shown(channels)}"
 
 
-def pass_answer(q):
+def pass_answer(q, old):
     fmmus, channels = bytearray(q.fmmus), bytearray(q.channels)
     try:
-        answer = "ok " + listed(planning.configure_fmmus(q.write, q.a, q.b, q.sheet, q.table, fmmus, channels))
+        answer = "ok " + listed(planning.configure_fmmus(q.write, q.a, q.b, q.sheet, q.table, fmmus, channels, old))
     except Refused as refused:
         answer = f"refused {refused.args[0]} {q.a}"
     return f"{answer} {shown(fmmus)} {shown(channels)}"
@@ -228,7 +229,8 @@ ANSWERS = {
     "e": lambda q: byte_answer(reg.ENABLE, (q.c % 65_536).to_bytes(2, "little")),
     "d": lambda q: device_text(read_sheet(q.sheet)),
     "m": mailbox_answer,
-    "p": pass_answer,
+    "p": lambda q: pass_answer(q, OldEntries.CLEAR),
+    "K": lambda q: pass_answer(q, OldEntries.KEEP),
     "T": lambda q: or_none(planning.translate(q.write, q.fmmus, q.c)),
     "C": count_answer,
     "A": both_answer,

@@ -1,9 +1,10 @@
-"""Document 01's passes, translation and counting, and what `lockerplan` prints.
+"""Document 01's passes, translation and counting, with document 02's clean start (3/13), and what `lockerplan` prints.
 
-Worked out from document 01 alone: nothing here is read from the code that it is held against. An area is a bytearray
-that is lent; a pass that is refused leaves it alone. A table is a list of (PDO index, multiplier).
+Worked out from documents 01 and 02 alone: nothing here is read from the code that it is held against. An area is a
+bytearray that is lent; a pass that is refused leaves it alone. A table is a list of (PDO index, multiplier).
 """
 
+from enum import Enum
 from typing import NamedTuple
 
 from registers import CHANNEL, CONTROL, FMMU, LIMIT, MOST_BITS, Fmmu, Refused
@@ -12,6 +13,13 @@ from sheet import COMPLETE_ACCESS, DATA_READ, DATA_WRITE, MAILBOX, MAILBOX_READ,
 
 LAST_ADDRESS = 65_535
 MOST_LENGTH = 65_535
+
+
+class OldEntries(Enum):
+    """What a data pass does with the entries that it finds enabled: the default, and what is asked for by its name."""
+
+    CLEAR = "first sets to zero each one that carries its direction bit alone"
+    KEEP = "works as document 01 says"
 
 
 class Way(NamedTuple):
@@ -28,6 +36,10 @@ def way(write):
 
 def entry_at(fmmus, e):
     return read_fmmu(bytes(fmmus[16 * e : 16 * e + 16]))
+
+
+def entries_of(fmmus):
+    return [entry_at(fmmus, e) for e in range(16)]
 
 
 def write_manager(channels, k, manager, size):
@@ -91,13 +103,39 @@ def pass_rules(bits, used, offset):
     }
 
 
-def grown(fmmus, bits, used):
+def bits_alone(write):
+    """Read and write of an entry that carries the direction bit alone."""
+    return (0, 1) if write else (1, 0)
+
+
+def cleared(fmmus, write):
+    """The area with each enabled entry that carries the direction bit alone set to zero, all sixteen bytes."""
+    clean = bytearray(fmmus)
+    for e, entry in enumerate(entries_of(fmmus)):
+        if entry.enable and (entry.read, entry.write) == bits_alone(write):
+            clean[16 * e : 16 * e + 16] = bytes(16)
+    return clean
+
+
+def in_the_way(fmmus, used, write):
+    """15: an enabled entry with both bits, or a wanted entry still enabled after the clearing."""
+    both = any(entry.enable and entry.read and entry.write for entry in entries_of(fmmus))
+    clean = cleared(fmmus, write)
+    return both or any(entry_at(clean, e).enable for e in used.values() if e is not None)
+
+
+def length_before(fmmus, e, old):
+    """What 8 counts from: by default zero, whatever stands there; keeping, the length of an enabled entry."""
+    entry = entry_at(fmmus, e)
+    return entry.length if old is OldEntries.KEEP and entry.enable else 0
+
+
+def grown(fmmus, bits, used, old):
     """The exact length that each entry in use would have."""
     lengths = {}
     for k, e in used.items():
         if e is not None:
-            old = entry_at(fmmus, e)
-            lengths.setdefault(e, old.length if old.enable else 0)
+            lengths.setdefault(e, length_before(fmmus, e, old))
             lengths[e] += size_of(bits[k])
     return lengths
 
@@ -108,20 +146,26 @@ def write_entry(fmmus, e, offset, size, start, write):
     if old.enable:
         new = old._replace(length=old.length + size)
     else:
-        new = Fmmu(offset, size, 0, 7, start, 0, 0 if write else 1, 1 if write else 0, 1)
+        new = Fmmu(offset, size, 0, 7, start, 0, *bits_alone(write), 1)
     fmmus[16 * e : 16 * e + 16] = image(FMMU, new, 16)
 
 
-def configure_fmmus(write, offset, group, data, table, fmmus, channels):
-    """The segment's start and end, less the group start, and the next offset."""
+def configure_fmmus(write, offset, group, data, table, fmmus, channels, old=OldEntries.CLEAR):
+    """The segment's start and end, less the group start, and the next offset.
+
+    By default the pass first clears the old entries of its direction, then plans as if those were never there.
+    """
     demand({1: len(fmmus) != 256 or len(channels) != 128})
     sheet = read_sheet(data)
     bits = wanted_bits(sheet, table, write)
     used = entries_used(sheet, bits, write)
     rules = pass_rules(bits, used, offset)
-    rules[8] = any(length > MOST_LENGTH for length in grown(fmmus, bits, used).values())
+    rules[8] = any(length > MOST_LENGTH for length in grown(fmmus, bits, used, old).values())
     rules[10] = offset < group
+    rules[15] = old is OldEntries.CLEAR and in_the_way(fmmus, used, write)
     demand(rules)
+    if old is OldEntries.CLEAR:
+        fmmus[:] = cleared(fmmus, write)
     at = offset
     for k in bits:
         size = size_of(bits[k])
@@ -142,8 +186,7 @@ def in_reach(address):
 def translate(write, fmmus, address):
     """The device address that the FMMU bytes name, or None."""
     demand({1: len(fmmus) != 256})
-    entries = [entry_at(fmmus, e) for e in range(16)]
-    speaking = [entry for entry in entries if entry.enable and (entry.write if write else entry.read)]
+    speaking = [entry for entry in entries_of(fmmus) if entry.enable and (entry.write if write else entry.read)]
     demand({11: any(entry.bit_fields() != (0, 7, 0) for entry in speaking)})
     for entry in speaking:
         if entry.logical_start <= address < entry.logical_start + entry.length:
