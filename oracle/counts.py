@@ -3,7 +3,7 @@
 from collections import Counter
 
 WHOLE = 100_000
-# of so many plans, at least so many passes: about half of what the generator gives
+# of so many plans, at least so many passes: about half of what the generator gives; those in the default are named so
 MINIMUMS = {
     "CoE inputs, not empty": 10_000,
     "CoE outputs, not empty": 10_000,
@@ -19,9 +19,24 @@ MINIMUMS = {
     "mailboxes, two of a kind": 8_000,
     "refused 6": 4_000,
     "refused 7": 1_500,
-    "refused 8": 3_500,
+    "refused 8": 3_000,
     "refused 9": 10_000,
     "refused 10": 7_000,
+    "default, CoE inputs, not empty": 3_500,
+    "default, CoE outputs, not empty": 3_500,
+    "default, EEPROM inputs, not empty": 4_500,
+    "default, EEPROM outputs, not empty": 4_500,
+    "default, beside entries in use": 8_000,
+    "default, table with a repeat": 6_000,
+    "default, table with a zero": 4_000,
+    "default, a sync manager of 8,191 bytes": 800,
+    "default, an entry reaches 65,535 bytes": 40,
+    "default, the offset reaches 4,294,967,295": 150,
+    "default, refused 6": 1_500,
+    "default, refused 7": 700,
+    "default, refused 8": 150,
+    "default, refused 9": 4_000,
+    "default, refused 10": 2_500,
 }
 
 
@@ -38,7 +53,13 @@ def kinds(request, answer):
     """What there is to count in one pass and its answer."""
     if request.letter == "m":
         yield from mailbox_kinds(request)
-        return
+    elif request.letter == "K":
+        yield from data_kinds(request, answer)
+    else:
+        yield from (f"default, {kind}" for kind in data_kinds(request, answer))
+
+
+def data_kinds(request, answer):
     words = answer.split(" ")
     if words[0] != "ok":
         yield " ".join(words[:2])
@@ -52,6 +73,8 @@ def kinds(request, answer):
     fmmus, channels = bytes.fromhex(words[4]), bytes.fromhex(words[5])
     if merges(request.fmmus, fmmus):
         yield "added to a used entry"
+    elif any(enabled(request.fmmus, at) for at in range(0, 256, 16)):
+        yield "beside entries in use"
     if fmmus != request.fmmus and any(length(fmmus, at) == 65535 > length(request.fmmus, at) for at in range(0, 256, 16)):
         yield "an entry reaches 65,535 bytes"
     if any(channels[at + 2 : at + 4] == b"\xff\x1f" for at in range(0, 128, 8)) and channels != request.channels:
@@ -80,6 +103,10 @@ def length(area, at):
     return area[at + 4] | area[at + 5] << 8
 
 
+def enabled(area, at):
+    return area[at + 12] & 1
+
+
 def merges(before, after):
     """Whether an entry that was enabled is longer now."""
-    return any(before[at + 12] & 1 and length(before, at) < length(after, at) for at in range(0, 256, 16))
+    return any(enabled(before, at) and length(before, at) < length(after, at) for at in range(0, 256, 16))

@@ -14,6 +14,9 @@ PASSES = "src/subdevice/configuration.rs.txt"
 NO_GROUP = ("group_start_address", "0u32")
 GROUP_WRAPS = (" - group_start_address as usize", ".wrapping_sub(group_start_address as usize)")
 PRODUCT_WRAPS = (" * u16::from(oversampling)", ".wrapping_mul(u16::from(oversampling))")
+# whether an enabled entry carries the pass's direction bit, and whether it ends where the pass goes on
+OWN_BIT = "(if desired_sm_type == SyncManagerType::ProcessDataRead { fmmu_config.read_enable } else { fmmu_config.write_enable })"
+ENDS_HERE = "fmmu_config.logical_start_address.wrapping_add(fmmu_config.length_bytes.into()) == global_offset.start_address"
 
 
 def at_the_end(offset):
@@ -44,6 +47,8 @@ TEXTS = [
     ("CoE uses the last entry of a usage", [(PASSES, 400, ".position", ".rposition")]),
     ("inputs use the entry of outputs", [(PASSES, 594, "Inputs", "Outputs")]),
     ("a new entry's end bit is 0", [(PASSES, 452, "7", "0")]),
+    ("an entry of the other direction is made new", [(PASSES, 441, "if fmmu_config.enable", f"if fmmu_config.enable && {OWN_BIT}")]),
+    ("an entry that was left is made new", [(PASSES, 441, "if fmmu_config.enable", f"if fmmu_config.enable && {ENDS_HERE}")]),
     ("a merge sets the direction's bit", [(PASSES, 442, ";", "; fmmu_config.read_enable |= desired_sm_type == SyncManagerType::ProcessDataRead;")]),
     ("without a match the multiplier is 0", [(PASSES, 373, "1", "0")]),
     # sums that wrap: what 6, 8, 9 and 10 refuse is accepted

@@ -1,10 +1,11 @@
 #!/usr/bin/env python3
-"""Holds the stored answers of the crate itself (tests/oracle.answers, made by oracle/compare --store) to those of crates/probe/stdout,
-which the gate compares with what the probe writes.
+"""Holds the stored answers of the crate itself to those of crates/probe/stdout, which the gate compares with what the probe writes.
 
     python3 tests/oracle.py
 
-Two lines agree if they are equal, or if the crate fails and the probe refuses with 6 to 10.
+Both files, tests/oracle.requests and tests/oracle.answers, are made by oracle/compare --store 400; the answers are the crate's
+alone. A data pass over a used area asks keeping (K), as the crate knows no other way; one in the default (p) is asked only where
+clearing changes nothing. Two lines agree if they are equal, or if the crate fails and the probe refuses with 6 to 10.
 """
 
 import re

@@ -1,5 +1,6 @@
 //! Answers a request as the probe would, with `fails` where the text fails. What the text has no counterpart of is
-//! answered so, and never generated.
+//! answered so, and never generated. The text keeps old entries and knows no other way, so `p` is answered as `K`: it is
+//! generated where that is right.
 
 use crate::fmmu::Fmmu;
 use crate::pdi::{PdiOffset, PdiSegment};
@@ -45,7 +46,7 @@ pub fn one(request: &Request) -> String {
         b'f' => fmmu(&request.fmmus).map_or(no_counterpart(), |record| text(request.room, record)),
         b'y' => channel(&request.channels).map_or(no_counterpart(), |record| text(request.room, record)),
         b'm' => mailboxes(request),
-        b'p' => data(request),
+        b'p' | b'K' => data(request),
         _ => no_counterpart(),
     };
     answer.unwrap_or(FAILS.to_string())

@@ -1,8 +1,10 @@
-//! Writes requests with the oracle's answers: the leaves first, then plans.
+//! Writes requests with the oracle's answers: the leaves first, then plans. A data pass is asked keeping old entries, which is
+//! what the text does; where clearing changes nothing it is asked in the default too, and the text's answer is the same.
 
 use crate::answer::{self, one, turn};
 use crate::chance::Chance;
 use crate::leaves;
+use crate::old;
 use crate::plans::{Pass, Plan};
 use crate::register::Areas;
 use crate::request::Request;
@@ -46,7 +48,13 @@ fn follow(plan: &Plan, failures: &mut Failures, emit: &mut impl FnMut(&Request, 
     for pass in &plan.passes {
         let request = ask(plan, *pass, offset, &areas);
         let answer = one(&request);
-        emit(&request, &answer)?;
+        for letter in letters(plan, *pass, &areas) {
+            emit(&Request { letter: *letter, ..request.clone() }, &answer)?;
+            if !answer.starts_with("ok ") {
+                failures.passes += 1;
+                failures.written += u64::from(writes(&plan.sheet, &request, &areas));
+            }
+        }
         let words: Vec<&str> = answer.split(' ').collect();
         match words[..] {
             ["ok", .., channels] if request.letter == b'm' => areas.channels = bytes(channels),
@@ -54,13 +62,19 @@ fn follow(plan: &Plan, failures: &mut Failures, emit: &mut impl FnMut(&Request, 
                 offset = next.parse().expect("an offset is a number");
                 areas = Areas { fmmus: bytes(fmmus), channels: bytes(channels) };
             }
-            _ => {
-                failures.passes += 1;
-                failures.written += u64::from(writes(&plan.sheet, &request, &areas));
-            }
+            _ => {}
         }
     }
     Ok(())
+}
+
+/// The letters by which a pass is asked for.
+fn letters(plan: &Plan, pass: Pass, areas: &Areas) -> &'static [u8] {
+    match pass {
+        Pass::Mailbox => b"m",
+        _ if old::clearing_changes_nothing(&plan.sheet, matches!(pass, Pass::Output), &areas.fmmus) => b"Kp",
+        _ => b"K",
+    }
 }
 
 fn ask(plan: &Plan, pass: Pass, offset: u32, areas: &Areas) -> Request {
@@ -69,7 +83,7 @@ fn ask(plan: &Plan, pass: Pass, offset: u32, areas: &Areas) -> Request {
         request.letter = b'm';
         return request;
     }
-    request.letter = b'p';
+    request.letter = b'K';
     request.direction = u8::from(matches!(pass, Pass::Output));
     request.a = offset;
     request.b = plan.group;

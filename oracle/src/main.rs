@@ -12,6 +12,7 @@ mod answer;
 mod chance;
 mod generate;
 mod leaves;
+mod old;
 mod plans;
 mod request;
 mod run;

@@ -247,19 +247,26 @@ fn fill_nine(chance: &Chance, sheet: &mut Sheet, table: &mut Vec<(u16, u8)>) {
     table.insert(0, (COUNTED, 8));
 }
 
-/// The FMMU area as it came: clear, used by an earlier job, nearly full, or any bytes, reserved bits among them.
+/// The FMMU area as it came: clear, used by an earlier job, nearly full, or any bytes, reserved bits among them; or used in one
+/// direction alone, here and there, so that a pass of the other one has nothing to clear.
 fn entries(chance: &Chance, area: &mut [u8; 256]) {
-    let kind = chance.below(8);
+    let kind = chance.below(10);
     if kind < 3 {
         return;
     }
     chance.fill(area);
+    let bit = chance.pick(&[1, 2]);
     for entry in area.chunks_mut(16) {
         let length = match kind {
             3 | 4 => chance.pair(),
             5 | 6 => chance.below(2_000) as u16,
-            _ => u16::MAX - chance.pick(&[chance.below(4), chance.below(60)]) as u16,
+            7 => u16::MAX - chance.pick(&[chance.below(4), chance.below(60)]) as u16,
+            _ => chance.pair(),
         };
         entry[4..6].copy_from_slice(&length.to_le_bytes());
+        if kind > 7 {
+            entry[11] = entry[11] & 0xfc | chance.pick(&[0, bit]);
+            entry[12] = entry[12] & 0xfe | u8::from(chance.one_in(4));
+        }
     }
 }

@@ -80,6 +80,11 @@ impl Sheet {
             && self.pdos.iter().all(|pdo| pdo.kind == COE || (pdo.kind <= EEPROM_WRITE && pdo.lengths.len() == 2))
     }
 
+    /// The path, as document 01 has it: flag bits 0 and 1, and a read mailbox of length above 0.
+    pub fn on_coe(&self) -> bool {
+        self.flags & 3 == 3 && self.send > 0 && self.managers.iter().any(|manager| manager.usage == 2)
+    }
+
     /// Equality with the Rust is for sheets that answer an SDO read in one way: no CoE index has two mappings or is one
     /// of the lists' own.
     pub fn in_domain(&self) -> bool {
