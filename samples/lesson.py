@@ -71,6 +71,11 @@ def segment(line):
     return f"segment {segment_text(int(start), int(end))}"
 
 
+def outcome(line):
+    """The segment of a pass, or its refusal."""
+    return " ".join(line.split()[:2]) if line.startswith("refused") else segment(line)
+
+
 def entry_one(line):
     """An answer of the letter R."""
     return "FMMU1: " + Fmmu(*map(int, line.split())).text()
@@ -134,8 +139,7 @@ OLD = [
 def in_the_way(ask):
     asked = [(name, input_pass(fmmus, a=5, sheet=SAMPLE)) for name, fmmus in OLD]
     for (name, _), [line] in zip(OLD, ask(asked)):
-        words = line.split()
-        yield f"{name}: " + (f"refused {words[1]}" if words[0] == "refused" else segment(line))
+        yield f"{name}: {outcome(line)}"
 
 
 # a board of two bytes behind SM4 of bay.hex: a sheet that plans it alone, the others being of no direction, and the whole bay's
@@ -168,7 +172,10 @@ def group(ask):
 
 
 def exercise_6(ask):
-    return on_registers(ask, area(entry(2, 3, 0x1180), first=1), 0x10)
+    yield from on_registers(ask, area(entry(2, 3, 0x1180), first=1), 0x10)
+    outputs = input_pass(area(entry(2, 3, 0x1180, 2), first=1), a=0x10, sheet=SAMPLE)
+    [[line]] = ask([("left with W", outputs)])
+    yield f"by default, left with W: {outcome(line)}"
 
 
 def exercise_7(ask):
