@@ -179,6 +179,11 @@ def c_writer():
     return c_program("write", "-DWRITE")
 
 
+def c_used():
+    """The C program whose plans start from an FMMU area that is given."""
+    return c_program("used", "-DUSED")
+
+
 def probe_answer(text):
     """What the probe answers where C says this: both segments, or the refusal."""
     *_, last = lines = text.splitlines()

@@ -2,7 +2,8 @@
    Input and answer are those of README.md. Where READ_IN_EACH_PASS is defined, each pass reads the sheet itself, as entry
    points do that take a sheet; otherwise a plan reads it once. Where PORTION isn't 0, nothing is planned: the sheet is taken into
    room in portions of so many bytes (document 02, 1/13), and read at the end. Where WRITE isn't 0, nothing is planned either: the
-   sheet is read once, and its device data is written as a sheet over and over (document 02, 2/13). */
+   sheet is read once, and its device data is written as a sheet over and over (document 02, 2/13). A data pass is the default's: it
+   clears old entries first (document 02, 3/13). Where USED isn't 0, each plan starts from an FMMU area that stands in the input. */
 #include <stdbool.h>
 #include <stdint.h>
 #include <stdio.h>
@@ -13,6 +14,9 @@
 #endif
 #ifndef WRITE
 #define WRITE 0
+#endif
+#ifndef USED
+#define USED 0
 #endif
 
 enum {
@@ -27,6 +31,7 @@ enum {
 enum { MAILBOX = 1, COE = 2, COMPLETE_ACCESS = 4 };
 enum { MAILBOX_WRITE = 1, MAILBOX_READ = 2, DATA_WRITE = 3, DATA_READ = 4 };
 enum { OUTPUTS = 1, INPUTS = 2 };
+enum { READ_BIT = 1, WRITE_BIT = 2, BOTH_BITS = 3 };
 enum { COE_PDO = 0, EEPROM_READ = 1, EEPROM_WRITE = 2 };
 
 struct manager {
@@ -60,9 +65,10 @@ struct record {
 };
 
 struct input {
-    uint8_t bytes[4 + 2 + 3 * MOST_RECORDS + 2 + MOST_FOLLOWING + 1];
+    uint8_t bytes[4 + 2 + 3 * MOST_RECORDS + 16 * ENTRIES * USED + 2 + MOST_FOLLOWING + 1];
     struct record table[MOST_RECORDS];
     unsigned records;
+    const uint8_t *fmmus;
     const uint8_t *sheet;
     size_t length;
 };
@@ -196,26 +202,40 @@ static unsigned entry_length(const uint8_t *image)
     return image[4] | image[5] << 8;
 }
 
-/* An enabled entry grows, and its reserved bits are written as 0; a disabled one is made. */
+/* An entry that is enabled was made in this pass, and grows; any other is made. */
 static void write_entry(uint8_t *image, uint32_t offset, unsigned size, uint16_t start, bool write)
 {
     if (entry_enabled(image)) {
         put16(image + 4, entry_length(image) + size);
-        image[6] &= 7;
-        image[7] &= 7;
-        image[10] &= 7;
-        image[11] &= 3;
-    } else {
-        put32(image, offset);
-        put16(image + 4, size);
-        image[6] = 0;
-        image[7] = 7;
-        put16(image + 8, start);
-        image[10] = 0;
-        image[11] = write ? 2 : 1;
+        return;
     }
+    put32(image, offset);
+    put16(image + 4, size);
+    image[6] = 0;
+    image[7] = 7;
+    put16(image + 8, start);
+    image[10] = 0;
+    image[11] = write ? WRITE_BIT : READ_BIT;
     image[12] = 1;
     image[13] = image[14] = image[15] = 0;
+}
+
+/* The enabled entries that carry the direction bit alone, a bit for each; and whether an entry is in the pass's way: one enabled
+   with both bits, or a wanted one enabled otherwise. */
+static unsigned old_entries(const uint8_t *fmmus, unsigned wanted, bool write, bool *in_the_way)
+{
+    unsigned old = 0;
+    for (unsigned k = 0; k < ENTRIES; k++) {
+        const uint8_t *image = fmmus + 16 * k;
+        if (!entry_enabled(image))
+            continue;
+        unsigned bits = image[11] & BOTH_BITS;
+        if (bits == (write ? WRITE_BIT : READ_BIT))
+            old |= 1u << k;
+        else
+            *in_the_way |= bits == BOTH_BITS || (wanted >> k & 1);
+    }
+    return old;
 }
 
 /* ---- the passes */
@@ -296,14 +316,15 @@ static int data_pass(const struct device *device, bool write, uint32_t *offset, 
     }
 
     uint32_t grown[ENTRIES] = {0};
+    unsigned wanted = 0;
     bool too_long = false;
     for (unsigned k = 0; k < device->n; k++) {
         if (device->managers[k].usage != usage || (device->coe && bits[k] == 0))
             continue;
         unsigned entry = device->coe ? first : k;
-        const uint8_t *image = areas->fmmus + 16 * entry;
         grown[entry] += sizes[k];
-        too_long |= grown[entry] + (entry_enabled(image) ? entry_length(image) : 0) > MOST_LENGTH;
+        wanted |= 1u << entry;
+        too_long |= grown[entry] > MOST_LENGTH;
     }
     if (too_long)
         return 8;
@@ -311,7 +332,14 @@ static int data_pass(const struct device *device, bool write, uint32_t *offset, 
         return 9;
     if (*offset < group)
         return 10;
+    bool in_the_way = false;
+    unsigned old = old_entries(areas->fmmus, wanted, write, &in_the_way);
+    if (in_the_way)
+        return 15;
 
+    for (unsigned k = 0; old >> k; k++)
+        if (old >> k & 1)
+            memset(areas->fmmus + 16 * k, 0, 16);
     segment->start = *offset - group;
     for (unsigned k = 0; k < device->n; k++) {
         const struct manager *manager = &device->managers[k];
@@ -383,10 +411,12 @@ static int read_again(void)
 #endif
 }
 
-/* One plan over areas of zeros; the last one is said. */
+/* One plan over areas of zeros, or over the FMMU area of the input; the last one is said. */
 static __attribute__((noinline)) void plan(bool last)
 {
     memset(&areas, 0, sizeof areas);
+    if (USED)
+        memcpy(areas.fmmus, input.fmmus, sizeof areas.fmmus);
     struct config config = {0};
     int number = read_sheet(input.sheet, input.length, &device);
     if (!number)
@@ -595,14 +625,15 @@ static bool read_input(uint32_t *times)
         return false;
     *times = (uint32_t)pair(input.bytes) << 16 | pair(input.bytes + 2);
     input.records = pair(input.bytes + 4);
-    if (input.records > MOST_RECORDS || length - 6 < 3 * input.records)
+    if (input.records > MOST_RECORDS || length - 6 < 3 * input.records + sizeof areas.fmmus * USED)
         return false;
     for (unsigned k = 0; k < input.records; k++) {
         const uint8_t *at = input.bytes + 6 + 3 * k;
         input.table[k] = (struct record){pair(at), at[2]};
     }
-    input.sheet = input.bytes + 6 + 3 * input.records;
-    input.length = length - 6 - 3 * input.records;
+    input.fmmus = input.bytes + 6 + 3 * input.records;
+    input.sheet = input.fmmus + sizeof areas.fmmus * USED;
+    input.length = length - (size_t)(input.sheet - input.bytes);
     return true;
 }
 

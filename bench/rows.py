@@ -23,9 +23,10 @@ class Row(NamedTuple):
     def pdos(self):
         return self.sheet[10]
 
-    def input(self, times):
+    def input(self, times, fmmus=b""):
+        """What a program reads; one that is built for used areas has the FMMU area before the sheet."""
         records = b"".join(index.to_bytes(2, "big") + bytes([multiplier]) for index, multiplier in self.table)
-        return times.to_bytes(4, "big") + len(self.table).to_bytes(2, "big") + records + self.sheet
+        return times.to_bytes(4, "big") + len(self.table).to_bytes(2, "big") + records + fmmus + self.sheet
 
 
 def sheet(flags, managers, usages, pdos):
