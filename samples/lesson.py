@@ -142,9 +142,10 @@ def in_the_way(ask):
         yield f"{name}: {outcome(line)}"
 
 
-# a board of two bytes behind SM4 of bay.hex: a sheet that plans it alone, the others being of no direction, and the whole bay's
+# a board of two bytes behind SM4 of bay.hex: a sheet that plans it alone, and one of the whole bay
 BOARD = (0x1185, 0x20, 1, 4)
-BOARD_ALONE = on_coe(coe(5, 0x1A02, 16), rows=managers(*BOXES, *[(start, control, 1, 0) for start, control, _, _ in FIVE[2:]], BOARD))
+OF_NO_DIRECTION = [(start, control, 1, 0) for start, control, _, _ in FIVE[2:]]
+BOARD_ALONE = on_coe(coe(5, 0x1A02, 16), rows=managers(*BOXES, *OF_NO_DIRECTION, BOARD))
 WITH_BOARD = on_coe(coe(3, 0x1A00, 17), coe(4, 0x1A01, 9), coe(5, 0x1A02, 16), rows=managers(*FIVE, BOARD))
 
 
@@ -238,13 +239,14 @@ def write(ask):
 # one input of one bit, on entry 0
 ONE_BIT = on_eeprom(eeprom(1, 0, 0x1A00, 1), rows=managers((0x1180, 0x20, 1, 4)))
 NO_PARTS = sheet(0, 0, 0)
+FULL, BOTH_BITS, OUTPUTS = (area(entry(0, length, 0, rights)) for length, rights in ((65_535, 1), (0, 3), (0, 2)))
 START_BIT_8 = packed([0, 0, 8, 0, 0, 0, 0, 0, 0], FMMU_RECORD)
 CALLS = [
     ("Fmmu::unpack_from_slice of no bytes", Request("R")),
     ("an input pass of nothing on an FMMU area of 255 bytes", input_pass(bytes(255), sheet=NO_PARTS)),
     ("writer::write of data whose f is 16,376", Request("v", room=KEPT, fmmus=device(f=16_376))),
     ("writer::write of data with a PDO and no lent bytes", Request("v", room=KEPT, fmmus=device(p=1))),
-    ("an input pass of 1 bit on an enabled entry of 65,535 bytes, keeping", input_pass(area(entry(0, 65_535, 0)), KEEPING, sheet=ONE_BIT)),
+    ("an input pass of 1 bit on an enabled entry of 65,535 bytes, keeping", input_pass(FULL, KEEPING, sheet=ONE_BIT)),
     ("PdiOffset::increment by 1 byte from offset 0xffffffff", Request("i", a=LIMIT, c=1)),
     ("an input pass of 1 bit from offset 0xffffffff", input_pass(a=LIMIT, sheet=ONE_BIT)),
     ("PdiSegment::less of 0 up to 0, group start 1", Request("g", c=1)),
@@ -254,8 +256,8 @@ CALLS = [
     ("writer::write of data with no parts into room of 10 bytes", Request("v", room=10, fmmus=device())),
     ("Fmmu::pack_to_slice of a record with start bit 8", Request("W", room=16, fmmus=START_BIT_8)),
     ("portions::end with room of 16,385 bytes", Request("t", room=KEPT - 1)),
-    ("an input pass of nothing beside an enabled entry with both bits", input_pass(area(entry(0, 0, 0, 3)), sheet=NO_PARTS)),
-    ("an input pass of 1 bit on an enabled entry of outputs", input_pass(area(entry(0, 0, 0, 2)), sheet=ONE_BIT)),
+    ("an input pass of nothing beside an enabled entry with both bits", input_pass(BOTH_BITS, sheet=NO_PARTS)),
+    ("an input pass of 1 bit on an enabled entry of outputs", input_pass(OUTPUTS, sheet=ONE_BIT)),
 ]
 
 

@@ -38,10 +38,10 @@ def kinds(write):
     return {"neither bit": 0, "its own bit": own(write), "the other bit": other(write), "both bits": BOTH}
 
 
-def left(rights, on=1):
-    """What a job left: every bit set, but for the two bits and the enable bit as given, and 255 bytes long."""
+def left(rights, on=1, length=255):
+    """What a job left: every bit set, but for the two bits and the enable bit as given, and the length."""
     new = bytearray(b"\xff" * 16)
-    new[5], new[11], new[12] = 0, 0xFC | rights, 0xFE | on
+    new[4:6], new[11], new[12] = length.to_bytes(2, "little"), 0xFC | rights, 0xFE | on
     return bytes(new)
 
 
@@ -83,11 +83,11 @@ def each_place():
     """Each of the sixteen entries alone: cleared, with both bits, wanted."""
     for e in range(16):
         write = e % 2
-        yield from asked(f"entry {e} cleared", write, NO_PARTS, area(left(own(write)), first=e), "p")
+        every_bit = left(own(write), length=65_535)
+        yield from asked(f"entry {e} cleared", write, NO_PARTS, area(every_bit, first=e), "p")
         yield from asked(f"entry {e} with both bits", write, NO_PARTS, area(left(BOTH), first=e), "p")
         for path, data in wanting(write, e):
-            everywhere = area(*[left(own(write))] * 16)
-            yield from asked(f"{path}, entry {e} wanted, all sixteen cleared", write, data, everywhere, "p")
+            yield from asked(f"{path}, entry {e} wanted, all sixteen cleared", write, data, every_bit * 16, "p")
             for used in (e, (e + 1) % 16):
                 fmmus = area(left(other(write)), first=used)
                 yield from asked(f"{path}, entry {e} wanted, {used} with the other bit", write, data, fmmus, "p")
@@ -105,6 +105,8 @@ def together():
                 everywhere = area(*[left(rights, on)] * 16)
                 yield from asked(f"{name}, nothing mapped", write, NO_PARTS, everywhere)
                 yield from asked(name, write, PATHS["EEPROM"], everywhere)
+        last = area(*[left(own(write))] * 15, left(BOTH))
+        yield from asked("fifteen with its own bit and one with both", write, PATHS["EEPROM"], last)
         yield from asked("a bit of everything, nothing mapped", write, NO_PARTS, MIXED)
         for path, data in PATHS.items():
             yield from asked(f"a bit of everything, {path}", write, data, MIXED)
@@ -143,14 +145,15 @@ def second_of_a_usage():
     data = on_coe(coe(2, OUT, 16), coe(3, IN, 16), usages=(0, 1, 2, 2, 1))
     for write, first, second in ((0, 2, 3), (1, 1, 4)):
         for place, e in (("first", first), ("second", second)):
-            yield from asked(f"the {place} of a usage with the other bit", write, data, area(left(other(write)), first=e))
+            fmmus = area(left(other(write)), first=e)
+            yield from asked(f"the {place} of a usage with the other bit", write, data, fmmus)
 
 
 # ---- the refusals
 
 
 def nine(write, last):
-    """Nine sync managers on one CoE entry, eight of 8,191 bytes and one of as many bits, eight times: a sheet and a table."""
+    """Nine sync managers on one CoE entry, of 8,191 bytes, the last of `last`: a sheet, and a table that multiplies by 8."""
     usage = 3 if write else 4
     rows = managers(*[(0x1000 + 0x2000 * k % 0xF000, 0x20, 1, usage) for k in range(9)], (0x8000, 0x22, 1, 2))
     sizes = [8_191] * 8 + [last]
@@ -183,8 +186,8 @@ def causes(write):
     yield "none", dict(data=PATHS["CoE"])
 
 
-def beside_fifteen():
-    """15 comes after all others; keeping never gives it."""
+def beside_others():
+    """15 comes after all others; keeping never gives it. A refusal clears nothing."""
     for write in (0, 1):
         ways = {
             "both bits elsewhere": area(left(BOTH), first=9),
@@ -193,6 +196,9 @@ def beside_fifteen():
         for way, fmmus in ways.items():
             for cause, words in causes(write):
                 yield from asked(f"15 by {way}, beside {cause}", write, fmmus=fmmus, **words)
+        old = area(left(own(write)), first=wanted(write))
+        for cause, words in causes(write):
+            yield from asked(f"an old entry, {cause}", write, fmmus=old, letters="p", **words)
         short = area(left(BOTH), size=255)
         yield from asked("15 beside 1 by the entries", write, PATHS["CoE"], short)
 
@@ -233,7 +239,12 @@ def full_entries(write):
 # the entries of the other direction, where each pass wants its own
 CROSSED = area(left(1), left(2))
 STRAIGHT = area(left(2), left(1))
-USED = {"old entries": STRAIGHT, "crossed": CROSSED, "old inputs on both": area(left(1), left(1)), "a bit of everything": MIXED}
+USED = {
+    "old entries": STRAIGHT,
+    "crossed": CROSSED,
+    "old inputs on both": area(left(1), left(1)),
+    "a bit of everything": MIXED,
+}
 
 
 def either_order():
@@ -266,5 +277,5 @@ def left_by(request):
 
 def ask():
     standing = (each_kind, each_place, together, nothing_mapped, shared, second_of_a_usage)
-    for part in (*standing, beside_fifteen, eight, either_order, again):
+    for part in (*standing, beside_others, eight, either_order, again):
         yield from part()
