@@ -4,11 +4,13 @@ use crate::say;
 use crate::say::Line;
 use crate::table;
 use crate::table::Passed;
-use crate::table::Start;
 use counting::Counted;
 use mailboxes::MailboxAnswer;
 use mailboxes::MailboxConfig;
 use mailboxes::Slot;
+use passes::OldEntries;
+use passes::Place;
+use passes::Settings;
 use pdi::PdiOffset;
 use pdi::PdiSegment;
 use pdi::Placed;
@@ -133,16 +135,28 @@ fn passed(answer: Placed, next: u64) -> Line {
     }
 }
 
-fn data_pass(request: &[u8], fmmus: &mut [u8], channels: &mut [u8]) -> Line {
+// By default old entries are cleared; keeping is asked for by its name.
+pub fn by_default(request: &[u8]) -> Settings {
+    Settings::clean(parts::number4(request, 8))
+}
+
+pub fn keeping(request: &[u8]) -> Settings {
+    Settings {
+        group: parts::number4(request, 8),
+        old: OldEntries::Keep,
+    }
+}
+
+fn data_pass(request: &[u8], fmmus: &mut [u8], channels: &mut [u8], settings: Settings) -> Line {
     let done = table::plan(
         parts::sheet(request),
         parts::table(request),
         parts::records(request),
         fmmus,
         channels,
-        Start {
+        Place {
             offset: parts::offset(request),
-            group: parts::number4(request, 8),
+            settings,
         },
         parts::direction(request),
     );
@@ -151,12 +165,12 @@ fn data_pass(request: &[u8], fmmus: &mut [u8], channels: &mut [u8]) -> Line {
 }
 
 // The data pass, over copies of both parts.
-pub fn pass(request: &[u8]) {
+pub fn pass(request: &[u8], settings: Settings) {
     let mut entries = [0u8; 512];
     let mut images = [0u8; 512];
     let fmmus = parts::copied(parts::fmmus(request), &mut entries);
     let channels = parts::copied(parts::channels(request), &mut images);
-    say::line(data_pass(request, fmmus, channels));
+    say::line(data_pass(request, fmmus, channels, settings));
     say::then_bytes(fmmus);
     say::then_bytes(channels);
 }
@@ -257,7 +271,7 @@ pub fn plan(request: &[u8]) {
     say::text(wire::front(&text, without_end(answer)));
 }
 
-// A data pass of a plan, in group 0.
+// A data pass of a plan, by default, in group 0.
 fn plan_pass(
     sheet: &[u8],
     table: [Oversampling; 256],
@@ -267,11 +281,14 @@ fn plan_pass(
     offset: PdiOffset,
     direction: PdoDirection,
 ) -> Passed {
-    let start = Start { offset, group: 0 };
+    let place = Place {
+        offset,
+        settings: Settings::clean(0),
+    };
     if records == 0 {
-        return table::plan_without_table(sheet, fmmus, channels, start, direction);
+        return table::plan_without_table(sheet, fmmus, channels, place, direction);
     }
-    table::plan(sheet, table, records, fmmus, channels, start, direction)
+    table::plan(sheet, table, records, fmmus, channels, place, direction)
 }
 
 // Both segments, or the second pass's refusal.

@@ -1,15 +1,10 @@
 // The library's lent forms for a program that holds its offset and its table by value, of which `records` count, or has no table.
 use counting::Counted;
+use passes::Place;
 use pdi::PdiOffset;
 use pdi::Placed;
 use pdo::Oversampling;
 use pdo::PdoDirection;
-
-// Where a pass begins: its offset, and its group's start.
-pub struct Start {
-    pub offset: PdiOffset,
-    pub group: u32,
-}
 
 // What a pass hands back: its segment or a refusal, and the offset as it then is.
 pub struct Passed {
@@ -23,18 +18,18 @@ pub fn plan(
     records: usize,
     fmmus: &mut [u8],
     channels: &mut [u8],
-    start: Start,
+    place: Place,
     direction: PdoDirection,
 ) -> Passed {
     let k = wire::least(records, 256);
-    let mut offset = start.offset;
+    let mut offset = place.offset;
     let answer = lent::configure_fmmus(
         sheet,
         &table[..k],
         fmmus,
         channels,
         &mut offset,
-        start.group,
+        place.settings,
         direction,
     );
     Passed {
@@ -48,18 +43,18 @@ pub fn plan_without_table(
     sheet: &[u8],
     fmmus: &mut [u8],
     channels: &mut [u8],
-    start: Start,
+    place: Place,
     direction: PdoDirection,
 ) -> Passed {
     let none: [Oversampling; 0] = [];
-    let mut offset = start.offset;
+    let mut offset = place.offset;
     let answer = lent::configure_fmmus(
         sheet,
         &none,
         fmmus,
         channels,
         &mut offset,
-        start.group,
+        place.settings,
         direction,
     );
     Passed {
