@@ -14,6 +14,7 @@ use lib.Dec.{ltb}
 use borrow.Author.Tests.{ltb-true, ltb-false}
 use Rattle.wire.specs.Outcome.{refused, accepted, Refusal, decide}
 use Rattle.wire.proofs.Order.{never}
+use Rattle.wire.proofs.Lists.{or-none}
 use Rattle.wire.specs.Lists.{Each, someOf}
 use Rattle.translation.specs.Translate.{firstSaid}
 
@@ -45,7 +46,7 @@ pub clear-accepted : {A : Type 0} (rs : List Refusal) (x : A) → Clear rs → d
 clear-accepted [] x c = refl
 clear-accepted (r ∷ rs) x c = rw (c .0) (clear-accepted rs x (c .1))
 
--- a question asks only what `map` shows; and it holds of none if at no place
+-- a question asks only what `map` shows; and it holds of none exactly if at no place
 pub some-map : {A : Type 0} (f : A → Bool) (l m : List A) → map f l ≡ map f m → someOf f l ≡ someOf f m
 some-map {A = A} f l m e = shown l ∙ ap (someOf (λ b. b)) e ∙ sym (shown m)
   where
@@ -56,6 +57,11 @@ some-map {A = A} f l m e = shown l ∙ ap (someOf (λ b. b)) e ∙ sym (shown m)
 pub none-at : {A : Type 0} (f : A → Bool) (l : List A) (z : A) → ((k : ℕ) → f (getD l k z) ≡ false) → someOf f l ≡ false
 none-at f [] z h = refl
 none-at f (x ∷ xs) z h = rw (h 0) (none-at f xs z (λ k. h (suc k)))
+
+pub at-none : {A : Type 0} (f : A → Bool) (l : List A) (z : A) → f z ≡ false → someOf f l ≡ false → (k : ℕ) → f (getD l k z) ≡ false
+at-none f [] z n h k = n
+at-none f (x ∷ xs) z n h zero = or-none (f x) (someOf f xs) h .0
+at-none f (x ∷ xs) z n h (suc k) = at-none f xs z n (or-none (f x) (someOf f xs) h .1) k
 
 pub each-map : {A : Type 0} (P Q : A → Type 0) → ((x : A) → P x → Q x) → (l : List A) → Each P l → Each Q l
 each-map P Q f [] e = tt

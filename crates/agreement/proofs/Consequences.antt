@@ -1,4 +1,5 @@
 -- What follows: translation is never refused, the second pass leaves the first's entries alone, every address of an end-to-end range is named by an entry.
+-- By default on every area; keeping, from disabled entries.
 -- Assumes nothing.
 use mathlib.Core.Path.{_≡_, refl, sym, _∙_, ap, subst}
 use mathlib.Core.Bool.{true, false}
@@ -14,51 +15,73 @@ use Rattle.wire.specs.Image.{Bytes}
 use Rattle.wire.specs.Outcome.{refused, accepted}
 use Rattle.wire.proofs.Order.{never}
 use Rattle.wire.specs.Lists.{Each}
+use Rattle.wire.proofs.Lists.{each-both}
+use Rattle.fmmu.specs.Image.{fieldsOf}
 use Rattle.sheet.specs.Sheet.{sheetData}
 use Rattle.pdo.specs.declared.PdoDirection.{PdoDirection}
 use Rattle.pdo.specs.Direction.{other}
 use Rattle.passes.specs.Use.{Use, total}
 use Rattle.area.specs.Area.{entriesOf}
 use Rattle.translation.specs.Translate.{named, says, firstSaid, orNone, translate}
-use Rattle.agreement.specs.Agreement.{EveryDisabled, Lent, weights, TwoPasses, EndToEnd, laidBy, counted}
+use Rattle.agreement.specs.Agreement.{Needs, Lent, weights, TwoPasses, EndToEnd, laidBy, counted}
 use Rattle.translation.proofs.Lies.{inside, behind}
-use Rattle.agreement.proofs.Basics.{either, each-map, said-by}
+use Rattle.agreement.proofs.Basics.{either, said-by}
 use Rattle.agreement.proofs.Straight.{lay, Fresh, straight-same, straight-iff}
 use Rattle.agreement.proofs.Run.{said, plan-leaves}
 use Rattle.passes.proofs.Pieces.{uses-total}
 use Rattle.agreement.proofs.Uses.{apart}
 use Rattle.area.proofs.Flat.{length-chunks}
-use Rattle.agreement.proofs.Demand3.{one, two, rangeSize, Facts, among, translated, other-unseen}
+use Rattle.agreement.proofs.Clean.{old-not-other, cleared-not, begun-at}
+use Rattle.agreement.proofs.Left.{Ours, laid-left}
+use Rattle.agreement.proofs.Demand3.{one, two, rangeSize, begun, Facts, sane-uses, first-start, among, translated, other-unseen}
 
 -- after two such passes translation is never refused, neither with 11 nor with 1
 pub never-eleven : (sheet : List ℕ) (lent : PdoDirection → Lent) (first : PdoDirection) (area after : List ℕ) → Bytes sheet
-    → TwoPasses sheet lent first area after → (r : PdoDirection) (a n : ℕ) → translate r after a ≡ refused n → ⊥
-never-eleven sheet lent first area after bytes p r a n e = never (sym e ∙ translated sheet r (lent r) after (among sheet bytes lent area after first p r) a)
+    → TwoPasses sheet lent first area after → (r : PdoDirection) → Needs (lent r .settings .old) area → (a n : ℕ) → translate r after a ≡ refused n → ⊥
+never-eleven sheet lent first area after bytes p r h a n e = never (sym e ∙ translated sheet r (lent r) after (among sheet bytes lent area after first p r h) a)
 
 -- the second pass leaves the first direction's entries alone: the bytes of each, and what translation says
 pub record LeftAlone (sheet : List ℕ) (r : PdoDirection) (l : Lent) (between after : List ℕ) : Type 0 where
   pub entries : Each (λ (u : Use). getD (entriesOf 16 after) (u .entry) [] ≡ getD (entriesOf 16 between) (u .entry) []) (laidBy sheet r l)
   pub answers : (a : ℕ) → translate r after a ≡ translate r between a
 
-left-alone : (sheet : List ℕ) → Bytes sheet → (r : PdoDirection) (l m : Lent) (area between after : List ℕ) → EveryDisabled area
-    → Facts sheet r l area between → Facts sheet (other r) m between after → LeftAlone sheet r l between after
-unfolding translate
-left-alone sheet bytes r l m area between after disabled f g =
-    let us = laidBy sheet r l in
-    let vs = laidBy sheet (other r) m in
-    let s = other-unseen sheet bytes r l m area between after disabled f g in
-    record {
-      entries =
-          each-map (λ (u : Use). Fresh (u .entry) vs) (λ (u : Use). getD (entriesOf 16 after) (u .entry) [] ≡ getD (entriesOf 16 between) (u .entry) [])
-          (λ u h. ap (λ (es : List (List ℕ)). getD es (u .entry) []) (g .leaves) ∙ plan-leaves (other r) (m .offset) vs (entriesOf 16 between) (u .entry) h)
-          us (apart (sheetData sheet) (weights sheet l) (weights sheet m) r (f .entry));
-      answers = λ a. rw (eq-eqb (length after) 256 (g .after-long), eq-eqb (length between) 256 (f .after-long), s .odd-same, s .says-same a, f .leaves) refl;
-    }
+module _ (sheet : List ℕ) (bytes : Bytes sheet) (r : PdoDirection) (l m : Lent) (area between after : List ℕ) (needs : Needs (l .settings .old) area)
+    (f : Facts sheet r l area between) (g : Facts sheet (other r) m between after) where
+  abbrev us : List Use
+  us = laidBy sheet r l
+
+  -- what the first laid carries its own bit alone, so the second doesn't clear it
+  own-laid : Each (λ (u : Use). Ours r (getD (entriesOf 16 between) (u .entry) [])) us
+  own-laid =
+      let t = first-start sheet bytes r l area needs between f in
+      let places = sane-uses sheet bytes r l area between f .places in
+      subst (λ (es : List (List ℕ)). Each (λ (u : Use). Ours r (getD es (u .entry) [])) us) (sym (f .leaves))
+      (laid-left r (l .offset) us (begun r l area) (subst (λ (n : ℕ). Each (λ (u : Use). u .entry < n) us) (sym (t .sixteen)) places) (t .off))
+
+  left-entry : (k : ℕ) → Fresh k (laidBy sheet (other r) m) → Ours r (getD (entriesOf 16 between) k []) → getD (entriesOf 16 after) k [] ≡ getD (entriesOf 16 between) k []
+  left-entry k away h =
+      let e = getD (entriesOf 16 between) k [] in
+      ap (λ (es : List (List ℕ)). getD es k []) (g .leaves)
+      ∙ plan-leaves (other r) (m .offset) (laidBy sheet (other r) m) (begun (other r) m between) k away
+      ∙ begun-at (m .settings .old) (other r) (entriesOf 16 between) k (λ x. x ≡ e) refl (cleared-not (other r) e (old-not-other r (fieldsOf e) h))
+
+  left-alone : LeftAlone sheet r l between after
+  unfolding translate
+  left-alone =
+      let s = other-unseen sheet bytes r l area needs m between after f g in
+      record {
+        entries =
+            each-both (λ (u : Use). Fresh (u .entry) (laidBy sheet (other r) m)) (λ (u : Use). Ours r (getD (entriesOf 16 between) (u .entry) []))
+            (λ (u : Use). getD (entriesOf 16 after) (u .entry) [] ≡ getD (entriesOf 16 between) (u .entry) [])
+            (λ u h o. left-entry (u .entry) h o)
+            us (apart (sheetData sheet) (weights sheet l) (weights sheet m) r (f .entry)) own-laid;
+        answers = λ a. rw (eq-eqb (length after) 256 (g .after-long), eq-eqb (length between) 256 (f .after-long), s .odd-same, s .says-same a, f .leaves) refl;
+      }
 
 pub other-left-alone : (sheet : List ℕ) (lent : PdoDirection → Lent) (first : PdoDirection) (area after : List ℕ) → Bytes sheet
-    → (p : TwoPasses sheet lent first area after) → LeftAlone sheet first (lent first) (p .between) after
-other-left-alone sheet lent first area after bytes p =
-    left-alone sheet bytes first (lent first) (lent (other first)) area (p .between) after (p .disabled)
+    → (p : TwoPasses sheet lent first area after) → Needs (lent first .settings .old) area → LeftAlone sheet first (lent first) (p .between) after
+other-left-alone sheet lent first area after bytes p needs =
+    left-alone sheet bytes first (lent first) (lent (other first)) area (p .between) after needs
     (one sheet bytes lent area after first p)
     (two sheet bytes lent area after first p)
 
@@ -85,12 +108,12 @@ pub record NamedBy (sheet : List ℕ) (r : PdoDirection) (l : Lent) (area : List
   pub counts-it : counted sheet r l a ≡ accepted answer
 
 pub every-address-named : (sheet : List ℕ) (lent : PdoDirection → Lent) (first : PdoDirection) (area after : List ℕ) → Bytes sheet
-    → TwoPasses sheet lent first area after → (r : PdoDirection) → EndToEnd (laidBy sheet r (lent r))
+    → TwoPasses sheet lent first area after → (r : PdoDirection) → Needs (lent r .settings .old) area → EndToEnd (laidBy sheet r (lent r))
     → (a : ℕ) → lent r .offset ≤ a → a < lent r .offset + rangeSize sheet r (lent r) → NamedBy sheet r (lent r) after a
-every-address-named sheet lent first area after bytes p r e a h g =
+every-address-named sheet lent first area after bytes p r needs e a h g =
     let us = laidBy sheet r (lent r) in
     let q = lent r .offset in
-    let t = among sheet bytes lent area after first p r in
+    let t = among sheet bytes lent area after first p r needs in
     let z : total us ≡ rangeSize sheet r (lent r) = uses-total (sheetData sheet) (weights sheet (lent r)) r in
     let l = laid-inside q a us h (omega arith) in
     let s = straight-same 16 0 q a us (straight-iff us (t .lays .places) (t .lays .grouped) .1 e) in

@@ -1,4 +1,4 @@
--- Wrong planners on nonempty data: a pass that writes nothing, one that pretends in the second direction, one that invents its sizes. Over the bytes that each
+-- Wrong planners on nonempty data: a pass that writes nothing, one that clears alone, one that pretends in the second direction, one that invents its sizes. Over the bytes that each
 -- leaves, translating and counting disagree. Where the direction's sync managers lie end to end that contradicts demand 3 (`contradicts`); where they don't,
 -- demand 3 has the two disagree anyhow, and it is the pass's own promise that such a planner breaks.
 -- Assumes nothing.
@@ -20,6 +20,9 @@ use Rattle.pdo.specs.declared.PdoDirection.{PdoDirection}
 use Rattle.pdo.specs.Direction.{other}
 use Rattle.passes.specs.Use.{Use, total, sizeOf}
 use Rattle.area.specs.Area.{entriesOf, flat}
+use Rattle.passes.specs.declared.OldEntries.{OldEntries}
+use Rattle.passes.specs.declared.OldEntries.the-variants as old
+use Rattle.passes.specs.Old.{inTheWay}
 use Rattle.passes.specs.Entries.{plan}
 use Rattle.translation.specs.Translate.{says, odd, orNone, translate}
 use Rattle.agreement.specs.Agreement.{EveryDisabled, Lent, weights, Accepted, TwoPasses, EndToEnd, laidBy, Agree, InReach}
@@ -27,10 +30,12 @@ use Rattle.translation.proofs.Lies.{inside, behind}
 use Rattle.agreement.proofs.Basics.{either, first-none, none-at, never-none}
 use Rattle.agreement.proofs.Straight.{lay, Lays, goOn, goOn-total, lay-behind}
 use Rattle.agreement.proofs.Step.{Silent, off-silent, says-silent, odd-silent}
-use Rattle.agreement.proofs.Run.{said, none-odd, other-silents}
+use Rattle.agreement.proofs.Run.{clean-start, said, none-odd, other-silents}
 use Rattle.passes.proofs.Pieces.{uses-total}
 use Rattle.area.proofs.Flat.{length-chunks}
-use Rattle.agreement.proofs.Areas.{planned-long, planned-entries}
+use Rattle.agreement.proofs.Areas.{sixteen-of, sixteen-planned, flat-long, flat-entries}
+use Rattle.agreement.specs.Clean.{zeroed}
+use Rattle.agreement.proofs.AsKeeping.{zeroed-long, zeroed-entries}
 use Rattle.agreement.proofs.Demand3.{one-of-two, two, ownBy, rangeSize, Facts, facts, sane-uses, lays, counted-own, counted-lay, disabled-off, disabled-start}
 
 -- end to end, bytes on which the two disagree are none of which demand 3 holds
@@ -116,21 +121,31 @@ writes-nothing sheet bytes r l area after p d =
     let f = facts sheet r l area after p in
     silent-disagrees sheet bytes r l area after f area (f .long) (λ k. off-silent r _ (disabled-off area d k))
 
+-- one that clears old entries, as the default asks, and lays nothing: over any area
+pub clears-alone : (sheet : List ℕ) → Bytes sheet → (r : PdoDirection) (l : Lent) (area after : List ℕ) → Accepted sheet r l area after
+    → l .settings .old ≡ old.Clear → 0 < rangeSize sheet r l → Agree sheet r l (zeroed r area) → ⊥
+clears-alone sheet bytes r l area after p clean =
+    let f = facts sheet r l area after p in
+    let free = subst (λ (o : OldEntries). inTheWay o r (laidBy sheet r l) (entriesOf 16 area) ≡ false) clean (f .free) in
+    let t = clean-start r (laidBy sheet r l) (entriesOf 16 area) (length-chunks 16 16 area) free in
+    silent-disagrees sheet bytes r l area after f (zeroed r area) (zeroed-long r area (f .long))
+    (subst (λ (es : List (List ℕ)). (k : ℕ) → Silent r (getD es k [])) (sym (zeroed-entries r area (f .long))) (t .silents))
+
 -- one that maps the first direction and pretends in the second: over what the first left
 pretends-second : (sheet : List ℕ) → Bytes sheet → (r : PdoDirection) (l m : Lent) (area between after : List ℕ) → EveryDisabled area
     → Facts sheet (other r) m area between → Facts sheet r l between after → 0 < rangeSize sheet r l → Agree sheet r l between → ⊥
 pretends-second sheet bytes r l m area between after d g f =
     silent-disagrees sheet bytes r l between after f between (f .long)
     (subst (λ (es : List (List ℕ)). (k : ℕ) → Silent r (getD es k [])) (sym (g .leaves))
-    (other-silents r (m .offset) (laidBy sheet (other r) m) (entriesOf 16 area) (length-chunks 16 16 area)
-    (λ k. off-silent r _ (disabled-off area d k))
-    (sane-uses sheet bytes (other r) m area between g .places)))
+    (other-silents (m .settings .old) r (m .offset) (laidBy sheet (other r) m) (entriesOf 16 area) (length-chunks 16 16 area)
+    (sane-uses sheet bytes (other r) m area between g .places)
+    (λ k. off-silent r _ (disabled-off area d k))))
 
 pub pretends : (sheet : List ℕ) (lent : PdoDirection → Lent) (first : PdoDirection) (area after : List ℕ) → Bytes sheet
-    → (p : TwoPasses sheet lent first area after) → 0 < rangeSize sheet (other first) (lent (other first))
+    → (p : TwoPasses sheet lent first area after) → EveryDisabled area → 0 < rangeSize sheet (other first) (lent (other first))
     → Agree sheet (other first) (lent (other first)) (p .between) → ⊥
-pretends sheet lent first area after bytes p =
-    pretends-second sheet bytes (other first) (lent (other first)) (lent first) area (p .between) after (p .disabled)
+pretends sheet lent first area after bytes p disabled =
+    pretends-second sheet bytes (other first) (lent (other first)) (lent first) area (p .between) after disabled
     (one-of-two sheet bytes lent area after first p)
     (two sheet bytes lent area after first p)
 
@@ -155,10 +170,11 @@ module _ (sheet : List ℕ) (bytes : Bytes sheet) (r : PdoDirection) (l : Lent) 
   invented agree a h =
       let es = plan r (l .offset) vs (entriesOf 16 area) in
       let t = disabled-start r vs area d in
+      let sixteen = sixteen-planned r (l .offset) vs (entriesOf 16 area) (sixteen-of area long) in
       let x : translate r (flat es) a ≡ accepted (orNone (lay (l .offset) (goOn 16 0 vs) a)) =
       rw (
-        eq-eqb (length (flat es)) 256 (planned-long r (l .offset) vs area long),
-        planned-entries r (l .offset) vs area long,
+        eq-eqb (length (flat es)) 256 (flat-long es sixteen),
+        flat-entries es sixteen,
         none-odd r (l .offset) vs (entriesOf 16 area) y t,
         said r (l .offset) vs (entriesOf 16 area) y t a,
       )

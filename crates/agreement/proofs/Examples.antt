@@ -1,5 +1,6 @@
--- Demand 3 isn't empty: document 01's sheet, on which the two agree; the same with one sync manager moved by a byte, on which they do not; the EEPROM path;
--- an area past the last device address; and last spring's fault, from a stale entry.
+-- Demand 3 isn't empty: document 01's sheet, on which the two agree, by default over old entries and keeping from disabled ones; the same with one sync manager
+-- moved by a byte, on which they do not; the EEPROM path; an area past the last device address; and last spring's fault, from a stale entry, which keeping still
+-- has and the default can't have.
 -- Assumes nothing.
 use mathlib.Core.Path.{_≡_, refl, sym, _∙_, subst}
 use mathlib.Core.Bool.{Bool, true, false, not}
@@ -25,15 +26,19 @@ use Rattle.pdo.specs.declared.PdoDirection.the-variants.{MasterRead, MasterWrit
 use Rattle.pdo.specs.Bits.{multiplierOf, byCoe, bitsOf, piecesFrom, piecesOf}
 use Rattle.passes.specs.Use.{own, given, firstWith, usesOf, total, totalOn, sizeOf}
 use Rattle.area.specs.Area.{chunks, entriesOf, flat}
+use Rattle.passes.specs.declared.OldEntries.the-variants.{Clear}
+use Rattle.passes.specs.declared.Settings.{Settings}
+use Rattle.passes.specs.Old.{clean, keeping, cleared, inTheWay}
 use Rattle.passes.specs.Entries.{mapped, plan, Planned, tooLong}
 use Rattle.passes.specs.Pass.{someTooMany, noEntry, dataPass}
 use Rattle.translation.specs.Translate.{carries, odd, says, firstSaid, translate}
 use Rattle.counting.specs.Count.{spotIn, count}
-use Rattle.agreement.specs.Agreement.{EveryDisabled, Lent, weights, Accepted, TwoPasses, sharing, EndToEnd, laidBy, counted, Agree}
+use Rattle.agreement.specs.Agreement.{EveryDisabled, Lent, weights, passOf, Accepted, TwoPasses, sharing, EndToEnd, laidBy, counted, Agree}
 use Rattle.agreement.specs.Bench.{zeros, sampleSheet}
+use Rattle.agreement.specs.Cases.{entry, withZeros}
 use Rattle.agreement.proofs.Basics.{either}
 use Rattle.agreement.proofs.Straight.{follows-iff}
-use Rattle.agreement.proofs.Demand3.{demand-3}
+use Rattle.agreement.proofs.Demand3.{demand-3-of-one, demand-3, demand-3-clean, demand-3-from-disabled}
 
 -- closed data: bytes by a computed test, and every entry of an area disabled by another
 is-true : (b : Bool) → T b → b ≡ true
@@ -55,10 +60,20 @@ pub all-disabled : EveryDisabled zeros
 unfolding fieldsOf chunks
 all-disabled k h = is-false _ (below (λ k. not (fieldsOf (getD (entriesOf 16 zeros) k []) .enable)) 16 tt k h)
 
--- what each pass is lent: no table, group start 0; the inputs from 0, the outputs from 5
+-- what each pass is lent: no table, group start 0, the default or keeping; the inputs from 0, the outputs from 5
+abbrev pub lentBy : Settings → PdoDirection → Lent
+lentBy settings MasterRead = record { table = []; offset = 0; settings = settings; channels = replicate 128 0 }
+lentBy settings MasterWrite = record { table = []; offset = 5; settings = settings; channels = replicate 128 0 }
+
 abbrev pub lent : PdoDirection → Lent
-lent MasterRead = record { table = []; offset = 0; group = 0; channels = replicate 128 0 }
-lent MasterWrite = record { table = []; offset = 5; group = 0; channels = replicate 128 0 }
+lent r = lentBy (clean 0) r
+
+abbrev pub keptLent : PdoDirection → Lent
+keptLent r = lentBy (keeping 0) r
+
+pub by-default : (r : PdoDirection) → lent r .settings .old ≡ Clear
+by-default MasterRead = refl
+by-default MasterWrite = refl
 
 abbrev outputs : Planned
 outputs = record { segment = segment 5 7; next = 7 }
@@ -82,12 +97,33 @@ pub as-printed : (fieldsOf outputBytes ≡ mapped MasterWrite 5 2 0x1100) × (fi
 unfolding fieldsOf
 as-printed = (refl, refl)
 
-pub sample-passes : TwoPasses sampleSheet lent MasterRead zeros sampleArea
+-- a cancelled job's entries, of both directions, on the entries that the sheet wants and on two others; one is full, one isn't whole bytes
+abbrev oldOutput : List ℕ
+oldOutput = entry 3 65535 7 0x2000 2 1
+
+abbrev oldInput : List ℕ
+oldInput = entry 0 9 6 0x2100 1 1
+
+abbrev pub usedArea : List ℕ
+usedArea = withZeros (oldOutput ∷ oldInput ∷ oldInput ∷ oldOutput ∷ [])
+
+-- by default each pass clears those of its own direction, so both leave what they leave over zeros
+pub sample-passes : TwoPasses sampleSheet lent MasterRead usedArea sampleArea
 unfolding fieldsOf imageOf controlAt unnamed listOf someBelow pdosFrom wrongLength kindFits pdosFit someManagerWrong someUsageWrong broken someUnnamed sheetData multiplierOf byCoe
-    bitsOf piecesFrom piecesOf own given firstWith usesOf total totalOn sizeOf chunks flat plan someTooMany noEntry tooLong dataPass
+    bitsOf piecesFrom piecesOf own given firstWith usesOf total totalOn sizeOf chunks flat plan someTooMany noEntry cleared tooLong inTheWay dataPass
 sample-passes =
     record {
-      disabled = all-disabled;
+      between = withZeros (oldOutput ∷ inputBytes ∷ replicate 16 0 ∷ oldOutput ∷ []);
+      one = record { planned = inputs; says = refl; leaves = refl };
+      two = record { planned = outputs; says = refl; leaves = refl };
+    }
+
+-- keeping, from zeros
+pub kept-passes : TwoPasses sampleSheet keptLent MasterRead zeros sampleArea
+unfolding fieldsOf imageOf controlAt unnamed listOf someBelow pdosFrom wrongLength kindFits pdosFit someManagerWrong someUsageWrong broken someUnnamed sheetData multiplierOf byCoe
+    bitsOf piecesFrom piecesOf own given firstWith usesOf total totalOn sizeOf chunks flat plan someTooMany noEntry cleared tooLong inTheWay dataPass
+kept-passes =
+    record {
       between = replicate 16 0 ++ inputBytes ++ replicate 224 0;
       one = record { planned = inputs; says = refl; leaves = refl };
       two = record { planned = outputs; says = refl; leaves = refl };
@@ -100,7 +136,12 @@ sample-end-to-end MasterWrite = follows-iff (laidBy sampleSheet MasterWrite (len
 
 -- the two agree, for both directions, at every address
 pub sample-agrees : (r : PdoDirection) → Agree sampleSheet r (lent r) sampleArea
-sample-agrees r = demand-3 sampleSheet lent MasterRead zeros sampleArea (bytes-of sampleSheet tt) sample-passes r .1 (sample-end-to-end r)
+sample-agrees r = demand-3-clean sampleSheet lent MasterRead usedArea sampleArea (bytes-of sampleSheet tt) sample-passes r (by-default r) .1 (sample-end-to-end r)
+
+-- keeping, where every entry was disabled
+pub kept-agrees : (r : PdoDirection) → Agree sampleSheet r (keptLent r) sampleArea
+kept-agrees MasterRead = demand-3-from-disabled sampleSheet keptLent MasterRead zeros sampleArea (bytes-of sampleSheet tt) kept-passes all-disabled MasterRead .1 (sample-end-to-end MasterRead)
+kept-agrees MasterWrite = demand-3-from-disabled sampleSheet keptLent MasterRead zeros sampleArea (bytes-of sampleSheet tt) kept-passes all-disabled MasterWrite .1 (sample-end-to-end MasterWrite)
 
 -- and name something: the last byte of the inputs, and nothing after it
 pub sample-last : (translate MasterRead sampleArea 4 ≡ accepted (some 0x1184)) × (translate MasterRead sampleArea 5 ≡ accepted none)
@@ -114,10 +155,9 @@ movedSheet = set sampleSheet 32 0x84
 
 pub moved-passes : TwoPasses movedSheet lent MasterRead zeros sampleArea
 unfolding fieldsOf imageOf controlAt unnamed listOf someBelow pdosFrom wrongLength kindFits pdosFit someManagerWrong someUsageWrong broken someUnnamed sheetData multiplierOf byCoe
-    bitsOf piecesFrom piecesOf own given firstWith usesOf total totalOn sizeOf chunks flat plan someTooMany noEntry tooLong dataPass
+    bitsOf piecesFrom piecesOf own given firstWith usesOf total totalOn sizeOf chunks flat plan someTooMany noEntry cleared tooLong inTheWay dataPass
 moved-passes =
     record {
-      disabled = all-disabled;
       between = replicate 16 0 ++ inputBytes ++ replicate 224 0;
       one = record { planned = inputs; says = refl; leaves = refl };
       two = record { planned = outputs; says = refl; leaves = refl };
@@ -128,7 +168,7 @@ unfolding controlAt listOf pdosFrom sheetData multiplierOf byCoe bitsOf piecesFr
 moved-apart e = let z : _≡_ {A = ℕ} 0x1184 0x1183 = follows-iff (laidBy movedSheet MasterRead (lent MasterRead)) .0 e .0 (lit< tt) in omega arith
 
 pub moved-disagrees : Agree movedSheet MasterRead (lent MasterRead) sampleArea → ⊥
-moved-disagrees h = moved-apart (demand-3 movedSheet lent MasterRead zeros sampleArea (bytes-of movedSheet tt) moved-passes MasterRead .0 h)
+moved-disagrees h = moved-apart (demand-3 movedSheet lent MasterRead zeros sampleArea (bytes-of movedSheet tt) moved-passes MasterRead tt .0 h)
 
 -- where: the first byte of the second sync manager
 pub moved-where : (translate MasterRead sampleArea 3 ≡ accepted (some 0x1183))
@@ -160,10 +200,9 @@ ownArea =
 
 pub own-passes : TwoPasses ownSheet lent MasterWrite zeros ownArea
 unfolding fieldsOf imageOf controlAt unnamed listOf someBelow pdosFrom wrongLength kindFits pdosFit someManagerWrong someUsageWrong broken someUnnamed sheetData multiplierOf byCoe
-    bitsOf piecesFrom piecesOf own given firstWith usesOf total totalOn sizeOf chunks flat plan someTooMany noEntry tooLong dataPass
+    bitsOf piecesFrom piecesOf own given firstWith usesOf total totalOn sizeOf chunks flat plan someTooMany noEntry cleared tooLong inTheWay dataPass
 own-passes =
     record {
-      disabled = all-disabled;
       between = ownOutput ++ replicate 208 0;
       one = record { planned = outputs; says = refl; leaves = refl };
       two = record { planned = inputs; says = refl; leaves = refl };
@@ -172,7 +211,7 @@ own-passes =
 pub own-agrees : Agree ownSheet MasterRead (lent MasterRead) ownArea
 unfolding controlAt listOf pdosFrom sheetData multiplierOf byCoe bitsOf piecesFrom piecesOf own given firstWith usesOf sharing
 own-agrees =
-    demand-3 ownSheet lent MasterWrite zeros ownArea (bytes-of ownSheet tt) own-passes MasterRead
+    demand-3 ownSheet lent MasterWrite zeros ownArea (bytes-of ownSheet tt) own-passes MasterRead tt
     .1 (follows-iff (laidBy ownSheet MasterRead (lent MasterRead)) .1 (λ h. tt, (λ h. tt, tt)))
 
 -- its last sync manager ends at 65,537: at the first byte 65,535 on both sides, at the second none on both
@@ -183,30 +222,54 @@ unfolding fieldsOf chunks carries says odd firstSaid translate controlAt unnamed
     count
 past-the-end = (refl, (refl, refl))
 
--- last spring's fault: the entry 1 of a cancelled job, still enabled, three bytes from 0 at 0x2000. The pass is accepted, the new length goes on top
+-- last spring's fault: the entry 1 of a cancelled job, still enabled, three bytes from 0 at 0x2000. Keeping, the pass is accepted, the new length goes on top
 
 abbrev staleArea : List ℕ
-staleArea = replicate 16 0 ++ (0 ∷ 0 ∷ 0 ∷ 0 ∷ 3 ∷ 0 ∷ 0 ∷ 7 ∷ 0x00 ∷ 0x20 ∷ 0 ∷ 1 ∷ 1 ∷ 0 ∷ 0 ∷ 0 ∷ []) ++ replicate 224 0
+staleArea = withZeros (replicate 16 0 ∷ entry 0 3 7 0x2000 1 1 ∷ [])
 
 abbrev staleAfter : List ℕ
-staleAfter = replicate 16 0 ++ (0 ∷ 0 ∷ 0 ∷ 0 ∷ 8 ∷ 0 ∷ 0 ∷ 7 ∷ 0x00 ∷ 0x20 ∷ 0 ∷ 1 ∷ 1 ∷ 0 ∷ 0 ∷ 0 ∷ []) ++ replicate 224 0
+staleAfter = withZeros (replicate 16 0 ∷ entry 0 8 7 0x2000 1 1 ∷ [])
 
-pub stale-pass : Accepted sampleSheet MasterRead (lent MasterRead) staleArea staleAfter
+pub stale-pass : Accepted sampleSheet MasterRead (keptLent MasterRead) staleArea staleAfter
 unfolding fieldsOf imageOf controlAt unnamed listOf someBelow pdosFrom wrongLength kindFits pdosFit someManagerWrong someUsageWrong broken someUnnamed sheetData multiplierOf byCoe
-    bitsOf piecesFrom piecesOf own given firstWith usesOf total totalOn sizeOf chunks flat plan someTooMany noEntry tooLong dataPass
+    bitsOf piecesFrom piecesOf own given firstWith usesOf total totalOn sizeOf chunks flat plan someTooMany noEntry cleared tooLong inTheWay dataPass
 stale-pass = record { planned = inputs; says = refl; leaves = refl }
 
 -- the bay's first byte is read from the other's, and the first byte of the next bay is answered too
-pub stale-names : (translate MasterRead staleAfter 0 ≡ accepted (some 0x2000)) × ((counted sampleSheet MasterRead (lent MasterRead) 0 ≡ accepted (some 0x1180))
-    × ((translate MasterRead staleAfter 5 ≡ accepted (some 0x2005)) × (counted sampleSheet MasterRead (lent MasterRead) 5 ≡ accepted none)))
-unfolding fieldsOf chunks carries says odd firstSaid translate controlAt unnamed listOf someBelow pdosFrom wrongLength kindFits pdosFit someManagerWrong someUsageWrong broken
+pub stale-names : (translate MasterRead staleAfter 0 ≡ accepted (some 0x2000)) × ((counted sampleSheet MasterRead (keptLent MasterRead) 0 ≡ accepted (some 0x1180))
+    × ((translate MasterRead staleAfter 5 ≡ accepted (some 0x2005)) × (counted sampleSheet MasterRead (keptLent MasterRead) 5 ≡ accepted none)))
+unfolding fieldsOf chunks flat carries says odd firstSaid translate controlAt unnamed listOf someBelow pdosFrom wrongLength kindFits pdosFit someManagerWrong someUsageWrong broken
     someUnnamed sheetData multiplierOf byCoe bitsOf piecesFrom piecesOf own given firstWith usesOf total sizeOf someTooMany noEntry spotIn
     count
 stale-names = (refl, (refl, (refl, refl)))
 
--- so the disabled start is needed: the sync managers lie end to end, and the two disagree
-pub stale-disagrees : Agree sampleSheet MasterRead (lent MasterRead) staleAfter → ⊥
+-- so keeping needs the disabled start: the sync managers lie end to end, and the two disagree
+pub stale-disagrees : Agree sampleSheet MasterRead (keptLent MasterRead) staleAfter → ⊥
 stale-disagrees h =
     let e : _≡_ {A = Outcome (Option ℕ)} (accepted (some 0x2000)) (accepted (some 0x1180)) = sym (stale-names .0) ∙ h 0 (lit< tt) ∙ stale-names .1 .0 in
     let z : _≡_ {A = ℕ} 0x2000 0x1180 = cc in
     omega arith
+
+-- the default on that very area: as from zeros, the same answer and the same bytes
+abbrev inputArea : List ℕ
+inputArea = withZeros (replicate 16 0 ∷ inputBytes ∷ [])
+
+pub stale-clean : Accepted sampleSheet MasterRead (lent MasterRead) staleArea inputArea × Accepted sampleSheet MasterRead (lent MasterRead) zeros inputArea
+unfolding fieldsOf imageOf controlAt unnamed listOf someBelow pdosFrom wrongLength kindFits pdosFit someManagerWrong someUsageWrong broken someUnnamed sheetData multiplierOf byCoe
+    bitsOf piecesFrom piecesOf own given firstWith usesOf total totalOn sizeOf chunks flat plan someTooMany noEntry cleared tooLong inTheWay dataPass
+stale-clean = (record { planned = inputs; says = refl; leaves = refl }, record { planned = inputs; says = refl; leaves = refl })
+
+pub stale-as-zeros : passOf sampleSheet MasterRead (lent MasterRead) staleArea ≡ passOf sampleSheet MasterRead (lent MasterRead) zeros
+unfolding stale-clean
+stale-as-zeros = stale-clean .0 .says ∙ sym (stale-clean .1 .says)
+
+-- so it can't happen: the two agree at every address, after this one pass
+pub stale-agrees : Agree sampleSheet MasterRead (lent MasterRead) inputArea
+stale-agrees = demand-3-of-one sampleSheet MasterRead (lent MasterRead) staleArea inputArea (bytes-of sampleSheet tt) (stale-clean .0) tt .1 (sample-end-to-end MasterRead)
+
+-- the pass made again: by default it leaves what it left, keeping adds its five bytes once more
+pub again : Accepted sampleSheet MasterRead (lent MasterRead) inputArea inputArea
+    × Accepted sampleSheet MasterRead (keptLent MasterRead) inputArea (withZeros (replicate 16 0 ∷ entry 0 10 7 0x1180 1 1 ∷ []))
+unfolding fieldsOf imageOf controlAt unnamed listOf someBelow pdosFrom wrongLength kindFits pdosFit someManagerWrong someUsageWrong broken someUnnamed sheetData multiplierOf byCoe
+    bitsOf piecesFrom piecesOf own given firstWith usesOf total totalOn sizeOf chunks flat plan someTooMany noEntry cleared tooLong inTheWay dataPass
+again = (record { planned = inputs; says = refl; leaves = refl }, record { planned = inputs; says = refl; leaves = refl })

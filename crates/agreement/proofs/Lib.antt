@@ -1,14 +1,21 @@
--- Demand 3 is `Demand3`. It rests on one entry (`Step`), one pass over any list of uses (`Run`, `Straight`), the uses of a direction (`Uses`), bytes
--- (`Areas`, `Sheets`). `Consequences` follow from it, `Contradicted` is about wrong planners, `Bench` and `Examples` are computed.
+-- Demand 3 is `Demand3`. It rests on one entry (`Step`), old entries cleared (`Clean`), one pass over any list of uses (`Run`, `Straight`), the uses of a direction
+-- (`Uses`), bytes (`Areas`, `Sheets`) and what an accepted pass tells (`Told`). `Consequences` follow from it, `Contradicted` is about wrong planners. The default
+-- beside keeping is `AsKeeping`, a pass made again is `Again` (with `Left` and `Images`). `Bench` and `Examples` are computed.
 pub mod Bench
 pub mod Basics
 pub mod Straight
 pub mod Step
+pub mod Clean
 pub mod Run
+pub mod Left
 pub mod Uses
 pub mod Areas
 pub mod Sheets
+pub mod Told
 pub mod Demand3
+pub mod AsKeeping
+pub mod Images
+pub mod Again
 pub mod Consequences
 pub mod Contradicted
 pub mod Examples

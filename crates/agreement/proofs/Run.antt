@@ -13,18 +13,22 @@ use lib.Seq.{getD-set-same, getD-set-other, map-set-same}
 use borrow.Author.Tests.{ltb-true, ltb-false, eq-eqb, ne-eqb}
 use Rattle.fmmu.specs.Image.{fieldsOf, imageOf}
 use Rattle.wire.specs.Lists.{Each, someOf}
-use Rattle.wire.proofs.Lists.{each-both}
+use Rattle.wire.proofs.Lists.{or-none, none-of, each-both}
 use Rattle.pdo.specs.declared.PdoDirection.{PdoDirection}
 use Rattle.pdo.specs.Direction.{other}
 use Rattle.passes.specs.Use.{Use, total, totalOn}
+use Rattle.passes.specs.declared.OldEntries.{OldEntries}
+use Rattle.passes.specs.declared.OldEntries.the-variants.{Clear}
+use Rattle.passes.specs.Old.{cleared, beginning, bothBits, someEnabled, inTheWay}
 use Rattle.passes.specs.Entries.{laid, plan, lengthNow}
 use Rattle.translation.specs.Translate.{named, carries, says, odd, firstSaid, orNone}
 use Rattle.agreement.specs.Agreement.{EndToEnd}
 use Rattle.translation.proofs.Lies.{inside, behind}
 use Rattle.passes.proofs.Kept.{plan-length}
-use Rattle.agreement.proofs.Basics.{either, same-or-not, each-map, each-of, first-none, first-new, none-at, some-map}
+use Rattle.agreement.proofs.Basics.{either, same-or-not, each-map, each-of, first-none, first-new, none-at, at-none, some-map}
 use Rattle.agreement.proofs.Straight.{lay, Fresh, Next, Grouped, linked, Apart, Lays, fresh-16, reach, goOn, lay-before, straight-same, same-straight, straight-iff}
 use Rattle.agreement.proofs.Step.{Off, Silent, Stand, Good, silent, stands, good-on, good-odd, good-says, says-silent, odd-silent, Stepped, step-off, step-on, silent-laid}
+use Rattle.agreement.proofs.Clean.{nil-off, cleared-at, cleared-silent, begun-length, begun-unseen, begun-silent, begun-off}
 
 -- what a use makes of its entry, and the area after it
 abbrev pub made : PdoDirection → ℕ → Use → List (List ℕ) → List ℕ
@@ -34,10 +38,10 @@ abbrev pub after : PdoDirection → ℕ → Use → List (List ℕ) → List (Li
 after r q u area = set area (u .entry) (made r q u area)
 
 -- each entry of the uses is an entry of the area
-abbrev Placed : List Use → List (List ℕ) → Type 0
+abbrev pub Placed : List Use → List (List ℕ) → Type 0
 Placed us area = Each (λ (v : Use). v .entry < length area) us
 
-placed-after : (r : PdoDirection) (q : ℕ) (u : Use) (us : List Use) (area : List (List ℕ)) → Placed us area → Placed us (after r q u area)
+pub placed-after : (r : PdoDirection) (q : ℕ) (u : Use) (us : List Use) (area : List (List ℕ)) → Placed us area → Placed us (after r q u area)
 placed-after r q u us area p = subst (λ (n : ℕ). Each (λ (v : Use). v .entry < n) us) (sym (length-set area (u .entry) (made r q u area))) p
 
 -- where a pass stands: at the offset q, the last entry c going on at x, the uses `us` still to come
@@ -191,6 +195,21 @@ pub record Start (r : PdoDirection) (us : List Use) (area : List (List ℕ)) : T
   pub silents : (k : ℕ) → Silent r (getD area k [])
   pub off : Each (λ (v : Use). Off (getD area (v .entry) [])) us
 
+-- by default a pass may begin on any sixteen entries, where 15 isn't given
+pub clean-start : (r : PdoDirection) (us : List Use) (area : List (List ℕ)) → length area ≡ 16 → inTheWay Clear r us area ≡ false → Start r us (beginning Clear r area)
+unfolding inTheWay
+clean-start r us area long h =
+    let n = or-none (someOf bothBits area) (someEnabled us (map (cleared r) area)) h in
+    record {
+      sixteen = begun-length Clear r area ∙ long;
+      silents = λ k. subst (Silent r) (sym (cleared-at r area k)) (cleared-silent r (getD area k []) (at-none bothBits area [] (rw nil-off refl) (n .0) k));
+      off =
+          none-of
+          (λ (u : Use). fieldsOf (getD (map (cleared r) area) (u .entry) []) .enable)
+          (λ (u : Use). Off (getD (map (cleared r) area) (u .entry) []))
+          (λ u e. e) us (n .1);
+    }
+
 start-stage : (r : PdoDirection) (q : ℕ) (us : List Use) (area : List (List ℕ)) → Lays q us → Start r us area → Stage r q 16 0 us area
 start-stage r q us area l t =
     record {
@@ -270,53 +289,66 @@ pub record Alike (r : PdoDirection) (area area′ : List (List ℕ)) : Type 0 wh
   pub says-same : (a : ℕ) → map (says r a) area ≡ map (says r a) area′
   pub odd-same : someOf (odd r) area ≡ someOf (odd r) area′
 
--- the other direction's pass on other entries, after this one: this one's answers stay
-pub other-after : (r : PdoDirection) (q p : ℕ) (us vs : List Use) (area : List (List ℕ)) → Start r us area → Apart vs us → Each (λ (v : Use). v .entry < 16) vs
-    → Alike r (plan (other r) p vs (plan r q us area)) (plan r q us area)
-other-after r q p us vs area t away places =
-    record {
-      says-same = λ a. unseen r (says r a) (λ e e′ h g. says-silent r a e h ∙ sym (says-silent r a e′ g)) p vs (plan r q us area) silents placed;
-      odd-same =
-          some-map (odd r) (plan (other r) p vs (plan r q us area)) (plan r q us area)
-          (unseen r (odd r) (λ e e′ h g. odd-silent r e h ∙ sym (odd-silent r e′ g)) p vs (plan r q us area) silents placed);
-    }
-  where
-    silents : Each (λ (v : Use). Silent r (getD (plan r q us area) (v .entry) [])) vs
-    silents =
-        each-map (λ (v : Use). Fresh (v .entry) us) (λ (v : Use). Silent r (getD (plan r q us area) (v .entry) []))
-        (λ v h. subst (Silent r) (sym (plan-leaves r q us area (v .entry) h)) (t .silents (v .entry)))
-        vs away
+-- the other direction's pass on other entries, after this one: neither its clearing nor its laying is seen
+module _ (old : OldEntries) (r : PdoDirection) (q p : ℕ) (us vs : List Use) (area : List (List ℕ)) (t : Start r us area) (away : Apart vs us) (places : Each (λ (v : Use). v .entry < 16) vs) where
+  abbrev left : List (List ℕ)
+  left = plan r q us area
 
-    placed : Placed vs (plan r q us area)
-    placed = subst (λ (n : ℕ). Each (λ (v : Use). v .entry < n) vs) (sym (plan-length r q us area ∙ t .sixteen)) places
+  abbrev then : List (List ℕ)
+  then = beginning old (other r) (plan r q us area)
 
--- and before this one: no entry has got weight for this direction
-pub other-silents : (r : PdoDirection) (p : ℕ) (vs : List Use) (area : List (List ℕ)) → length area ≡ 16 → ((k : ℕ) → Silent r (getD area k [])) → Each (λ (v : Use). v .entry < 16) vs
-    → (k : ℕ) → Silent r (getD (plan (other r) p vs area) k [])
-other-silents r p vs area sixteen silents places k =
-    sym (List·getD-map f (plan (other r) p vs area) k []) ∙ ap (λ (l : List Bool). getD l k (f [])) same ∙ List·getD-map f area k [] ∙ silents k
-  where
-    f : List ℕ → Bool
-    f e = carries r (fieldsOf e)
+  silents : Each (λ (v : Use). Silent r (getD then (v .entry) [])) vs
+  silents =
+      each-map (λ (v : Use). Fresh (v .entry) us) (λ (v : Use). Silent r (getD then (v .entry) []))
+      (λ v h. begun-silent old r left (v .entry) (subst (Silent r) (sym (plan-leaves r q us area (v .entry) h)) (t .silents (v .entry))))
+      vs away
 
-    same : map f (plan (other r) p vs area) ≡ map f area
-    same =
-        unseen r f (λ e e′ h g. h ∙ sym g) p vs area
-        (each-of (λ (v : Use). Silent r (getD area (v .entry) [])) (λ v. silents (v .entry)) vs)
-        (subst (λ (n : ℕ). Each (λ (v : Use). v .entry < n) vs) (sym sixteen) places)
+  placed : Placed vs then
+  placed = subst (λ (n : ℕ). Each (λ (v : Use). v .entry < n) vs) (sym (begun-length old (other r) left ∙ plan-length r q us area ∙ t .sixteen)) places
 
--- so this one may begin as before
-pub other-before : (r : PdoDirection) (p : ℕ) (us vs : List Use) (area : List (List ℕ)) → Start r us area → Apart us vs → Each (λ (v : Use). v .entry < 16) vs
-    → Start r us (plan (other r) p vs area)
-other-before r p us vs area t away places =
-    record {
-      sixteen = plan-length (other r) p vs area ∙ t .sixteen;
-      silents = other-silents r p vs area (t .sixteen) (t .silents) places;
-      off =
-          each-both
-          (λ (u : Use). Fresh (u .entry) vs)
-          (λ (u : Use). Off (getD area (u .entry) []))
-          (λ (u : Use). Off (getD (plan (other r) p vs area) (u .entry) []))
-          (λ u f o. subst Off (sym (plan-leaves (other r) p vs area (u .entry) f)) o)
-          us away (t .off);
-    }
+  shown : {B : Type 0} (f : List ℕ → B) → ((e e′ : List ℕ) → Silent r e → Silent r e′ → f e ≡ f e′) → map f (plan (other r) p vs then) ≡ map f left
+  shown f alike = unseen r f alike p vs then silents placed ∙ begun-unseen old r f alike left
+
+  pub other-after : Alike r (plan (other r) p vs (beginning old (other r) (plan r q us area))) (plan r q us area)
+  other-after =
+      record {
+        says-same = λ a. shown (says r a) (λ e e′ h g. says-silent r a e h ∙ sym (says-silent r a e′ g));
+        odd-same = some-map (odd r) (plan (other r) p vs then) left (shown (odd r) (λ e e′ h g. odd-silent r e h ∙ sym (odd-silent r e′ g)));
+      }
+
+-- and before this one
+module _ (old : OldEntries) (r : PdoDirection) (p : ℕ) (vs : List Use) (area : List (List ℕ)) (sixteen : length area ≡ 16) (places : Each (λ (v : Use). v .entry < 16) vs) where
+  abbrev first : List (List ℕ)
+  first = beginning old (other r) area
+
+  long : length first ≡ 16
+  long = begun-length old (other r) area ∙ sixteen
+
+  -- no entry has got weight for this direction
+  pub other-silents : ((k : ℕ) → Silent r (getD area k [])) → (k : ℕ) → Silent r (getD (plan (other r) p vs (beginning old (other r) area)) k [])
+  other-silents silents k =
+      sym (List·getD-map f (plan (other r) p vs first) k []) ∙ ap (λ (l : List Bool). getD l k (f [])) same ∙ List·getD-map f first k [] ∙ begun-silent old r area k (silents k)
+    where
+      f : List ℕ → Bool
+      f e = carries r (fieldsOf e)
+
+      same : map f (plan (other r) p vs first) ≡ map f first
+      same =
+          unseen r f (λ e e′ h g. h ∙ sym g) p vs first
+          (each-of (λ (v : Use). Silent r (getD first (v .entry) [])) (λ v. begun-silent old r area (v .entry) (silents (v .entry))) vs)
+          (subst (λ (n : ℕ). Each (λ (v : Use). v .entry < n) vs) (sym long) places)
+
+  -- so this one may begin as before
+  pub other-before : (us : List Use) → Start r us area → Apart us vs → Start r us (plan (other r) p vs (beginning old (other r) area))
+  other-before us t away =
+      record {
+        sixteen = plan-length (other r) p vs first ∙ long;
+        silents = other-silents (t .silents);
+        off =
+            each-both
+            (λ (u : Use). Fresh (u .entry) vs)
+            (λ (u : Use). Off (getD area (u .entry) []))
+            (λ (u : Use). Off (getD (plan (other r) p vs first) (u .entry) []))
+            (λ u f o. subst Off (sym (plan-leaves (other r) p vs first (u .entry) f)) (begun-off old (other r) area (u .entry) o))
+            us away (t .off);
+      }

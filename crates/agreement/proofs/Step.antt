@@ -18,6 +18,7 @@ use Rattle.pdo.specs.declared.PdoDirection.{PdoDirection}
 use Rattle.pdo.specs.declared.PdoDirection.the-variants.{MasterRead, MasterWrite}
 use Rattle.pdo.specs.Direction.{other}
 use Rattle.passes.specs.Use.{Use}
+use Rattle.passes.specs.Old.{isOld}
 use Rattle.passes.specs.Entries.{mapped, laid, lengthNow}
 use Rattle.translation.specs.Translate.{within, named, carries, says, odd}
 use Rattle.translation.proofs.Lies.{inside, before, behind}
@@ -166,10 +167,26 @@ both-flags true false = (refl, refl)
 both-flags false true = (refl, refl)
 both-flags false false = (refl, refl)
 
+image-read : (f : Fmmu) → fieldsOf (imageOf f) .«read_enable» ≡ f .«read_enable»
+unfolding fieldsOf imageOf
+image-read f = both-flags (f .«read_enable») (f .«write_enable») .0
+
+image-write : (f : Fmmu) → fieldsOf (imageOf f) .«write_enable» ≡ f .«write_enable»
+unfolding fieldsOf imageOf
+image-write f = both-flags (f .«read_enable») (f .«write_enable») .1
+
+image-enable : (f : Fmmu) → fieldsOf (imageOf f) .enable ≡ f .enable
+unfolding fieldsOf imageOf
+image-enable f = flag-bit (f .enable)
+
 image-carries : (r : PdoDirection) (f : Fmmu) → carries r (fieldsOf (imageOf f)) ≡ carries r f
-unfolding carries fieldsOf imageOf
-image-carries MasterRead f = rw (both-flags (f .«read_enable») (f .«write_enable») .0, flag-bit (f .enable)) refl
-image-carries MasterWrite f = rw (both-flags (f .«read_enable») (f .«write_enable») .1, flag-bit (f .enable)) refl
+unfolding carries
+image-carries MasterRead f = rw (image-read f, image-enable f) refl
+image-carries MasterWrite f = rw (image-write f, image-enable f) refl
+
+pub image-old : (r : PdoDirection) (f : Fmmu) → isOld r (fieldsOf (imageOf f)) ≡ isOld r f
+image-old MasterRead f = rw (image-read f, image-write f, image-enable f) refl
+image-old MasterWrite f = rw (image-read f, image-write f, image-enable f) refl
 
 laid-carries : (r : PdoDirection) (q : ℕ) (u : Use) (f : Fmmu) → (f .enable ≡ true) ⊎ (f .enable ≡ false) → carries r f ≡ false → carries r (laid (other r) q u f) ≡ false
 unfolding carries

@@ -1,4 +1,5 @@
 -- Demand 3 over definitions: what a pass, translation and counting mean. Of the functions themselves it is stated in demand3/specs/Calls.antt.
+-- By default it holds on every area; keeping old entries, it needs every entry disabled at the start.
 -- Assumes nothing.
 use mathlib.Core.Path.{_≡_}
 use mathlib.Core.Bool.{Bool, false, cond, _&&_}
@@ -18,6 +19,9 @@ use Rattle.pdo.specs.Direction.{other}
 use Rattle.pdo.specs.declared.Oversampling.{Oversampling}
 use Rattle.pdo.specs.Bits.{multipliersOf, piecesOf}
 use Rattle.passes.specs.Use.{Use, own, usesOf}
+use Rattle.passes.specs.declared.OldEntries.{OldEntries}
+use Rattle.passes.specs.declared.OldEntries.the-variants.{Clear, Keep}
+use Rattle.passes.specs.declared.Settings.{Settings}
 use Rattle.area.specs.Area.{entriesOf}
 use Rattle.passes.specs.Pass.{dataPass, entriesAfter}
 use Rattle.passes.specs.Entries.{Planned}
@@ -28,11 +32,16 @@ use Rattle.counting.specs.Count.{countedAddress}
 abbrev pub EveryDisabled : List ℕ → Type 0
 EveryDisabled area = (k : ℕ) → k < 16 → fieldsOf (getD (entriesOf 16 area) k []) .enable ≡ false
 
--- what a pass is lent beside the sheet and the FMMU area
+-- what demand 3 needs of the area at the start: by default nothing; keeping, that every entry is disabled
+abbrev pub Needs : OldEntries → List ℕ → Type 0
+Needs Clear area = Unit {0}
+Needs Keep area = EveryDisabled area
+
+-- what a pass is lent beside the sheet and the FMMU area; its settings are the group's start and what becomes of old entries
 pub record Lent : Type 0 where
   pub table : List Oversampling
   pub offset : ℕ
-  pub group : ℕ
+  pub settings : Settings
   pub channels : List ℕ
 
 -- one multiplier for each PDO of the sheet, by the table
@@ -41,17 +50,16 @@ weights sheet l = multipliersOf (l .table) (sheetData sheet .pdos)
 
 -- a pass of the sheet over the FMMU bytes `area`
 abbrev pub passOf : List ℕ → PdoDirection → Lent → List ℕ → Outcome Planned
-passOf sheet r l area = dataPass sheet (weights sheet l) r (l .offset) (l .group) area (l .channels)
+passOf sheet r l area = dataPass sheet (weights sheet l) r (l .offset) (l .settings) area (l .channels)
 
 -- it is accepted, and leaves `after`
 pub record Accepted (sheet : List ℕ) (r : PdoDirection) (l : Lent) (area after : List ℕ) : Type 0 where
   pub planned : Planned
   pub says : passOf sheet r l area ≡ accepted planned
-  pub leaves : after ≡ entriesAfter (passOf sheet r l area) (sheetData sheet) (weights sheet l) r (l .offset) area
+  pub leaves : after ≡ entriesAfter (passOf sheet r l area) (sheetData sheet) (weights sheet l) r (l .offset) (l .settings .old) area
 
--- one input pass and one output pass of the same sheet, `first` before the other, over an area with every entry disabled
+-- one input pass and one output pass of the same sheet, `first` before the other
 pub record TwoPasses (sheet : List ℕ) (lent : PdoDirection → Lent) (first : PdoDirection) (area after : List ℕ) : Type 0 where
-  pub disabled : EveryDisabled area
   pub between : List ℕ
   pub one : Accepted sheet first (lent first) area between
   pub two : Accepted sheet (other first) (lent (other first)) between after
@@ -87,12 +95,43 @@ counted sheet r l a = countedAddress r a sheet (weights sheet l) (l .offset)
 abbrev pub Agree : List ℕ → PdoDirection → Lent → List ℕ → Type 0
 Agree sheet r l area = (a : ℕ) → a < 2 ^ 32 → translate r area a ≡ counted sheet r l a
 
--- either order (`first`), either direction (`r`); each pass has its own table, offset, group start and sync manager area
+-- one pass alone, for its own direction
+abbrev pub Demand3OfOne : Type 0
+Demand3OfOne =
+    (sheet : List ℕ) (r : PdoDirection) (l : Lent) (area after : List ℕ)
+    → Bytes sheet
+    → Accepted sheet r l area after
+    → Needs (l .settings .old) area
+    → Agree sheet r l after ↔ EndToEnd (laidBy sheet r l)
+
+-- two passes: either order (`first`), either direction (`r`); each has its own table, offset, settings and sync manager area.
+-- Only the direction's own pass needs something of the area at the start, whatever the other one does with old entries
 abbrev pub Demand3 : Type 0
 Demand3 =
     (sheet : List ℕ) (lent : PdoDirection → Lent) (first : PdoDirection) (area after : List ℕ)
     → Bytes sheet
     → TwoPasses sheet lent first area after
+    → (r : PdoDirection)
+    → Needs (lent r .settings .old) area
+    → Agree sheet r (lent r) after ↔ EndToEnd (laidBy sheet r (lent r))
+
+-- the direction's pass in the default: every area
+abbrev pub Demand3Clean : Type 0
+Demand3Clean =
+    (sheet : List ℕ) (lent : PdoDirection → Lent) (first : PdoDirection) (area after : List ℕ)
+    → Bytes sheet
+    → TwoPasses sheet lent first area after
+    → (r : PdoDirection)
+    → lent r .settings .old ≡ Clear
+    → Agree sheet r (lent r) after ↔ EndToEnd (laidBy sheet r (lent r))
+
+-- from an area with every entry disabled, whatever the settings: so, where both passes keep old entries, document 01's demand as it stood
+abbrev pub Demand3FromDisabled : Type 0
+Demand3FromDisabled =
+    (sheet : List ℕ) (lent : PdoDirection → Lent) (first : PdoDirection) (area after : List ℕ)
+    → Bytes sheet
+    → TwoPasses sheet lent first area after
+    → EveryDisabled area
     → (r : PdoDirection)
     → Agree sheet r (lent r) after ↔ EndToEnd (laidBy sheet r (lent r))
 
@@ -107,5 +146,6 @@ Demand3InReach =
     → Bytes sheet
     → TwoPasses sheet lent first area after
     → (r : PdoDirection)
+    → Needs (lent r .settings .old) area
     → InReach sheet r (lent r)
     → Agree sheet r (lent r) after ↔ EndToEnd (laidBy sheet r (lent r))

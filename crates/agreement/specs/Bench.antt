@@ -1,4 +1,5 @@
 -- Bench cases P1 to P12 (document 01), one list: each with the answer of the entry point's own definition and the answer that the document has.
+-- Passes are made in the default; P8 asks for keeping (document 02, 3/13).
 -- Assumes nothing.
 use mathlib.Core.List.{List, [], _∷_, _++_}
 use Prim.Native.Nat.{ℕ, _/_, _%_}
@@ -14,6 +15,8 @@ use Rattle.sheet.specs.Sheet.{sheetData}
 use Rattle.pdo.specs.declared.PdoDirection.the-variants.{MasterRead}
 use Rattle.pdo.specs.Bits.{multipliersOf}
 use Rattle.area.specs.Area.{entriesOf}
+use Rattle.passes.specs.declared.Settings.{Settings}
+use Rattle.passes.specs.Old.{clean, keeping}
 use Rattle.passes.specs.Pass.{dataPass, entriesAfter, channelAreaAfter}
 use Rattle.passes.specs.Entries.{Planned}
 
@@ -57,12 +60,19 @@ zeros = replicate 256 0
 abbrev pub zeroChannels : List ℕ
 zeroChannels = replicate 128 0
 
--- the input pass over FMMU bytes, from an offset, group start 0; and from offset 0
+-- the input pass over FMMU bytes, from an offset; in the default with group start 0; and that from offset 0
+abbrev pub inputBy : Settings → ℕ → List ℕ → List ℕ → Outcome Planned
+inputBy settings offset sheet area = dataPass sheet (ones sheet) MasterRead offset settings area zeroChannels
+
 abbrev pub inputFrom : ℕ → List ℕ → List ℕ → Outcome Planned
-inputFrom offset sheet area = dataPass sheet (ones sheet) MasterRead offset 0 area zeroChannels
+inputFrom offset sheet area = inputBy (clean 0) offset sheet area
 
 abbrev pub inputPass : List ℕ → List ℕ → Outcome Planned
 inputPass sheet area = inputFrom 0 sheet area
+
+-- the same, keeping old entries
+abbrev pub inputKept : List ℕ → List ℕ → Outcome Planned
+inputKept sheet area = inputBy (keeping 0) 0 sheet area
 
 -- an accepted pass: entry k, of so many bytes, of the area that it leaves
 abbrev pub entryOf : ℕ → ℕ → List ℕ → Outcome Planned → Outcome (List ℕ)
@@ -70,9 +80,9 @@ entryOf size k after (refused n) = refused n
 entryOf size k after (accepted p) = accepted (getD (entriesOf size after) k [])
 
 -- the FMMU entry k, and the image of the sync manager k
-abbrev pub inputEntry : ℕ → List ℕ → Outcome (List ℕ)
-inputEntry k sheet =
-    entryOf 16 k (entriesAfter (inputPass sheet zeros) (sheetData sheet) (ones sheet) MasterRead 0 zeros) (inputPass sheet zeros)
+abbrev pub inputEntry : ℕ → List ℕ → List ℕ → Outcome (List ℕ)
+inputEntry k sheet area =
+    entryOf 16 k (entriesAfter (inputPass sheet area) (sheetData sheet) (ones sheet) MasterRead 0 (clean 0 .old) area) (inputPass sheet area)
 
 abbrev pub inputImage : ℕ → List ℕ → Outcome (List ℕ)
 inputImage k sheet =
@@ -103,7 +113,8 @@ noBitsSheet =
     (0x00 ∷ 0x13 ∷ 0x01 ∷ 0x03 ∷ 0x00 ∷ 0x80 ∷ 0x00 ∷ 0x80 ∷ 0x02 ∷ 0x00 ∷ 0x00 ∷ [])
     ++ (0x10 ∷ 0x80 ∷ 0x22 ∷ 0x01 ∷ 0x02 ∷ 0x11 ∷ 0x80 ∷ 0x20 ∷ 0x01 ∷ 0x04 ∷ [])
 
--- each case, by the step and by the pass where both have it; a control byte by itself, in an image, and by the pass that writes one
+-- each case, by the step and by the pass where both have it; P8 keeping, and by default, where the full entry is cleared first;
+-- a control byte by itself, in an image, and by the pass that writes one
 abbrev pub benchCases : List Row
 benchCases =
     row 1 (number (roundedUp 65528)) (accepted (8191 ∷ []))
@@ -123,9 +134,10 @@ benchCases =
     ∷ row 6 (startAndEnd (inputFrom 4294967294 (bitsSheet 8) zeros)) (accepted (4294967294 ∷ 4294967295 ∷ []))
     ∷ row 7 (number (incremented 4294967294 2)) (refused 9)
     ∷ row 7 (startAndEnd (inputFrom 4294967294 (bitsSheet 16) zeros)) (refused 9)
-    ∷ row 8 (startAndEnd (inputPass (bitsSheet 8) fullEntry)) (refused 8)
+    ∷ row 8 (startAndEnd (inputKept (bitsSheet 8) fullEntry)) (refused 8)
+    ∷ row 8 (startAndEnd (inputPass (bitsSheet 8) fullEntry)) (accepted (0 ∷ 1 ∷ []))
     ∷ row 9 (startAndEnd (inputPass noBitsSheet zeros)) (accepted (0 ∷ 0 ∷ []))
-    ∷ row 10 (inputEntry 0 (bitsSheet 0)) (accepted (0 ∷ 0 ∷ 0 ∷ 0 ∷ 0 ∷ 0 ∷ 0 ∷ 7 ∷ 0x80 ∷ 0x11 ∷ 0 ∷ 1 ∷ 1 ∷ 0 ∷ 0 ∷ 0 ∷ []))
+    ∷ row 10 (inputEntry 0 (bitsSheet 0) zeros) (accepted (0 ∷ 0 ∷ 0 ∷ 0 ∷ 0 ∷ 0 ∷ 0 ∷ 7 ∷ 0x80 ∷ 0x11 ∷ 0 ∷ 1 ∷ 1 ∷ 0 ∷ 0 ∷ 0 ∷ []))
     ∷ row 11 (control (readControl 0x23)) (refused 5)
     ∷ row 11 (startAndEnd (inputPass (set (bitsSheet 8) 13 0x23) zeros)) (refused 5)
     ∷ row 12 (control (readControl 0xa2)) (accepted (2 ∷ 0x22 ∷ []))

@@ -1,16 +1,21 @@
--- Translation and counting at their limits, one list of rows as the bench's: who decides, where an entry and a range end, what 11 looks at.
+-- Translation, counting and old entries at their limits, lists of rows as the bench's: who decides, where an entry and a range end, what 11 and 15 look at.
 -- Assumes nothing.
 use mathlib.Core.List.{List, [], _∷_, _++_}
 use mathlib.Core.Option.{Option, none, some}
-use Prim.Native.Nat.{ℕ, _-_, _*_}
+use Prim.Native.Nat.{ℕ, _+_, _-_, _*_}
 use lib.ListN.{length, set, replicate}
 use Rattle.wire.specs.Outcome.{Outcome, refused, accepted}
 use Rattle.wire.specs.Number.{littleOf}
+use Rattle.wire.specs.Lists.{listOf}
 use Rattle.pdo.specs.declared.PdoDirection.the-variants.{MasterRead, MasterWrite}
 use Rattle.area.specs.Area.{flat}
+use Rattle.passes.specs.declared.Settings.{Settings}
+use Rattle.passes.specs.Old.{clean, keeping}
+use Rattle.passes.specs.Pass.{dataPass}
 use Rattle.translation.specs.Translate.{translate}
 use Rattle.counting.specs.Count.{Spot, count}
-use Rattle.agreement.specs.Bench.{Row, row, ones, sampleSheet, noBitsSheet}
+use Rattle.agreement.specs.Clean.{zeroed}
+use Rattle.agreement.specs.Bench.{Row, row, startAndEnd, ones, zeroChannels, inputBy, inputPass, inputEntry, sampleSheet, bitsSheet, fullEntry, noBitsSheet}
 
 -- a device address as a list: nothing where it is none
 abbrev pub shown : Option ℕ → List ℕ
@@ -79,4 +84,61 @@ countingCases =
     ∷ row 9 (spot (count MasterRead 0 noBitsSheet (ones noBitsSheet) 0)) (accepted [])  -- an empty range
     ∷ row 10 (spot (count MasterRead 0 (set sampleSheet 37 0) (ones sampleSheet) 0)) (refused 7)  -- no entry has the inputs' usage
     ∷ row 11 (spot (count MasterRead 0 [] [] 4294967296)) (refused 2)  -- the sheet's refusals first
+    ∷ []
+
+-- an entry of the outputs, and one with both bits, each enabled with 65,535 bytes
+abbrev pub outputFull : List ℕ
+outputFull = entry 0 65535 7 0x1000 2 1
+
+abbrev pub bothFull : List ℕ
+bothFull = entry 0 65535 7 0x1000 3 1
+
+-- the entry 0, which is the wanted one, or the last
+abbrev pub atFirst : List ℕ → List ℕ
+atFirst e = withZeros (e ∷ [])
+
+abbrev pub atLast : List ℕ → List ℕ
+atLast e = replicate 240 0 ++ e
+
+-- one byte to map: a pass with these settings from an offset
+abbrev pub oneByte : Settings → ℕ → List ℕ → Outcome (List ℕ)
+oneByte settings offset area = startAndEnd (inputBy settings offset (bitsSheet 8) area)
+
+-- that byte from offset 0
+abbrev pub mappedByte : List ℕ
+mappedByte = entry 0 1 7 0x1180 1 1
+
+-- CoE, a read mailbox, so many inputs of one bit each, all on the entry 0; each 65,528 times: 8,191 bytes
+abbrev pub sharedSheet : ℕ → List ℕ
+sharedSheet n =
+    (0x00 ∷ (15 + 11 * n) ∷ 0x01 ∷ 0x03 ∷ 0x00 ∷ 0x80 ∷ 0x00 ∷ 0x80 ∷ (1 + n) ∷ 0x01 ∷ n ∷ [])
+    ++ (0x10 ∷ 0x80 ∷ 0x22 ∷ 0x01 ∷ 0x02 ∷ [])
+    ++ flat (listOf (λ k. 0x11 ∷ 0x80 ∷ 0x20 ∷ 0x01 ∷ 0x04 ∷ []) n)
+    ++ (0x02 ∷ [])
+    ++ flat (listOf (λ k. 0x00 ∷ (1 + k) ∷ 0x1a ∷ k ∷ 0x01 ∷ 0x01 ∷ []) n)
+
+abbrev pub sharedBy : Settings → ℕ → List ℕ → Outcome (List ℕ)
+sharedBy settings n area = startAndEnd (dataPass (sharedSheet n) (replicate n 65528) MasterRead 0 settings area zeroChannels)
+
+abbrev pub oldCases : List Row
+oldCases =
+    row 1 (inputEntry 0 (bitsSheet 8) fullEntry) (accepted mappedByte)  -- a full entry of the inputs is cleared, the pass begins from zero
+    ∷ row 2 (inputEntry 15 (bitsSheet 8) (atLast (entry 0 1 7 0x1000 1 1))) (accepted (replicate 16 0))  -- one that isn't wanted is cleared too, all sixteen bytes
+    ∷ row 3 (inputEntry 15 (bitsSheet 8) (atLast outputFull)) (accepted outputFull)  -- the other direction's stays
+    ∷ row 4 (inputEntry 15 noBitsSheet (atLast (entry 0 1 7 0x1000 1 1))) (accepted (replicate 16 0))  -- cleared also where nothing is mapped
+    ∷ row 5 (oneByte (clean 0) 0 (atFirst outputFull)) (refused 15)  -- the wanted entry is the other direction's: 15, and not 8, which counts from zero
+    ∷ row 6 (oneByte (keeping 0) 0 (atFirst outputFull)) (refused 8)  -- keeping gives 8
+    ∷ row 7 (oneByte (clean 0) 4294967295 (atFirst outputFull)) (refused 9)  -- 9 comes before 15
+    ∷ row 8 (oneByte (keeping 0) 4294967295 (zeroed MasterRead (atFirst outputFull))) (refused 8)  -- where keeping, with old inputs zeroed, gives 8: `AsKeeping` asks for more than 'not answered 15'
+    ∷ row 9 (oneByte (clean 1) 0 (atFirst outputFull)) (refused 10)  -- 10 comes before 15
+    ∷ row 10 (oneByte (clean 0) 0 (atLast bothFull)) (refused 15)  -- both bits, on whatever entry
+    ∷ row 11 (startAndEnd (inputPass noBitsSheet (atFirst bothFull))) (refused 15)  -- also where nothing is mapped
+    ∷ row 12 (startAndEnd (inputPass noBitsSheet (atFirst outputFull))) (accepted (0 ∷ 0 ∷ []))  -- where the other direction's isn't in the way
+    ∷ row 13 (oneByte (keeping 0) 0 (atLast bothFull)) (accepted (0 ∷ 1 ∷ []))  -- keeping never gives 15
+    ∷ row 14 (oneByte (clean 0) 0 (atLast (set bothFull 12 0))) (accepted (0 ∷ 1 ∷ []))  -- nor does a disabled entry
+    ∷ row 15 (oneByte (clean 0) 0 (atFirst (entry 0 1 7 0x1000 0 1))) (refused 15)  -- an entry with neither bit isn't cleared
+    ∷ row 16 (oneByte (clean 0) 0 (atLast (entry 0 1 7 0x1000 0 1))) (accepted (0 ∷ 1 ∷ []))  -- and is in the way only if it is wanted
+    ∷ row 17 (sharedBy (clean 0) 8 fullEntry) (accepted (0 ∷ 65528 ∷ []))  -- 8 counts from zero: eight inputs have room
+    ∷ row 18 (sharedBy (clean 0) 9 fullEntry) (refused 8)  -- nine have not
+    ∷ row 19 (sharedBy (clean 0) 9 (atLast bothFull)) (refused 8)  -- 8 comes before 15
     ∷ []

@@ -1,0 +1,159 @@
+-- The default on any area is keeping on the area with the direction's old entries zeroed, where nothing is in the way.
+-- Assumes nothing.
+use mathlib.Core.Path.{_≡_, refl, sym, _∙_, ap, subst}
+use mathlib.Core.Bool.{Bool, true, false, cond, not, _||_}
+use mathlib.Core.List.{List, [], _∷_, _++_, map}
+use mathlib.Core.Logic.{_⊎_, inl, inr, ⊎-elim}
+use Prim.Native.Nat.{ℕ, zero, suc, _+_, _<_, _≤_}
+use native.Mathlib.Nat.{zero-add}
+use native.Mathlib.Omega.{arith}
+use lib.Dec.{eqb, ltb}
+use lib.ListN.{length, getD, drop, replicate}
+use lib.Seq.{getD-drop}
+use borrow.Author.Tests.{le-ltb, eqb-true, eq-eqb, ne-eqb}
+use Rattle.wire.specs.Field.{flagAt}
+use Rattle.wire.specs.Number.{littleAt}
+use Rattle.wire.specs.Image.{Bytes}
+use Rattle.wire.specs.Outcome.{Outcome, accepted, when, decide}
+use Rattle.wire.proofs.Bytes.{no-bytes, part-bytes, little-fits}
+use Rattle.wire.proofs.Lists.{some-same}
+use Rattle.pdi.specs.Offset.{pastEnd}
+use Rattle.fmmu.specs.Image.{fieldsOf}
+use Rattle.sheet.specs.Sheet.{sheetRefusals, sheetData}
+use Rattle.pdo.specs.declared.PdoDirection.{PdoDirection}
+use Rattle.area.specs.Area.{chunks, entriesOf, flat, notEntries, notChannels}
+use Rattle.passes.specs.declared.OldEntries.the-variants.{Clear, Keep}
+use Rattle.passes.specs.Use.{Use, totalOn, usesOf, sizeOf}
+use Rattle.passes.specs.Old.{clean, cleared, inTheWay}
+use Rattle.passes.specs.Entries.{plan, lengthNow, tooLong, Planned}
+use Rattle.passes.specs.Pass.{wantedRefusals, plannedOf, dataPass, entriesAfter, channelAreaAfter, segmentAlone, offsetAfter}
+use Rattle.agreement.specs.Clean.{zeroed, byDefault, byKeeping, AsKeeping, PromiseAsKeeping}
+use Rattle.agreement.proofs.Basics.{either}
+use Rattle.agreement.proofs.Straight.{Fresh}
+use Rattle.agreement.proofs.Step.{Off}
+use Rattle.agreement.proofs.Clean.{cleared-at, cleared-has}
+use Rattle.agreement.proofs.Run.{clean-start}
+use Rattle.agreement.proofs.Left.{fresh-or}
+use Rattle.area.proofs.Flat.{length-chunks}
+use Rattle.agreement.proofs.Areas.{Sixteen, sixteen-of, sixteen-begun, flat-long, flat-entries}
+use Rattle.agreement.proofs.Told.{answered, none-holds, area-long, told}
+
+-- of bytes, each entry's length is two of them
+chunk-bytes : (m : ℕ) (l : List ℕ) (k : ℕ) → Bytes l → Bytes (getD (chunks 16 m l) k [])
+unfolding chunks
+chunk-bytes zero l k b = no-bytes
+chunk-bytes (suc m) l zero b = part-bytes l 0 16 b
+chunk-bytes (suc m) l (suc k) b = chunk-bytes m (drop 16 l) k (record { below = λ i. subst (λ (x : ℕ). x < 256) (sym (getD-drop 16 l i 0)) (b .below (16 + i)) })
+
+length-two : (e : List ℕ) → Bytes e → lengthNow e ≤ 65535
+unfolding fieldsOf
+length-two e b = go (flagAt (getD e 12 0) 0)
+  where
+    go : (on : Bool) → cond on (littleAt e 4 2) 0 ≤ 65535
+    go true = let h = little-fits 2 4 b in omega arith
+    go false = omega arith
+
+zeros-length : lengthNow (replicate 16 0) ≤ 65535
+unfolding fieldsOf
+zeros-length = omega arith
+
+-- nothing is laid where no use is
+fresh-total : (k : ℕ) (us : List Use) → Fresh k us → totalOn k us ≡ 0
+unfolding totalOn
+fresh-total k [] f = refl
+fresh-total k (u ∷ us) f = rw (ne-eqb (u .entry) k (f .0)) (zero-add (totalOn k us) ∙ fresh-total k us (f .1))
+
+module _ (r : PdoDirection) (us : List Use) (fmmus : List ℕ) (bytes : Bytes fmmus) (free : inTheWay Clear r us (entriesOf 16 fmmus) ≡ false) where
+  abbrev begin : List (List ℕ)
+  begin = map (cleared r) (entriesOf 16 fmmus)
+
+  short : (k : ℕ) → lengthNow (getD begin k []) ≤ 65535
+  short k =
+      subst (λ (e : List ℕ). lengthNow e ≤ 65535) (sym (cleared-at r (entriesOf 16 fmmus) k))
+      (cleared-has r (getD (entriesOf 16 fmmus) k []) (λ e. lengthNow e ≤ 65535) zeros-length (λ h. length-two (getD (entriesOf 16 fmmus) k []) (chunk-bytes 16 fmmus k bytes)))
+
+  -- so 8 is the same counted from zero as from those lengths: where something is laid the entry is disabled
+  eight-same : tooLong Clear us (entriesOf 16 fmmus) ≡ tooLong Keep us begin
+  unfolding tooLong
+  eight-same = some-same (λ k. ltb 65535 (0 + totalOn k us)) (λ k. ltb 65535 (lengthNow (getD begin k []) + totalOn k us)) 16 one
+    where
+      one : (k : ℕ) → k < 16 → ltb 65535 (0 + totalOn k us) ≡ ltb 65535 (lengthNow (getD begin k []) + totalOn k us)
+      one k h =
+          ⊎-elim
+          (λ f.
+          let z = fresh-total k us f in
+          let s = short k in
+          le-ltb 65535 (0 + totalOn k us) (omega arith) ∙ sym (le-ltb 65535 (lengthNow (getD begin k []) + totalOn k us) (omega arith)))
+          (λ o. rw o refl)
+          (fresh-or k (λ (j : ℕ). Off (getD begin j [])) us (clean-start r us (entriesOf 16 fmmus) (length-chunks 16 16 fmmus) free .off))
+
+-- an area of 256 bytes with its old entries zeroed is as long, and its entries are those that a pass in the default begins with
+module _ (r : PdoDirection) (fmmus : List ℕ) (long : length fmmus ≡ 256) where
+  zeroed-whole : zeroed r fmmus ≡ flat (map (cleared r) (entriesOf 16 fmmus))
+  zeroed-whole = rw (eq-eqb (length fmmus) 256 long) refl
+
+  sixteen : Sixteen (map (cleared r) (entriesOf 16 fmmus))
+  sixteen = sixteen-begun Clear r (entriesOf 16 fmmus) (sixteen-of fmmus long)
+
+  pub zeroed-long : length (zeroed r fmmus) ≡ 256
+  zeroed-long = ap length zeroed-whole ∙ flat-long (map (cleared r) (entriesOf 16 fmmus)) sixteen
+
+  pub zeroed-entries : entriesOf 16 (zeroed r fmmus) ≡ map (cleared r) (entriesOf 16 fmmus)
+  zeroed-entries = ap (entriesOf 16) zeroed-whole ∙ flat-entries (map (cleared r) (entriesOf 16 fmmus)) sixteen
+
+module _ (sheet ws : List ℕ) (r : PdoDirection) (offset group : ℕ) (fmmus channels : List ℕ) (bytes : Bytes fmmus)
+    (free : inTheWay Clear r (usesOf (sheetData sheet) ws r) (entriesOf 16 fmmus) ≡ false) where
+  abbrev uses : List Use
+  uses = usesOf (sheetData sheet) ws r
+
+  -- a pass by the answers to 1, 8 and 15
+  abbrev answer : Bool → Bool → Bool → Outcome Planned
+  answer one eight fifteen =
+      decide
+      (when 1 (one || notChannels channels) ∷ sheetRefusals sheet ++ (wantedRefusals (sheetData sheet) ws r
+      ++ (when 8 eight ∷ when 9 (pastEnd (offset + sizeOf (sheetData sheet) ws r)) ∷ when 10 (ltb offset group) ∷ when 15 fifteen ∷ [])))
+      (plannedOf (sheetData sheet) ws r offset group)
+
+  outcomes-same : (eqb (length fmmus) 256 ≡ true) ⊎ (eqb (length fmmus) 256 ≡ false) → byDefault sheet ws r offset group fmmus channels ≡ byKeeping sheet ws r offset group fmmus channels
+  unfolding dataPass inTheWay
+  outcomes-same (inr h) = let z : zeroed r fmmus ≡ fmmus = rw h refl in rw (z, h) refl
+  outcomes-same (inl h) =
+      let long = eqb-true (length fmmus) 256 h in
+      let one : notEntries fmmus ≡ notEntries (zeroed r fmmus) = ap (λ (n : ℕ). not (eqb n 256)) (long ∙ sym (zeroed-long r fmmus long)) in
+      let eight : tooLong Clear uses (entriesOf 16 fmmus) ≡ tooLong Keep uses (entriesOf 16 (zeroed r fmmus)) =
+      eight-same r uses fmmus bytes free ∙ ap (tooLong Keep uses) (sym (zeroed-entries r fmmus long)) in
+      λ i. answer (one i) (eight i) (free i)
+
+  -- accepted, it is of 256 bytes
+  entries-same : (p : Planned) → byDefault sheet ws r offset group fmmus channels ≡ accepted p
+      → entriesAfter (accepted p) (sheetData sheet) ws r offset Clear fmmus ≡ entriesAfter (accepted p) (sheetData sheet) ws r offset Keep (zeroed r fmmus)
+  entries-same p e =
+      let long = area-long sheet ws r offset (clean group) fmmus channels (none-holds sheet ws r offset (clean group) fmmus channels p e) in
+      ap (λ (es : List (List ℕ)). flat (plan r offset uses es)) (sym (zeroed-entries r fmmus long))
+
+pub as-keeping : AsKeeping
+as-keeping sheet ws r offset group fmmus channels bytes free =
+    let same = outcomes-same sheet ws r offset group fmmus channels bytes free (either (eqb (length fmmus) 256)) in
+    record {
+      outcomes = same;
+      entries = entries-same sheet ws r offset group fmmus channels bytes free;
+      images = ap (λ (o : Outcome Planned). channelAreaAfter o (sheetData sheet) ws r channels) same;
+    }
+
+-- an accepted pass has nothing in the way
+pub promise-as-keeping : PromiseAsKeeping
+promise-as-keeping sheet ws r offset group fmmus channels s o f c bytes p =
+    let at = offset .«start_address» in
+    let went = answered (byDefault sheet ws r at group fmmus channels) s (p .says) in
+    let told = told sheet ws r at (clean group) fmmus channels f (went .planned) (went .says) (p .entries) in
+    let k = as-keeping sheet ws r at group fmmus channels bytes (told .free) in
+    let same = k .outcomes in
+    record {
+      says = p .says ∙ ap segmentAlone same;
+      moves = p .moves ∙ ap (λ (x : Outcome Planned). offsetAfter x offset) same;
+      entries =
+          p .entries ∙ ap (λ (x : Outcome Planned). entriesAfter x (sheetData sheet) ws r at Clear fmmus) (went .says)
+          ∙ k .entries (went .planned) (went .says)
+          ∙ ap (λ (x : Outcome Planned). entriesAfter x (sheetData sheet) ws r at Keep (zeroed r fmmus)) (sym (went .says) ∙ same);
+      images = p .images ∙ k .images;
+    }
