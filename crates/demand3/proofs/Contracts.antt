@@ -17,7 +17,7 @@ use Rattle.lent.proofs.count as counting
 use Rattle.lent.proofs.Unique.{PassesOn, CountsBy}
 use Rattle.demand3.specs.Calls.{Pass, Translation, Counting}
 
--- `lent::configure_fmmus`, where it answered a segment: sheet, table, FMMU bytes, sync manager bytes, offset, group start, direction
+-- `lent::configure_fmmus`, where it answered a segment: sheet, table, FMMU bytes, sync manager bytes, offset, settings, direction
 pub pass-of : (κs : Lfts 5) (a : Args configuring.signature κs) (answer : PdiSegment) (s : AtExit configuring.ended κs) → PassesOn κs a (Segment answer) s
     → Pass (now (a .0)) (a .1 .1 .1 .1 .1 .1 .0)
 pass-of κs a answer s kept =
@@ -26,7 +26,7 @@ pass-of κs a answer s kept =
       fmmus = now (a .1 .1 .0);
       channels = now (a .1 .1 .1 .0);
       offset = now (a .1 .1 .1 .1 .0);
-      group = a .1 .1 .1 .1 .1 .0;
+      settings = a .1 .1 .1 .1 .1 .0;
       segment = answer;
       fmmusThen = now (s .1 .1 .0);
       channelsThen = now (s .1 .1 .1 .0);

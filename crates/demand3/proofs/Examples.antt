@@ -1,5 +1,5 @@
--- The theorem isn't empty: two accepted passes are passes of which calls can be made, whatever is asked for has an answer that keeps the promise, and on document 01's
--- sheet the answers then agree everywhere.
+-- The theorem isn't empty: accepted passes are passes of which calls can be made, whatever is asked for has an answer that keeps the promise, and on document 01's
+-- sheet the answers then agree everywhere: in the default over old entries, after one call and after both.
 -- Assumes nothing.
 use mathlib.Core.Path.{_≡_, refl, sym, ap}
 use mathlib.Core.List.{List}
@@ -20,10 +20,10 @@ use Rattle.counting.specs.declared.Counted.{Counted}
 use Rattle.counting.specs.declared.Counted.the-variants as counted
 use Rattle.counting.specs.Count.{Spot, count, countedOf}
 use Rattle.agreement.specs.Agreement.{Lent, weights, passOf, Accepted}
-use Rattle.agreement.specs.Bench.{zeros, sampleSheet}
-use Rattle.agreement.proofs.Examples.{bytes-of, lent, all-disabled, sample-passes, sample-end-to-end, sampleArea}
-use Rattle.demand3.specs.Calls.{Pass, Translation, Counting, Calls, AgreeEverywhere}
-use Rattle.demand3.proofs.Functions.{demand-3-of-functions}
+use Rattle.agreement.specs.Bench.{sampleSheet}
+use Rattle.agreement.proofs.Examples.{bytes-of, lent, usedArea, sample-passes, sample-end-to-end, sampleArea}
+use Rattle.demand3.specs.Calls.{Pass, Translation, Counting, Call, Calls, AgreeAlone, AgreeEverywhere}
+use Rattle.demand3.proofs.Functions.{demand-3-of-one-call-clean, demand-3-of-functions-clean}
 
 -- an answer for whatever a definition says
 abbrev reachedBy : Option ℕ → Reached
@@ -64,7 +64,7 @@ module _ (sheet : List ℕ) (r : PdoDirection) (l : Lent) (area after : List ℕ
         fmmus = area;
         channels = l .channels;
         offset = from;
-        group = l .group;
+        settings = l .settings;
         segment = a .planned .segment;
         fmmusThen = after;
         channelsThen = channelAreaAfter (passOf sheet r l area) (sheetData sheet) (weights sheet l) r (l .channels);
@@ -80,9 +80,9 @@ could-count sheet l offset r a =
     let o = count r a sheet (weights sheet l) (offset .«start_address») in
     record { answer = countedBy o; promise = counted-back o }
 
--- document 01's sheet, inputs first
+-- document 01's sheet, inputs first, over the entries of a cancelled job
 abbrev samplePass : (r : PdoDirection) → Pass sampleSheet r
-samplePass MasterRead = could-pass sampleSheet MasterRead (lent MasterRead) zeros (sample-passes .between) (sample-passes .one)
+samplePass MasterRead = could-pass sampleSheet MasterRead (lent MasterRead) usedArea (sample-passes .between) (sample-passes .one)
 samplePass MasterWrite = could-pass sampleSheet MasterWrite (lent MasterWrite) (sample-passes .between) sampleArea (sample-passes .two)
 
 sample-count : (r : PdoDirection) (a : ℕ) → Counting sampleSheet (samplePass r .table) (samplePass r .offset) r a
@@ -94,7 +94,6 @@ sample-calls =
     record {
       bytes = bytes-of sampleSheet tt;
       pass = samplePass;
-      disabled = all-disabled;
       handed-on = refl;
       translating = λ r a h. could-translate sampleArea r a;
       counting = λ r a h. sample-count r a;
@@ -102,5 +101,19 @@ sample-calls =
 
 pub sample-calls-agree : (r : PdoDirection) → AgreeEverywhere sampleSheet MasterRead sample-calls r
 unfolding sample-calls
-sample-calls-agree MasterRead = demand-3-of-functions sampleSheet MasterRead sample-calls MasterRead .1 (sample-end-to-end MasterRead)
-sample-calls-agree MasterWrite = demand-3-of-functions sampleSheet MasterRead sample-calls MasterWrite .1 (sample-end-to-end MasterWrite)
+sample-calls-agree MasterRead = demand-3-of-functions-clean sampleSheet MasterRead sample-calls MasterRead refl .1 (sample-end-to-end MasterRead)
+sample-calls-agree MasterWrite = demand-3-of-functions-clean sampleSheet MasterRead sample-calls MasterWrite refl .1 (sample-end-to-end MasterWrite)
+
+-- the inputs alone
+pub sample-call : Call sampleSheet MasterRead
+sample-call =
+    record {
+      bytes = bytes-of sampleSheet tt;
+      pass = samplePass MasterRead;
+      translating = λ a h. could-translate (sample-passes .between) MasterRead a;
+      counting = λ a h. sample-count MasterRead a;
+    }
+
+pub sample-call-agrees : AgreeAlone sampleSheet MasterRead sample-call
+unfolding sample-call
+sample-call-agrees = demand-3-of-one-call-clean sampleSheet MasterRead sample-call refl .1 (sample-end-to-end MasterRead)

@@ -1,4 +1,5 @@
--- Demand 3 of the functions: read this first. It speaks of what they were lent and of what they answered.
+-- Demand 3 of the functions: read this first. It speaks of what they were lent and of what they answered. By default it holds on every FMMU area; keeping old
+-- entries, from one with every entry disabled.
 -- Each `promise` is the function's own `ensures`, at the values of the call: `Contracts` in proofs/ makes these records of the contracts.
 -- Assumes nothing.
 use mathlib.Core.Path.{_≡_}
@@ -16,13 +17,15 @@ use Rattle.pdo.specs.declared.PdoDirection.{PdoDirection}
 use Rattle.pdo.specs.declared.Oversampling.{Oversampling}
 use Rattle.pdo.specs.Direction.{other}
 use Rattle.pdo.specs.Bits.{multipliersOf}
+use Rattle.passes.specs.declared.OldEntries.the-variants.{Clear}
+use Rattle.passes.specs.declared.Settings.{Settings}
 use Rattle.passes.specs.Use.{Use, usesOf}
 use Rattle.passes.specs.Pass.{Passes}
 use Rattle.translation.specs.declared.Translated.{Translated}
 use Rattle.translation.specs.Translate.{translate, translatedOf}
 use Rattle.counting.specs.declared.Counted.{Counted}
 use Rattle.counting.specs.Count.{count, countedOf, deviceAlone}
-use Rattle.agreement.specs.Agreement.{EveryDisabled, EndToEnd}
+use Rattle.agreement.specs.Agreement.{EveryDisabled, Needs, EndToEnd}
 
 -- a call of `lent::configure_fmmus` that answered a segment: what it was lent beside the sheet, its answer, and what it left
 pub record Pass (sheet : List ℕ) (r : PdoDirection) : Type 0 where
@@ -30,12 +33,12 @@ pub record Pass (sheet : List ℕ) (r : PdoDirection) : Type 0 where
   pub fmmus : List ℕ
   pub channels : List ℕ
   pub offset : PdiOffset
-  pub group : ℕ
+  pub settings : Settings
   pub segment : PdiSegment
   pub fmmusThen : List ℕ
   pub channelsThen : List ℕ
   pub offsetThen : PdiOffset
-  pub promise : Passes sheet (multipliersOf table (sheetData sheet .pdos)) r offset group fmmus channels (Segment segment) offsetThen fmmusThen channelsThen
+  pub promise : Passes sheet (multipliersOf table (sheetData sheet .pdos)) r offset settings fmmus channels (Segment segment) offsetThen fmmusThen channelsThen
 
 -- a call of `translation::translate` at an address
 pub record Translation (fmmus : List ℕ) (r : PdoDirection) (a : ℕ) : Type 0 where
@@ -47,13 +50,19 @@ pub record Counting (sheet : List ℕ) (table : List Oversampling) (offset : Pdi
   pub answer : Counted
   pub promise : countedOf answer ≡ count r a sheet (multipliersOf table (sheetData sheet .pdos)) (offset .«start_address»)
 
--- the calls: from FMMU bytes with every entry disabled a pass of each direction, `first` before the other, which is lent what the first left;
--- then, at all 2^32 addresses, translating through the bytes that are left, and counting with the pass's own table and offset. The sheet holds bytes, as every
--- lent slice of them does (`below`, lent/proofs/Bytes.antt)
+-- one pass alone; then, at all 2^32 addresses, translating through the bytes that it left, and counting with its own table and offset. The sheet holds bytes, as
+-- every lent slice of them does (`below`, lent/proofs/Bytes.antt)
+pub record Call (sheet : List ℕ) (r : PdoDirection) : Type 0 where
+  pub bytes : Bytes sheet
+  pub pass : Pass sheet r
+  pub translating : (a : ℕ) → a < 2 ^ 32 → Translation (pass .fmmusThen) r a
+  pub counting : (a : ℕ) → a < 2 ^ 32 → Counting sheet (pass .table) (pass .offset) r a
+
+-- a pass of each direction, `first` before the other, which is lent what the first left; then, for both directions, translating through the bytes that are left in
+-- the end, and counting
 pub record Calls (sheet : List ℕ) (first : PdoDirection) : Type 0 where
   pub bytes : Bytes sheet
   pub pass : (r : PdoDirection) → Pass sheet r
-  pub disabled : EveryDisabled (pass first .fmmus)
   pub handed-on : pass (other first) .fmmus ≡ pass first .fmmusThen
   pub translating : (r : PdoDirection) (a : ℕ) → a < 2 ^ 32 → Translation (pass (other first) .fmmusThen) r a
   pub counting : (r : PdoDirection) (a : ℕ) → a < 2 ^ 32 → Counting sheet (pass r .table) (pass r .offset) r a
@@ -65,15 +74,49 @@ pub record SameDevice (t : Translated) (c : Counted) : Type 0 where
   pub counted : deviceAlone (countedOf c) ≡ accepted device
 
 -- at all 2^32 logical addresses
+abbrev pub Everywhere : ((a : ℕ) → a < 2 ^ 32 → Translated) → ((a : ℕ) → a < 2 ^ 32 → Counted) → Type 0
+Everywhere translated counted = (a : ℕ) (h : a < 2 ^ 32) → SameDevice (translated a h) (counted a h)
+
+abbrev pub AgreeAlone : (sheet : List ℕ) (r : PdoDirection) → Call sheet r → Type 0
+AgreeAlone sheet r call = Everywhere (λ a h. call .translating a h .answer) (λ a h. call .counting a h .answer)
+
 abbrev pub AgreeEverywhere : (sheet : List ℕ) (first : PdoDirection) → Calls sheet first → PdoDirection → Type 0
-AgreeEverywhere sheet first calls r = (a : ℕ) (h : a < 2 ^ 32) → SameDevice (calls .translating r a h .answer) (calls .counting r a h .answer)
+AgreeEverywhere sheet first calls r = Everywhere (λ a h. calls .translating r a h .answer) (λ a h. calls .counting r a h .answer)
 
--- the sync managers that the direction's pass laid, each with its size, its device address and the entry that it uses
-abbrev pub laidIn : (sheet : List ℕ) (first : PdoDirection) → Calls sheet first → PdoDirection → List Use
-laidIn sheet first calls r = usesOf (sheetData sheet) (multipliersOf (calls .pass r .table) (sheetData sheet .pdos)) r
+-- the sync managers that a pass laid, each with its size, its device address and the entry that it uses
+abbrev pub laidIn : (sheet : List ℕ) (r : PdoDirection) → Pass sheet r → List Use
+laidIn sheet r p = usesOf (sheetData sheet) (multipliersOf (p .table) (sheetData sheet .pdos)) r
 
--- either order (`first`), either direction (`r`): they agree everywhere exactly if the nonempty sync managers that share an entry lie end to end
+-- one call: the two agree everywhere exactly if the nonempty sync managers that share an entry lie end to end
+abbrev pub Demand3OfOneCall : Type 0
+Demand3OfOneCall =
+    (sheet : List ℕ) (r : PdoDirection) (call : Call sheet r)
+    → Needs (call .pass .settings .old) (call .pass .fmmus)
+    → AgreeAlone sheet r call ↔ EndToEnd (laidIn sheet r (call .pass))
+
+-- both, in either order (`first`), for either direction (`r`). Only the direction's own pass needs something of the area at the start
 abbrev pub Demand3OfFunctions : Type 0
 Demand3OfFunctions =
     (sheet : List ℕ) (first : PdoDirection) (calls : Calls sheet first) (r : PdoDirection)
-    → AgreeEverywhere sheet first calls r ↔ EndToEnd (laidIn sheet first calls r)
+    → Needs (calls .pass r .settings .old) (calls .pass first .fmmus)
+    → AgreeEverywhere sheet first calls r ↔ EndToEnd (laidIn sheet r (calls .pass r))
+
+-- so by default on every area: one call alone, and among two the direction whose pass is in the default
+abbrev pub Demand3OfOneCallClean : Type 0
+Demand3OfOneCallClean =
+    (sheet : List ℕ) (r : PdoDirection) (call : Call sheet r)
+    → call .pass .settings .old ≡ Clear
+    → AgreeAlone sheet r call ↔ EndToEnd (laidIn sheet r (call .pass))
+
+abbrev pub Demand3OfFunctionsClean : Type 0
+Demand3OfFunctionsClean =
+    (sheet : List ℕ) (first : PdoDirection) (calls : Calls sheet first) (r : PdoDirection)
+    → calls .pass r .settings .old ≡ Clear
+    → AgreeEverywhere sheet first calls r ↔ EndToEnd (laidIn sheet r (calls .pass r))
+
+-- and from FMMU bytes with every entry disabled whatever the settings, as document 01 has it of keeping
+abbrev pub Demand3OfFunctionsFromDisabled : Type 0
+Demand3OfFunctionsFromDisabled =
+    (sheet : List ℕ) (first : PdoDirection) (calls : Calls sheet first) (r : PdoDirection)
+    → EveryDisabled (calls .pass first .fmmus)
+    → AgreeEverywhere sheet first calls r ↔ EndToEnd (laidIn sheet r (calls .pass r))
