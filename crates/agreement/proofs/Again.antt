@@ -29,8 +29,8 @@ use Rattle.passes.proofs.Once.{passes-once}
 use Rattle.agreement.specs.Clean.{byDefault, MadeAgain}
 use Rattle.agreement.proofs.Basics.{Clear, clear-accepted, each-map, none-at, at-none}
 use Rattle.agreement.proofs.Straight.{Fresh}
-use Rattle.agreement.proofs.Step.{Off}
-use Rattle.agreement.proofs.Clean.{old-not-both, zeros-off, nil-off, cleared-old, cleared-has, cleared-twice, cleared-at}
+use Rattle.passes.proofs.Cleared.{Off, old-not-both, zeros-off, nil-off, cleared-old, cleared-has, cleared-at}
+use Rattle.agreement.proofs.Clean.{cleared-twice}
 use Rattle.agreement.proofs.Run.{Placed, Start, clean-start, plan-leaves}
 use Rattle.agreement.proofs.Left.{Ours, fresh-or, LeftOf, left-at, laid-left, SameBut, plan-same}
 use Rattle.agreement.proofs.Sheets.{bounded}

@@ -1,19 +1,18 @@
 -- An area of bytes and its sixteen entries: what a pass begins with and what it leaves are sixteen of sixteen bytes, so joined and cut again they are the same.
 -- Assumes nothing.
-use mathlib.Core.Path.{_≡_, refl, sym, _∙_, ap}
-use mathlib.Core.List.{List, [], _∷_}
+use mathlib.Core.Path.{_≡_, sym, _∙_, ap}
+use mathlib.Core.List.{List}
 use Prim.Native.Nat.{ℕ}
 use lib.ListN.{length}
 use Rattle.pdo.specs.declared.PdoDirection.{PdoDirection}
 use Rattle.passes.specs.declared.OldEntries.{OldEntries}
-use Rattle.passes.specs.declared.OldEntries.the-variants.{Clear, Keep}
 use Rattle.passes.specs.Use.{Use}
 use Rattle.passes.specs.Old.{beginning}
 use Rattle.area.specs.Area.{chunks, entriesOf, flat}
 use Rattle.area.proofs.Flat.{Rows, length-chunks, rows-chunks, chunks-flat, flat-bytes}
 use Rattle.passes.specs.Entries.{plan}
 use Rattle.passes.proofs.Kept.{plan-length, rows-plan}
-use Rattle.agreement.proofs.Clean.{cleared-has, begun-length}
+use Rattle.passes.proofs.Cleared.{begun-length, rows-begun}
 
 -- sixteen entries of sixteen bytes
 abbrev pub Sixteen : List (List ℕ) → Type 0
@@ -23,12 +22,7 @@ pub sixteen-of : (area : List ℕ) → length area ≡ 256 → Sixteen (entriesO
 sixteen-of area long = (length-chunks 16 16 area, rows-chunks 16 16 area long)
 
 pub sixteen-begun : (old : OldEntries) (r : PdoDirection) (es : List (List ℕ)) → Sixteen es → Sixteen (beginning old r es)
-sixteen-begun old r es s = (begun-length old r es ∙ s .0, rows old es (s .1))
-  where
-    rows : (old : OldEntries) (es : List (List ℕ)) → Rows 16 es → Rows 16 (beginning old r es)
-    rows Keep es h = h
-    rows Clear [] h = tt
-    rows Clear (e ∷ es) h = (cleared-has r e (λ x. length x ≡ 16) refl (λ z. h .0), rows Clear es (h .1))
+sixteen-begun old r es s = (begun-length old r es ∙ s .0, rows-begun old r es (s .1))
 
 pub sixteen-planned : (r : PdoDirection) (q : ℕ) (us : List Use) (es : List (List ℕ)) → Sixteen es → Sixteen (plan r q us es)
 sixteen-planned r q us es s = (plan-length r q us es ∙ s .0, rows-plan r q us es (s .1))

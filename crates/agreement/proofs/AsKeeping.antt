@@ -1,40 +1,29 @@
 -- The default on any area is keeping on the area with the direction's old entries zeroed, where nothing is in the way.
 -- Assumes nothing.
 use mathlib.Core.Path.{_≡_, refl, sym, _∙_, ap, subst}
-use mathlib.Core.Bool.{Bool, true, false, cond, not, _||_}
+use mathlib.Core.Bool.{Bool, true, false, not, _||_}
 use mathlib.Core.List.{List, [], _∷_, _++_, map}
-use mathlib.Core.Logic.{_⊎_, inl, inr, ⊎-elim}
-use Prim.Native.Nat.{ℕ, zero, suc, _+_, _<_, _≤_}
-use native.Mathlib.Nat.{zero-add}
-use native.Mathlib.Omega.{arith}
+use mathlib.Core.Logic.{_⊎_, inl, inr}
+use Prim.Native.Nat.{ℕ, zero, suc, _+_, _<_}
 use lib.Dec.{eqb, ltb}
-use lib.ListN.{length, getD, drop, replicate}
+use lib.ListN.{length, getD, drop}
 use lib.Seq.{getD-drop}
-use borrow.Author.Tests.{le-ltb, eqb-true, eq-eqb, ne-eqb}
-use Rattle.wire.specs.Field.{flagAt}
-use Rattle.wire.specs.Number.{littleAt}
+use borrow.Author.Tests.{eqb-true, eq-eqb}
 use Rattle.wire.specs.Image.{Bytes}
 use Rattle.wire.specs.Outcome.{Outcome, accepted, when, decide}
-use Rattle.wire.proofs.Bytes.{no-bytes, part-bytes, little-fits}
-use Rattle.wire.proofs.Lists.{some-same}
+use Rattle.wire.proofs.Bytes.{no-bytes, part-bytes}
 use Rattle.pdi.specs.Offset.{pastEnd}
-use Rattle.fmmu.specs.Image.{fieldsOf}
 use Rattle.sheet.specs.Sheet.{sheetRefusals, sheetData}
 use Rattle.pdo.specs.declared.PdoDirection.{PdoDirection}
 use Rattle.area.specs.Area.{chunks, entriesOf, flat, notEntries, notChannels}
 use Rattle.passes.specs.declared.OldEntries.the-variants.{Clear, Keep}
-use Rattle.passes.specs.Use.{Use, totalOn, usesOf, sizeOf}
+use Rattle.passes.specs.Use.{Use, usesOf, sizeOf}
 use Rattle.passes.specs.Old.{clean, cleared, inTheWay}
-use Rattle.passes.specs.Entries.{plan, lengthNow, tooLong, Planned}
+use Rattle.passes.specs.Entries.{plan, tooLong, Planned}
 use Rattle.passes.specs.Pass.{wantedRefusals, plannedOf, dataPass, entriesAfter, channelAreaAfter, segmentAlone, offsetAfter}
+use Rattle.passes.proofs.Cleared.{length-bytes, cleared-eight}
 use Rattle.agreement.specs.Clean.{zeroed, byDefault, byKeeping, AsKeeping, PromiseAsKeeping}
 use Rattle.agreement.proofs.Basics.{either}
-use Rattle.agreement.proofs.Straight.{Fresh}
-use Rattle.agreement.proofs.Step.{Off}
-use Rattle.agreement.proofs.Clean.{cleared-at, cleared-has}
-use Rattle.agreement.proofs.Run.{clean-start}
-use Rattle.agreement.proofs.Left.{fresh-or}
-use Rattle.area.proofs.Flat.{length-chunks}
 use Rattle.agreement.proofs.Areas.{Sixteen, sixteen-of, sixteen-begun, flat-long, flat-entries}
 use Rattle.agreement.proofs.Told.{answered, none-holds, area-long, told}
 
@@ -45,47 +34,10 @@ chunk-bytes zero l k b = no-bytes
 chunk-bytes (suc m) l zero b = part-bytes l 0 16 b
 chunk-bytes (suc m) l (suc k) b = chunk-bytes m (drop 16 l) k (record { below = λ i. subst (λ (x : ℕ). x < 256) (sym (getD-drop 16 l i 0)) (b .below (16 + i)) })
 
-length-two : (e : List ℕ) → Bytes e → lengthNow e ≤ 65535
-unfolding fieldsOf
-length-two e b = go (flagAt (getD e 12 0) 0)
-  where
-    go : (on : Bool) → cond on (littleAt e 4 2) 0 ≤ 65535
-    go true = let h = little-fits 2 4 b in omega arith
-    go false = omega arith
-
-zeros-length : lengthNow (replicate 16 0) ≤ 65535
-unfolding fieldsOf
-zeros-length = omega arith
-
--- nothing is laid where no use is
-fresh-total : (k : ℕ) (us : List Use) → Fresh k us → totalOn k us ≡ 0
-unfolding totalOn
-fresh-total k [] f = refl
-fresh-total k (u ∷ us) f = rw (ne-eqb (u .entry) k (f .0)) (zero-add (totalOn k us) ∙ fresh-total k us (f .1))
-
-module _ (r : PdoDirection) (us : List Use) (fmmus : List ℕ) (bytes : Bytes fmmus) (free : inTheWay Clear r us (entriesOf 16 fmmus) ≡ false) where
-  abbrev begin : List (List ℕ)
-  begin = map (cleared r) (entriesOf 16 fmmus)
-
-  short : (k : ℕ) → lengthNow (getD begin k []) ≤ 65535
-  short k =
-      subst (λ (e : List ℕ). lengthNow e ≤ 65535) (sym (cleared-at r (entriesOf 16 fmmus) k))
-      (cleared-has r (getD (entriesOf 16 fmmus) k []) (λ e. lengthNow e ≤ 65535) zeros-length (λ h. length-two (getD (entriesOf 16 fmmus) k []) (chunk-bytes 16 fmmus k bytes)))
-
-  -- so 8 is the same counted from zero as from those lengths: where something is laid the entry is disabled
-  eight-same : tooLong Clear us (entriesOf 16 fmmus) ≡ tooLong Keep us begin
-  unfolding tooLong
-  eight-same = some-same (λ k. ltb 65535 (0 + totalOn k us)) (λ k. ltb 65535 (lengthNow (getD begin k []) + totalOn k us)) 16 one
-    where
-      one : (k : ℕ) → k < 16 → ltb 65535 (0 + totalOn k us) ≡ ltb 65535 (lengthNow (getD begin k []) + totalOn k us)
-      one k h =
-          ⊎-elim
-          (λ f.
-          let z = fresh-total k us f in
-          let s = short k in
-          le-ltb 65535 (0 + totalOn k us) (omega arith) ∙ sym (le-ltb 65535 (lengthNow (getD begin k []) + totalOn k us) (omega arith)))
-          (λ o. rw o refl)
-          (fresh-or k (λ (j : ℕ). Off (getD begin j [])) us (clean-start r us (entriesOf 16 fmmus) (length-chunks 16 16 fmmus) free .off))
+-- so 8 is the same counted from zero as from those lengths
+eight-same : (r : PdoDirection) (us : List Use) (fmmus : List ℕ) → Bytes fmmus → inTheWay Clear r us (entriesOf 16 fmmus) ≡ false
+    → tooLong Clear us (entriesOf 16 fmmus) ≡ tooLong Keep us (map (cleared r) (entriesOf 16 fmmus))
+eight-same r us fmmus bytes free = sym (cleared-eight r us (entriesOf 16 fmmus) (λ k h. length-bytes (getD (entriesOf 16 fmmus) k []) (chunk-bytes 16 fmmus k bytes)) free)
 
 -- an area of 256 bytes with its old entries zeroed is as long, and its entries are those that a pass in the default begins with
 module _ (r : PdoDirection) (fmmus : List ℕ) (long : length fmmus ≡ 256) where

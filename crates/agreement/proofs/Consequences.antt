@@ -31,7 +31,8 @@ use Rattle.agreement.proofs.Run.{said, plan-leaves}
 use Rattle.passes.proofs.Pieces.{uses-total}
 use Rattle.agreement.proofs.Uses.{apart}
 use Rattle.area.proofs.Flat.{length-chunks}
-use Rattle.agreement.proofs.Clean.{old-not-other, cleared-not, begun-at}
+use Rattle.passes.proofs.Cleared.{cleared-not}
+use Rattle.agreement.proofs.Clean.{old-not-other, begun-at}
 use Rattle.agreement.proofs.Left.{Ours, laid-left}
 use Rattle.agreement.proofs.Demand3.{one, two, rangeSize, begun, Facts, sane-uses, first-start, among, translated, other-unseen}
 

@@ -35,8 +35,8 @@ use Rattle.counting.specs.Count.{spotIn, deviceAlone, countRefusals, count}
 use Rattle.agreement.specs.Agreement.{EveryDisabled, Needs, Lent, weights, passOf, Accepted, TwoPasses, EndToEnd, laidBy, counted, Agree, Demand3OfOne, Demand3, Demand3Clean, Demand3FromDisabled, Demand3InReach}
 use Rattle.agreement.proofs.Basics.{clear-accepted, each-map, each-of, either}
 use Rattle.agreement.proofs.Straight.{lay, Lays, apart-flip}
-use Rattle.agreement.proofs.Step.{Off, off-silent}
-use Rattle.agreement.proofs.Clean.{nil-off}
+use Rattle.passes.proofs.Cleared.{Off, nil-off}
+use Rattle.agreement.proofs.Step.{off-silent}
 use Rattle.agreement.proofs.Run.{Start, clean-start, Alike, agree-iff, none-odd, other-after, other-before}
 use Rattle.agreement.proofs.Uses.{spot-lay, count-lay, apart, Sane, sane}
 use Rattle.area.proofs.Flat.{length-chunks}

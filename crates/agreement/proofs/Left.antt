@@ -17,7 +17,8 @@ use Rattle.passes.specs.Old.{isOld}
 use Rattle.passes.specs.Entries.{mapped, grown, laid, plan}
 use Rattle.agreement.proofs.Basics.{either, same-or-not, each-map}
 use Rattle.agreement.proofs.Straight.{Fresh}
-use Rattle.agreement.proofs.Step.{Off, image-old}
+use Rattle.passes.proofs.Cleared.{Off}
+use Rattle.agreement.proofs.Step.{image-old}
 use Rattle.agreement.proofs.Run.{made, after, Placed, placed-after}
 
 -- enabled with the direction's bit alone, as a pass of the direction leaves its entries

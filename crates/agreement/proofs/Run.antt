@@ -27,8 +27,9 @@ use Rattle.translation.proofs.Lies.{inside, behind}
 use Rattle.passes.proofs.Kept.{plan-length}
 use Rattle.agreement.proofs.Basics.{either, same-or-not, each-map, each-of, first-none, first-new, none-at, at-none, some-map}
 use Rattle.agreement.proofs.Straight.{lay, Fresh, Next, Grouped, linked, Apart, Lays, fresh-16, reach, goOn, lay-before, straight-same, same-straight, straight-iff}
-use Rattle.agreement.proofs.Step.{Off, Silent, Stand, Good, silent, stands, good-on, good-odd, good-says, says-silent, odd-silent, Stepped, step-off, step-on, silent-laid}
-use Rattle.agreement.proofs.Clean.{nil-off, cleared-at, cleared-silent, begun-length, begun-unseen, begun-silent, begun-off}
+use Rattle.passes.proofs.Cleared.{Off, nil-off, cleared-at, begun-length}
+use Rattle.agreement.proofs.Step.{Silent, Stand, Good, silent, stands, good-on, good-odd, good-says, says-silent, odd-silent, Stepped, step-off, step-on, silent-laid}
+use Rattle.agreement.proofs.Clean.{cleared-silent, begun-unseen, begun-silent, begun-off}
 
 -- what a use makes of its entry, and the area after it
 abbrev pub made : PdoDirection → ℕ → Use → List (List ℕ) → List ℕ

@@ -20,12 +20,10 @@ use Rattle.pdo.specs.Direction.{other}
 use Rattle.passes.specs.Use.{Use}
 use Rattle.passes.specs.Old.{isOld}
 use Rattle.passes.specs.Entries.{mapped, laid, lengthNow}
+use Rattle.passes.proofs.Cleared.{Off}
 use Rattle.translation.specs.Translate.{within, named, carries, says, odd}
 use Rattle.translation.proofs.Lies.{inside, before, behind}
 use Rattle.agreement.proofs.Basics.{either}
-
-abbrev pub Off : List ℕ → Type 0
-Off e = fieldsOf e .enable ≡ false
 
 -- of no weight for the direction: disabled, or without its bit
 abbrev pub Silent : PdoDirection → List ℕ → Type 0

@@ -1,17 +1,14 @@
 -- What is in the way of a pass: asked sync manager by sync manager; what the entries are then, and that 8 on those is 8 of the pass.
 -- Assumes nothing.
 use mathlib.Core.Path.{_≡_, refl, sym, _∙_, ap, subst}
-use mathlib.Core.Bool.{Bool, true, false, cond, not, _&&_, _||_, false≢true}
+use mathlib.Core.Bool.{Bool, true, false, cond, _||_}
 use mathlib.Core.List.{List, [], _∷_, map}
-use mathlib.Core.Logic.{_⊎_, inl, inr, ⊎-elim}
+use mathlib.Core.Logic.{inl}
 use Prim.Native.Nat.{ℕ, zero, suc, _+_, _<_, _≤_, min}
-use native.Mathlib.Decide.{ℕ-discrete}
 use native.Mathlib.Omega.{arith}
 use lib.ListN.{length, getD, drop, replicate, length-map, List·getD-eq-default}
-use lib.Dec.{ltb}
-use borrow.Author.Tests.{le-ltb}
 use Rattle.wire.specs.Lists.{someOf}
-use Rattle.wire.proofs.Lists.{or-none, some-same}
+use Rattle.wire.proofs.Lists.{or-none}
 use Rattle.pdi.specs.declared.ByteLen.{ByteLen}
 use Rattle.fmmu.specs.Image.{fieldsOf}
 use Rattle.sheet.specs.declared.SyncManager.{SyncManager}
@@ -23,10 +20,10 @@ use Rattle.channels.specs.Channels.{sizeAt}
 use Rattle.passes.specs.declared.OldEntries.{OldEntries}
 use Rattle.passes.specs.declared.OldEntries.the-variants.{Clear, Keep}
 use Rattle.passes.specs.declared.Route.{Route}
-use Rattle.passes.specs.Use.{Use, totalOn}
+use Rattle.passes.specs.Use.{Use}
 use Rattle.passes.specs.Handed.{usesBy}
 use Rattle.passes.specs.Entries.{lengthNow, tooLong}
-use Rattle.passes.specs.Old.{isOld, cleared, bothBits, someEnabled, inTheWay}
+use Rattle.passes.specs.Old.{cleared, bothBits, someEnabled, inTheWay}
 use Rattle.passes.proofs.Cleared.{cleared-at, length-off, cleared-short, from-zero, cleared-eight}
 use Rattle.entries.specs.Lay.{takesEntry, entryBy, Short}
 use Rattle.entries.specs.Ready.{on, nothing, ready, Clears, Readies}

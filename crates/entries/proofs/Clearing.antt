@@ -1,7 +1,7 @@
 -- Old entries cleared one after another: an entry that is disabled, one that is old, any other; and what is still enabled then.
 -- Assumes nothing.
-use mathlib.Core.Path.{_≡_, refl, sym, _∙_, ap, ap₂, subst}
-use mathlib.Core.Bool.{Bool, true, false, not, _&&_, _||_, false≢true}
+use mathlib.Core.Path.{_≡_, refl, sym, _∙_, ap}
+use mathlib.Core.Bool.{Bool, true, false, not, _&&_, _||_}
 use mathlib.Core.List.{List, [], _∷_, _++_, map}
 use Prim.Native.Nat.{ℕ, zero, suc, _+_, _<_, _≤_}
 use native.Mathlib.Nat.{not-suc-le-zero, le-of-suc-le-suc}
@@ -16,8 +16,8 @@ use Rattle.fmmu.specs.Image.{fieldsOf}
 use Rattle.pdo.specs.declared.PdoDirection.{PdoDirection}
 use Rattle.pdo.specs.declared.PdoDirection.the-variants.{MasterRead, MasterWrite}
 use Rattle.pdo.specs.Direction.{other}
-use Rattle.passes.specs.Old.{bitOf, cleared, bothBits}
-use Rattle.passes.proofs.Cleared.{zeros-off, cleared-old, cleared-not, cleared-off, cleared-at}
+use Rattle.passes.specs.Old.{bitOf, isOld, cleared, bothBits}
+use Rattle.passes.proofs.Cleared.{zeros-off, old-not-both, cleared-old, cleared-not, cleared-off, cleared-at}
 use Rattle.entries.specs.Ready.{accessBit, carriesAlone, withBoth, on, Clears}
 
 -- the bits of an image that are asked
@@ -44,16 +44,6 @@ alone r e o = go (bitOf r (fieldsOf e)) ∙ ap (λ (b : Bool). bitOf r (fieldsOf
     go : (b : Bool) → b ≡ b && true
     go true = refl
     go false = refl
-
--- who carries one bit alone has not both
-and-not : (x y : Bool) → x && not y ≡ true → (x && y ≡ false) × (y && x ≡ false)
-and-not true false e = (refl, refl)
-and-not true true e = absurd (false≢true e)
-and-not false y e = absurd (false≢true e)
-
-not-both : (r : PdoDirection) (e : List ℕ) → carriesAlone r (fieldsOf e) ≡ true → withBoth e ≡ false
-not-both MasterRead e a = and-not (fieldsOf e .«read_enable») (fieldsOf e .«write_enable») a .0
-not-both MasterWrite e a = and-not (fieldsOf e .«write_enable») (fieldsOf e .«read_enable») a .1
 
 -- of the first k elements and the next
 some-next : {A : Type 0} (f : A → Bool) (l : List A) (k : ℕ) (d : A) → k < length l → someOf f (take (k + 1) l) ≡ someOf f (take k l) || f (getD l k d)
@@ -136,9 +126,10 @@ module _ {r : PdoDirection} {before : List (List ℕ)} {k : ℕ} {now : List (Li
     -- an old one is set to zero
     pub clearing-old : on (getD now k []) ≡ true → carriesAlone r (fieldsOf (getD now k [])) ≡ true → Clearing r before (k + 1) (set now k (replicate 16 0)) enabled both
     clearing-old o a =
-        let zero = cleared-old r (getD now k []) (λ i. o i && a i) in
+        let is : isOld r (fieldsOf (getD now k [])) ≡ true = λ i. o i && a i in
+        let zero = cleared-old r (getD now k []) is in
         turned (ap (set now k) (sym zero)) (or-false enabled ∙ ap (λ (b : Bool). enabled || b) (sym (ap on zero ∙ zeros-off)))
-        (or-false both ∙ ap (λ (b : Bool). both || b) (sym (ap (λ (b : Bool). b && withBoth (getD now k [])) o ∙ not-both r (getD now k []) a)))
+        (or-false both ∙ ap (λ (b : Bool). both || b) (sym (old-not-both r (getD now k []) is)))
 
     -- any other is still enabled
     pub clearing-other :

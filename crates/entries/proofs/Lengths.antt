@@ -11,10 +11,7 @@ use lib.ListN.{length, getD, length-set}
 use lib.Seq.{getD-set-same, getD-set-other}
 use lib.Dec.{ltb}
 use borrow.Author.Tests.{ltb-true, ltb-false, lt-ltb, le-ltb, eq-eqb, ne-eqb}
-use Rattle.wire.specs.Field.{flagAt}
-use Rattle.wire.specs.Number.{littleAt}
 use Rattle.wire.specs.Image.{Bytes}
-use Rattle.wire.proofs.Bytes.{little-fits}
 use Rattle.wire.proofs.Fields.{flag-bit}
 use Rattle.wire.proofs.Numbers.{joined-is}
 use Rattle.wire.proofs.Lists.{some-hit, some-none, some-same}
@@ -24,16 +21,12 @@ use Rattle.pdo.specs.declared.PdoDirection.{PdoDirection}
 use Rattle.passes.specs.declared.OldEntries.the-variants.{Keep}
 use Rattle.passes.specs.Use.{Use, totalOn}
 use Rattle.passes.specs.Entries.{mapped, grown, laid, withUse, lengthOf, lengthNow, tooLong}
+use Rattle.passes.proofs.Cleared.{length-bytes}
 use Rattle.entries.specs.Lay.{noRoom, Short}
 
 -- two bytes hold no more
 pub short-bytes : (entries : List (List ℕ)) → length entries ≡ 16 → ((k : ℕ) → Bytes (getD entries k [])) → Short entries
-unfolding fieldsOf
-short-bytes entries many bytes = record { many = many; short = λ k h. go k (flagAt (getD (getD entries k []) 12 0) 0) }
-  where
-    go : (k : ℕ) (b : Bool) → cond b (littleAt (getD entries k []) 4 2) 0 ≤ 65535
-    go k true = let h = little-fits 2 4 (bytes k) in omega arith
-    go k false = omega arith
+short-bytes entries many bytes = record { many = many; short = λ k h. length-bytes (getD entries k []) (bytes k) }
 
 -- the length of an entry that was written
 written-length : (f : Fmmu) → f .«length_bytes» .0 ≤ 65535 → lengthNow (imageOf f) ≡ lengthOf f

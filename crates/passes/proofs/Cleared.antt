@@ -1,7 +1,7 @@
 -- Old entries cleared: one entry, and all that a pass begins with; and 8, which counts from zero then.
 -- Assumes nothing.
 use mathlib.Core.Path.{_≡_, refl, sym, _∙_, ap, subst}
-use mathlib.Core.Bool.{Bool, true, false, cond}
+use mathlib.Core.Bool.{Bool, true, false, cond, not, _&&_, true≢false}
 use mathlib.Core.List.{List, [], _∷_, map}
 use mathlib.Core.Logic.{_⊎_, inl, inr, ⊎-elim}
 use Prim.Native.Nat.{ℕ, _+_, _<_, _≤_}
@@ -11,15 +11,22 @@ use native.Mathlib.Omega.{arith}
 use lib.ListN.{length, getD, replicate, length-map, List·getD-map}
 use lib.Dec.{ltb}
 use borrow.Author.Tests.{le-ltb, ne-eqb}
+use Rattle.wire.specs.Field.{flagAt}
+use Rattle.wire.specs.Number.{littleAt}
+use Rattle.wire.specs.Image.{Bytes}
 use Rattle.wire.specs.Lists.{someOf}
+use Rattle.wire.proofs.Bytes.{little-fits}
 use Rattle.wire.proofs.Lists.{or-none, some-same}
+use Rattle.fmmu.specs.declared.Fmmu.{Fmmu}
 use Rattle.fmmu.specs.Image.{fieldsOf}
 use Rattle.area.proofs.Flat.{Rows}
 use Rattle.pdo.specs.declared.PdoDirection.{PdoDirection}
+use Rattle.pdo.specs.declared.PdoDirection.the-variants.{MasterRead, MasterWrite}
+use Rattle.pdo.specs.Direction.{other}
 use Rattle.passes.specs.declared.OldEntries.{OldEntries}
 use Rattle.passes.specs.declared.OldEntries.the-variants.{Clear, Keep}
 use Rattle.passes.specs.Use.{Use, totalOn}
-use Rattle.passes.specs.Old.{isOld, cleared, beginning, bothBits, someEnabled, inTheWay}
+use Rattle.passes.specs.Old.{bitOf, isOld, cleared, beginning, bothBits, someEnabled, inTheWay}
 use Rattle.passes.specs.Entries.{lengthNow, tooLong}
 
 -- a disabled entry
@@ -34,7 +41,21 @@ pub nil-off : Off []
 unfolding fieldsOf
 nil-off = refl
 
--- an old entry, and one that is none
+-- what an old entry has: it is enabled, and of the two bits it has its direction's alone
+pub old-bits : (r : PdoDirection) (f : Fmmu) → isOld r f ≡ true → (f .enable ≡ true) × ((bitOf r f ≡ true) × (bitOf (other r) f ≡ false))
+old-bits r f h = go (f .enable) (bitOf r f) (bitOf (other r) f) h
+  where
+    go : (on a b : Bool) → on && (a && not b) ≡ true → (on ≡ true) × ((a ≡ true) × (b ≡ false))
+    go true true true h = absurd (true≢false (sym h))
+    go true true false h = (refl, (refl, refl))
+    go true false b h = absurd (true≢false (sym h))
+    go false a b h = absurd (true≢false (sym h))
+
+pub old-not-both : (r : PdoDirection) (e : List ℕ) → isOld r (fieldsOf e) ≡ true → bothBits e ≡ false
+old-not-both MasterRead e h = let b = old-bits MasterRead (fieldsOf e) h in rw (b .0, b .1 .0, b .1 .1) refl
+old-not-both MasterWrite e h = let b = old-bits MasterWrite (fieldsOf e) h in rw (b .0, b .1 .0, b .1 .1) refl
+
+-- an old entry is set to zero, any other stays
 pub cleared-old : (r : PdoDirection) (e : List ℕ) → isOld r (fieldsOf e) ≡ true → cleared r e ≡ replicate 16 0
 unfolding cleared
 cleared-old r e h = ap (λ (b : Bool). cond b (replicate 16 0) e) h
@@ -43,7 +64,7 @@ pub cleared-not : (r : PdoDirection) (e : List ℕ) → isOld r (fieldsOf e) ≡
 unfolding cleared
 cleared-not r e h = ap (λ (b : Bool). cond b (replicate 16 0) e) h
 
--- a disabled entry is none, so it stays
+-- so does a disabled one
 pub cleared-off : (r : PdoDirection) (e : List ℕ) → Off e → cleared r e ≡ e
 cleared-off r e h = cleared-not r e (rw h refl)
 
@@ -71,6 +92,15 @@ rows-begun Clear r (e ∷ es) h = (cleared-has r e (λ x. length x ≡ 16) refl 
 -- a disabled entry has no length
 pub length-off : (e : List ℕ) → Off e → lengthNow e ≡ 0
 length-off e o = ap (λ (b : Bool). cond b (fieldsOf e .«length_bytes» .0) 0) o
+
+-- an entry's length is two of its bytes
+pub length-bytes : (e : List ℕ) → Bytes e → lengthNow e ≤ 65535
+unfolding fieldsOf
+length-bytes e b = go (flagAt (getD e 12 0) 0)
+  where
+    go : (on : Bool) → cond on (littleAt e 4 2) 0 ≤ 65535
+    go true = let h = little-fits 2 4 b in omega arith
+    go false = omega arith
 
 pub cleared-short : (r : PdoDirection) (e : List ℕ) → lengthNow e ≤ 65535 → lengthNow (cleared r e) ≤ 65535
 cleared-short r e h = cleared-has r e (λ x. lengthNow x ≤ 65535) (let z = length-off (replicate 16 0) zeros-off in omega arith) (λ n. h)

@@ -1,7 +1,6 @@
 -- `entries::write_entries`: the entries are made ready, the refusals come in their order, and the area is written after the last of them.
 -- Assumes nothing.
 use native.Mathlib.Omega.{arith}
-use lib.ListN.{length}
 use borrow.Author.Needs.{needs}
 use Rattle.area.proofs.Rows.{rows-bytes}
 use Rattle.entries.specs.Lay.{Short}
