@@ -1,43 +1,35 @@
 -- The default on any area is keeping on the area with the direction's old entries zeroed, where nothing is in the way.
 -- Assumes nothing.
-use mathlib.Core.Path.{_≡_, refl, sym, _∙_, ap, subst}
+use mathlib.Core.Path.{_≡_, refl, sym, _∙_, ap}
 use mathlib.Core.Bool.{Bool, true, false, not, _||_}
 use mathlib.Core.List.{List, [], _∷_, _++_, map}
 use mathlib.Core.Logic.{_⊎_, inl, inr}
-use Prim.Native.Nat.{ℕ, zero, suc, _+_, _<_}
+use Prim.Native.Nat.{ℕ, _+_}
 use lib.Dec.{eqb, ltb}
-use lib.ListN.{length, getD, drop}
-use lib.Seq.{getD-drop}
+use lib.ListN.{length, getD}
 use borrow.Author.Tests.{eqb-true, eq-eqb}
 use Rattle.wire.specs.Image.{Bytes}
 use Rattle.wire.specs.Outcome.{Outcome, accepted, when, decide}
-use Rattle.wire.proofs.Bytes.{no-bytes, part-bytes}
 use Rattle.pdi.specs.Offset.{pastEnd}
 use Rattle.sheet.specs.Sheet.{sheetRefusals, sheetData}
 use Rattle.pdo.specs.declared.PdoDirection.{PdoDirection}
-use Rattle.area.specs.Area.{chunks, entriesOf, flat, notEntries, notChannels}
+use Rattle.area.specs.Area.{entriesOf, flat, notEntries, notChannels}
 use Rattle.passes.specs.declared.OldEntries.the-variants.{Clear, Keep}
 use Rattle.passes.specs.Use.{Use, usesOf, sizeOf}
 use Rattle.passes.specs.Old.{clean, cleared, inTheWay}
 use Rattle.passes.specs.Entries.{plan, tooLong, Planned}
 use Rattle.passes.specs.Pass.{wantedRefusals, plannedOf, dataPass, entriesAfter, channelAreaAfter, segmentAlone, offsetAfter}
+use Rattle.area.proofs.Flat.{entry-bytes}
 use Rattle.passes.proofs.Cleared.{length-bytes, cleared-eight}
 use Rattle.agreement.specs.Clean.{zeroed, byDefault, byKeeping, AsKeeping, PromiseAsKeeping}
 use Rattle.agreement.proofs.Basics.{either}
 use Rattle.agreement.proofs.Areas.{Sixteen, sixteen-of, sixteen-begun, flat-long, flat-entries}
 use Rattle.agreement.proofs.Told.{answered, none-holds, area-long, told}
 
--- of bytes, each entry's length is two of them
-chunk-bytes : (m : ℕ) (l : List ℕ) (k : ℕ) → Bytes l → Bytes (getD (chunks 16 m l) k [])
-unfolding chunks
-chunk-bytes zero l k b = no-bytes
-chunk-bytes (suc m) l zero b = part-bytes l 0 16 b
-chunk-bytes (suc m) l (suc k) b = chunk-bytes m (drop 16 l) k (record { below = λ i. subst (λ (x : ℕ). x < 256) (sym (getD-drop 16 l i 0)) (b .below (16 + i)) })
-
--- so 8 is the same counted from zero as from those lengths
+-- an entry's length is two of its bytes, so 8 is the same counted from zero as from those lengths
 eight-same : (r : PdoDirection) (us : List Use) (fmmus : List ℕ) → Bytes fmmus → inTheWay Clear r us (entriesOf 16 fmmus) ≡ false
     → tooLong Clear us (entriesOf 16 fmmus) ≡ tooLong Keep us (map (cleared r) (entriesOf 16 fmmus))
-eight-same r us fmmus bytes free = sym (cleared-eight r us (entriesOf 16 fmmus) (λ k h. length-bytes (getD (entriesOf 16 fmmus) k []) (chunk-bytes 16 fmmus k bytes)) free)
+eight-same r us fmmus bytes free = sym (cleared-eight r us (entriesOf 16 fmmus) (λ k h. length-bytes (getD (entriesOf 16 fmmus) k []) (entry-bytes 16 16 fmmus k bytes)) free)
 
 -- an area of 256 bytes with its old entries zeroed is as long, and its entries are those that a pass in the default begins with
 module _ (r : PdoDirection) (fmmus : List ℕ) (long : length fmmus ≡ 256) where

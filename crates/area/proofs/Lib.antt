@@ -1,5 +1,4 @@
 -- Entries of one length and the bytes of an area, each law said once over the entry's length.
 pub mod Flat
 pub mod Entry
-pub mod Rows
 pub mod Unique

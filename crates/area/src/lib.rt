@@ -47,17 +47,17 @@ pub fn store(entry: &[u8], area: &mut [u8], at: usize)
     wire::copy(entry, &mut area[at..end]);
 }
 
-// The sixteen FMMU entries of an area; all 0 where it isn't 256 bytes.
-pub fn load(area: &[u8]) -> [[u8; 16]; 16]
-    ensures { λ r. ⌜ r ≡ entriesOf 16 (areaOf 256 (now (area .entry))) ⌝ }
+// Puts the sixteen FMMU entries of an area into a lent array; all 0 where it isn't 256 bytes.
+pub fn load(area: &[u8], entries: &mut [[u8; 16]; 16])
+    ensures { λ r. ⌜ now (entries .exit) ≡ entriesOf 16 (areaOf 256 (now (area .entry))) ⌝ }
 {
-    let mut entries = [[0u8; 16]; 16];
+    // as a slice: a proof knows its length, but not that of a lent array
+    let all = &mut entries[..];
     let mut k = 0;
     while k < 16 {
-        entries[k] = fmmu_at(area, k);
+        all[k] = fmmu_at(area, k);
         k += 1;
     }
-    entries
 }
 
 // Writes sixteen FMMU entries over an area; one that isn't 256 bytes stays.

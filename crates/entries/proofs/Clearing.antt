@@ -1,13 +1,13 @@
 -- Old entries cleared one after another: an entry that is disabled, one that is old, any other; and what is still enabled then.
 -- Assumes nothing.
 use mathlib.Core.Path.{_≡_, refl, sym, _∙_, ap}
-use mathlib.Core.Bool.{Bool, true, false, not, _&&_, _||_}
+use mathlib.Core.Bool.{Bool, true, false, not, _&&_, _||_, true≢false}
 use mathlib.Core.List.{List, [], _∷_, _++_, map}
 use Prim.Native.Nat.{ℕ, zero, suc, _+_, _<_, _≤_}
 use native.Mathlib.Nat.{not-suc-le-zero, le-of-suc-le-suc}
 use native.Mathlib.Numerals.{add-one}
 use native.Mathlib.Omega.{arith}
-use lib.ListN.{length, getD, take, drop, set, replicate, length-map}
+use lib.ListN.{length, getD, take, drop, set, length-map}
 use lib.Seq.{take-all, drop-cons, set-getD, getD-at, length-take-le}
 use Rattle.wire.specs.Field.{flagAt}
 use Rattle.wire.specs.Lists.{someOf}
@@ -44,6 +44,25 @@ alone r e o = go (bitOf r (fieldsOf e)) ∙ ap (λ (b : Bool). bitOf r (fieldsOf
     go : (b : Bool) → b ≡ b && true
     go true = refl
     go false = refl
+
+-- of an enabled entry its bits decide whether it is old
+pub by-alone : (r : PdoDirection) (e : List ℕ) {b : Bool} → on e ≡ true → carriesAlone r (fieldsOf e) ≡ b → isOld r (fieldsOf e) ≡ b
+by-alone r e o a = λ i. o i && a i
+
+-- what is still enabled was no old one, and what isn't was one
+still-same : (r : PdoDirection) (e : List ℕ) → on (cleared r e) ≡ true → cleared r e ≡ e
+still-same r e o = go (isOld r (fieldsOf e)) refl
+  where
+    go : (b : Bool) → isOld r (fieldsOf e) ≡ b → cleared r e ≡ e
+    go true h = absurd (true≢false (sym o ∙ ap on (cleared-old r e h) ∙ zeros-off))
+    go false h = cleared-not r e h
+
+gone-old : (r : PdoDirection) (e : List ℕ) → on e ≡ true → on (cleared r e) ≡ false → isOld r (fieldsOf e) ≡ true
+gone-old r e o f = go (isOld r (fieldsOf e)) refl
+  where
+    go : (b : Bool) → isOld r (fieldsOf e) ≡ b → isOld r (fieldsOf e) ≡ true
+    go true h = h
+    go false h = absurd (true≢false (sym o ∙ ap on (sym (cleared-not r e h)) ∙ f))
 
 -- of the first k elements and the next
 some-next : {A : Type 0} (f : A → Bool) (l : List A) (k : ℕ) (d : A) → k < length l → someOf f (take (k + 1) l) ≡ someOf f (take k l) || f (getD l k d)
@@ -123,18 +142,18 @@ module _ {r : PdoDirection} {before : List (List ℕ)} {k : ℕ} {now : List (Li
         turned (sym (ap (set now k) stays ∙ set-getD now k [])) (or-false enabled ∙ ap (λ (b : Bool). enabled || b) (sym (ap on stays ∙ o)))
         (or-false both ∙ ap (λ (b : Bool). both || (b && withBoth (getD now k []))) (sym o))
 
-    -- an old one is set to zero
-    pub clearing-old : on (getD now k []) ≡ true → carriesAlone r (fieldsOf (getD now k [])) ≡ true → Clearing r before (k + 1) (set now k (replicate 16 0)) enabled both
-    clearing-old o a =
-        let is : isOld r (fieldsOf (getD now k [])) ≡ true = λ i. o i && a i in
-        let zero = cleared-old r (getD now k []) is in
-        turned (ap (set now k) (sym zero)) (or-false enabled ∙ ap (λ (b : Bool). enabled || b) (sym (ap on zero ∙ zeros-off)))
+    -- of an enabled one nothing is left that is enabled: it was old
+    pub clearing-gone :
+        {left : List ℕ} → on (getD now k []) ≡ true → left ≡ cleared r (getD now k []) → on left ≡ false → Clearing r before (k + 1) (set now k left) enabled both
+    clearing-gone o l f =
+        let is = gone-old r (getD now k []) o (ap on (sym l) ∙ f) in
+        turned (ap (set now k) l) (or-false enabled ∙ ap (λ (b : Bool). enabled || b) (sym (ap on (sym l) ∙ f)))
         (or-false both ∙ ap (λ (b : Bool). both || b) (sym (old-not-both r (getD now k []) is)))
 
-    -- any other is still enabled
-    pub clearing-other :
-        {bo : Bool} → on (getD now k []) ≡ true → carriesAlone r (fieldsOf (getD now k [])) ≡ false → bo ≡ both || withBoth (getD now k []) → Clearing r before (k + 1) now true bo
-    clearing-other o a b =
-        let stays = cleared-not r (getD now k []) (λ i. o i && a i) in
-        turned (sym (ap (set now k) stays ∙ set-getD now k [])) (or-true enabled ∙ ap (λ (b : Bool). enabled || b) (sym (ap on stays ∙ o)))
-        (b ∙ ap (λ (x : Bool). both || (x && withBoth (getD now k []))) (sym o))
+    -- any other is as it was
+    pub clearing-still :
+        {left : List ℕ} {bo : Bool} → left ≡ cleared r (getD now k []) → on left ≡ true → bo ≡ both || withBoth left → Clearing r before (k + 1) (set now k left) true bo
+    clearing-still {left} l o b =
+        let same : left ≡ getD now k [] = l ∙ still-same r (getD now k []) (ap on (sym l) ∙ o) in
+        turned (ap (set now k) l) (or-true enabled ∙ ap (λ (b : Bool). enabled || b) (sym (ap on (sym l) ∙ o)))
+        (b ∙ ap (λ (x : Bool). both || (x && withBoth left)) (sym o) ∙ ap (λ (e : List ℕ). both || bothBits e) same)

@@ -21,12 +21,14 @@ use Rattle.pdo.specs.declared.PdoDirection.{PdoDirection}
 use Rattle.passes.specs.declared.OldEntries.the-variants.{Keep}
 use Rattle.passes.specs.Use.{Use, totalOn}
 use Rattle.passes.specs.Entries.{mapped, grown, laid, withUse, lengthOf, lengthNow, tooLong}
+use Rattle.area.specs.Area.{entriesOf}
+use Rattle.area.proofs.Flat.{length-chunks, entry-bytes}
 use Rattle.passes.proofs.Cleared.{length-bytes}
 use Rattle.entries.specs.Lay.{noRoom, Short}
 
 -- two bytes hold no more
-pub short-bytes : (entries : List (List ℕ)) → length entries ≡ 16 → ((k : ℕ) → Bytes (getD entries k [])) → Short entries
-short-bytes entries many bytes = record { many = many; short = λ k h. length-bytes (getD entries k []) (bytes k) }
+pub short-area : (area : List ℕ) → Bytes area → Short (entriesOf 16 area)
+short-area area bytes = record { many = length-chunks 16 16 area; short = λ k h. length-bytes (getD (entriesOf 16 area) k []) (entry-bytes 16 16 area k bytes) }
 
 -- the length of an entry that was written
 written-length : (f : Fmmu) → f .«length_bytes» .0 ≤ 65535 → lengthNow (imageOf f) ≡ lengthOf f

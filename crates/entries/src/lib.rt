@@ -196,7 +196,8 @@ pub fn write_entries(
     if area.len() != 256 {
         return Configured::Refused(1);
     }
-    let mut entries = area::load(area);
+    let mut entries = [[0u8; 16]; 16];
+    area::load(area, &mut entries);
     let settings = place.settings;
     let old = settings.old;
     let blocked = ready::make_ready(&mut entries, sheet, sizes, route, old, direction);

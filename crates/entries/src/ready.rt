@@ -1,10 +1,11 @@
 // Old entries, before a pass is laid: those of its direction are cleared, and it is found whether another is in the way.
 ghost use mathlib.Core.Path.{_≡_};
-ghost use mathlib.Core.Bool.{_||_};
+ghost use mathlib.Core.Bool.{true, _||_};
 ghost use lib.ListN.{length, getD};
 ghost use mathlib.Core.List.{[]};
 ghost use Rattle.fmmu.specs.Image.{fieldsOf};
 ghost use Rattle.sheet.specs.Sheet.{managersIn};
+ghost use Rattle.passes.specs.Old as Old;
 ghost use Rattle.passes.specs.Old.{someEnabled};
 ghost use Rattle.passes.specs.Handed.{usesBy};
 ghost use Rattle.pdo.specs.Direction.{other};
@@ -58,6 +59,17 @@ fn carries_alone(image: [u8; 16], direction: PdoDirection) -> bool
     wire::flag(image[11], access_bit(direction))
 }
 
+// What is left of an enabled entry: an old one is set to zero, all sixteen bytes of it.
+fn cleared(image: [u8; 16], direction: PdoDirection) -> [u8; 16]
+    requires { ⌜ fieldsOf image .enable ≡ true ⌝ }
+    ensures { λ r. ⌜ r ≡ Old.cleared direction image ⌝ }
+{
+    if carries_alone(image, direction) {
+        return [0u8; 16];
+    }
+    image
+}
+
 // Whether an entry with both bits was found before, or this enabled one is such.
 fn found_both(before: bool, image: [u8; 16]) -> bool
     ensures { λ r. ⌜ r ≡ before || withBoth image ⌝ }
@@ -71,7 +83,7 @@ fn found_both(before: bool, image: [u8; 16]) -> bool
     wire::flag(image[11], 1)
 }
 
-// Sets to zero each enabled entry that carries the direction's bit alone, all sixteen bytes of it.
+// Clears each old entry of the direction, and answers what is still enabled then.
 fn clear_old(entries: &mut [[u8; 16]; 16], direction: PdoDirection) -> Left
     requires { ⌜ length (now entries) ≡ 16 ⌝ }
     ensures { λ r. ⌜ Clears direction (now (entries .entry)) (now (entries .exit)) (r .enabled) (r .both) ⌝ }
@@ -82,11 +94,11 @@ fn clear_old(entries: &mut [[u8; 16]; 16], direction: PdoDirection) -> Left
     while k < 16 {
         let image = entries[k];
         if is_enabled(image) {
-            if carries_alone(image, direction) {
-                entries[k] = [0u8; 16];
-            } else {
+            let left = cleared(image, direction);
+            entries[k] = left;
+            if is_enabled(left) {
                 enabled = true;
-                both = found_both(both, image);
+                both = found_both(both, left);
             }
         }
         k += 1;

@@ -1,18 +1,27 @@
 -- `entries::write_entries`: the entries are made ready, the refusals come in their order, and the area is written after the last of them.
 -- Assumes nothing.
+use mathlib.Core.Path.{sym, _∙_, ap, subst}
+use mathlib.Core.List.{List}
+use Prim.Native.Nat.{ℕ}
 use native.Mathlib.Omega.{arith}
+use denote.Ref.{now}
 use borrow.Author.Needs.{needs}
-use Rattle.area.proofs.Rows.{rows-bytes}
+use Rattle.area.specs.Area.{entriesOf}
+use Rattle.area.proofs.Flat.{area-whole}
 use Rattle.entries.specs.Lay.{Short}
-use Rattle.entries.proofs.Lengths.{short-bytes}
+use Rattle.entries.proofs.Lengths.{short-area}
 use Rattle.entries.proofs.Blocked.{short-made}
 use Rattle.entries.proofs.Decided.{wrong-area-refused, too-long-refused, end-refuses, entries-written}
 use Rattle.entries.proofs.write_entries.Statement.{statement}
 use Rattle.entries.proofs.write_entries.Tie as tie
 
 -- what was loaded is sixteen entries, none longer than its two bytes say
-short-loaded : (d : tie.After-load) → Short (d .load .result)
-short-loaded d = short-bytes (d .load .result) (omega arith) (rows-bytes 16 16 (d .load .result) (d .load .ok))
+short-loaded : (d : tie.After-load) → Short (d .load .last .1 .0)
+short-loaded d =
+    let k = d .before .before .before .before .before in
+    let area = now (k .before .args .area) in
+    subst (λ (es : List (List ℕ)). Short es) (sym (d .load .ensures ∙ ap (entriesOf 16) (area-whole 256 area (omega arith))))
+    (short-area area (record { below = λ i. k .slice-known .given i .fits }))
 
 returns : tie.Need-returns
 returns c = wrong-area-refused _ _ _ _ _ (λ e. omega arith)

@@ -5,7 +5,7 @@ use mathlib.Core.Logic.{⊎-elim}
 use Prim.Native.Nat.{_-_, _≤_}
 use native.Mathlib.Omega.{arith}
 use lib.ListN.{length}
-use Rattle.entries.proofs.Clearing.{Clearing, clearing-starts, clearing-at, clearing-off, clearing-old, clearing-other, clearing-ends}
+use Rattle.entries.proofs.Clearing.{Clearing, clearing-starts, clearing-at, clearing-off, clearing-gone, clearing-still, clearing-ends}
 use Rattle.entries.proofs.ready.clear_old.Statement.{statement}
 use Rattle.entries.proofs.ready.clear_old.Tie as tie
 
@@ -27,14 +27,17 @@ element-copy-out-image c = omega arith
 is-enabled-requires : tie.Need-is-enabled-requires Inv-loop μ-loop
 is-enabled-requires c κs = tt
 
-carries-alone-requires : tie.Need-carries-alone-requires Inv-loop μ-loop
-carries-alone-requires c κs = tt
+cleared-requires : tie.Need-cleared-requires Inv-loop μ-loop
+cleared-requires c κs = sym (c .before .is-enabled .ensures) ∙ c .if1 .taken
 
-mul-t15 : tie.Need-mul-t15 Inv-loop μ-loop
-mul-t15 c = omega arith
+mul-left : tie.Need-mul-left Inv-loop μ-loop
+mul-left c = omega arith
 
-element-set-from-entries : tie.Need-element-set-from-entries Inv-loop μ-loop
-element-set-from-entries c = omega arith
+element-set-from-left : tie.Need-element-set-from-left Inv-loop μ-loop
+element-set-from-left c = omega arith
+
+is-enabled-requires-2 : tie.Need-is-enabled-requires-2 Inv-loop μ-loop
+is-enabled-requires-2 c κs = tt
 
 found-both-requires : tie.Need-found-both-requires Inv-loop μ-loop
 found-both-requires c κs = tt
@@ -51,9 +54,9 @@ loop-again c =
     let l = e .before .before .before .loop in
     let on = sym (e .is-enabled .ensures) in
     let turned = ⊎-elim
-    (λ w. clearing-at (clearing-old (l .inv .1) (l .inv .2) (omega arith) (on ∙ w .0 .taken) (sym (w .1 .ensures) ∙ w .2 .taken)) (w .3) (w .4) (w .5))
+    (λ w. clearing-at (clearing-still (l .inv .1) (l .inv .2) (omega arith) (w .1 .ensures) (sym (w .2 .ensures) ∙ w .3 .taken) (w .4 .ensures)) (w .5) (w .6) (w .7))
     (⊎-elim
-    (λ w. clearing-at (clearing-other (l .inv .1) (l .inv .2) (omega arith) (on ∙ w .0 .taken) (sym (w .1 .ensures) ∙ w .2 .left) (w .3 .ensures)) (w .4) (w .5) (w .6))
+    (λ w. clearing-at (clearing-gone (l .inv .1) (l .inv .2) (omega arith) (on ∙ w .0 .taken) (w .1 .ensures) (sym (w .2 .ensures) ∙ w .3 .left)) (w .4) (w .5) (w .6))
     (λ w. clearing-at (clearing-off (l .inv .1) (l .inv .2) (omega arith) (on ∙ w .0 .left)) (w .1) (w .2) (w .3))) (c .if1 .came) in
     (omega arith, l .inv .1, turned)
 
@@ -70,9 +73,10 @@ clear-old-spec =
     mul-image
     element-copy-out-image
     is-enabled-requires
-    carries-alone-requires
-    mul-t15
-    element-set-from-entries
+    cleared-requires
+    mul-left
+    element-set-from-left
+    is-enabled-requires-2
     found-both-requires
     add-k
     loop-less
