@@ -20,12 +20,14 @@ abbrev pub accessBit : PdoDirection → ℕ
 accessBit MasterRead = 0
 accessBit MasterWrite = 1
 
+-- of an entry that is enabled: the direction's bit alone; both bits
 abbrev pub carriesAlone : PdoDirection → Fmmu → Bool
 carriesAlone r f = bitOf r f && not (bitOf (other r) f)
 
 abbrev pub withBoth : List ℕ → Bool
 withBoth e = fieldsOf e .«read_enable» && fieldsOf e .«write_enable»
 
+-- an entry that is enabled
 abbrev pub on : List ℕ → Bool
 on e = fieldsOf e .enable
 

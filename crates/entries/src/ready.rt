@@ -145,7 +145,7 @@ fn some_enabled(
 }
 
 // Makes the entries ready for a pass: by default the direction's old ones are cleared. Answers whether one is in the way then.
-pub fn make_ready(
+pub(crate) fn make_ready(
     entries: &mut [[u8; 16]; 16],
     sheet: &[u8],
     sizes: [ByteLen; 16],
