@@ -3,47 +3,62 @@
 use mathlib.Core.Path.{_≡_, refl, sym, _∙_, ap}
 use mathlib.Core.Bool.{Bool, true, false, not, _&&_, _||_, true≢false}
 use mathlib.Core.List.{List, [], _∷_, _++_, map}
-use Prim.Native.Nat.{ℕ, zero, suc, _+_, _<_, _≤_}
+use mathlib.Core.Logic.{_≢_}
+use Prim.Native.Nat.{ℕ, zero, suc, _+_, _*_, _/_, _%_, _<_, _≤_}
 use native.Mathlib.Nat.{not-suc-le-zero, le-of-suc-le-suc}
 use native.Mathlib.Numerals.{add-one}
 use native.Mathlib.Omega.{arith}
 use lib.ListN.{length, getD, take, drop, set, length-map}
+use lib.Dec.{eqb}
+use borrow.Author.Tests.{eqb-true, eqb-false}
 use lib.Seq.{take-all, drop-cons, set-getD, getD-at, length-take-le}
-use Rattle.wire.specs.Field.{flagAt}
+use Rattle.wire.specs.Field.{bitsAt, flagAt, bit}
 use Rattle.wire.specs.Lists.{someOf}
 use Rattle.wire.proofs.Copied.{copied, copied-whole}
 use Rattle.fmmu.specs.Image.{fieldsOf}
 use Rattle.pdo.specs.declared.PdoDirection.{PdoDirection}
 use Rattle.pdo.specs.declared.PdoDirection.the-variants.{MasterRead, MasterWrite}
-use Rattle.pdo.specs.Direction.{other}
-use Rattle.passes.specs.Old.{bitOf, isOld, cleared, bothBits}
+use Rattle.passes.specs.Old.{isOld, cleared, bothBits}
 use Rattle.passes.proofs.Cleared.{zeros-off, old-not-both, cleared-old, cleared-not, cleared-off, cleared-at}
-use Rattle.entries.specs.Ready.{accessBit, carriesAlone, withBoth, on, Clears}
+use Rattle.entries.specs.Ready.{accessOf, accessAlone, carriesAlone, withBoth, on, Clears}
 
 -- the bits of an image that are asked
 pub enable-is : (e : List ℕ) → flagAt (getD e 12 0) 0 ≡ on e
 unfolding fieldsOf
 enable-is e = refl
 
-pub access-is : (r : PdoDirection) (e : List ℕ) {b : ℕ} → b ≡ accessBit r → flagAt (getD e 11 0) b ≡ bitOf r (fieldsOf e)
-unfolding fieldsOf
-access-is MasterRead e i = ap (flagAt (getD e 11 0)) i
-access-is MasterWrite e i = ap (flagAt (getD e 11 0)) i
-
--- the other direction's bit decides first
-pub not-alone : (r : PdoDirection) (e : List ℕ) → bitOf (other r) (fieldsOf e) ≡ true → false ≡ carriesAlone r (fieldsOf e)
-not-alone r e o = go (bitOf r (fieldsOf e)) ∙ ap (λ (b : Bool). bitOf r (fieldsOf e) && not b) (sym o)
+-- two bits of a byte, one by one
+one-bit : (n : ℕ) → n % 2 ≡ bit (eqb (n % 2) 1)
+one-bit n = go (eqb (n % 2) 1) refl
   where
-    go : (b : Bool) → false ≡ b && false
-    go true = refl
-    go false = refl
+    go : (b : Bool) → eqb (n % 2) 1 ≡ b → n % 2 ≡ bit b
+    go true e = eqb-true (n % 2) 1 e
+    go false e = let h : n % 2 ≢ 1 = eqb-false (n % 2) 1 e in omega arith
 
-pub alone : (r : PdoDirection) (e : List ℕ) → bitOf (other r) (fieldsOf e) ≡ false → bitOf r (fieldsOf e) ≡ carriesAlone r (fieldsOf e)
-alone r e o = go (bitOf r (fieldsOf e)) ∙ ap (λ (b : Bool). bitOf r (fieldsOf e) && not b) (sym o)
+two-bits : (x : ℕ) → bitsAt x 0 2 ≡ bit (flagAt x 0) + 2 * bit (flagAt x 1)
+two-bits x = split x ∙ (λ i. one-bit (x / 1) i + 2 * one-bit (x / 2) i)
   where
-    go : (b : Bool) → b ≡ b && true
-    go true = refl
-    go false = refl
+    split : (x : ℕ) → x / 1 % 4 ≡ x / 1 % 2 + 2 * (x / 2 % 2)
+    split x = omega arith
+
+-- so their number says which are set
+by-number : (read write : Bool) → (eqb (bit read + 2 * bit write) 1 ≡ read && not write) × ((eqb (bit read + 2 * bit write) 2 ≡ write && not read) × (eqb (bit read + 2 * bit write) 3 ≡ read && write))
+by-number true true = (refl, (refl, refl))
+by-number true false = (refl, (refl, refl))
+by-number false true = (refl, (refl, refl))
+by-number false false = (refl, (refl, refl))
+
+module _ (e : List ℕ) where
+  read-write : accessOf e ≡ bit (fieldsOf e .«read_enable») + 2 * bit (fieldsOf e .«write_enable»)
+  unfolding fieldsOf
+  read-write = two-bits (getD e 11 0)
+
+  pub alone-is : (r : PdoDirection) → eqb (accessOf e) (accessAlone r) ≡ carriesAlone r (fieldsOf e)
+  alone-is MasterRead = ap (λ (n : ℕ). eqb n 1) read-write ∙ by-number (fieldsOf e .«read_enable») (fieldsOf e .«write_enable») .0
+  alone-is MasterWrite = ap (λ (n : ℕ). eqb n 2) read-write ∙ by-number (fieldsOf e .«read_enable») (fieldsOf e .«write_enable») .1 .0
+
+  pub both-is : eqb (accessOf e) 3 ≡ withBoth e
+  both-is = ap (λ (n : ℕ). eqb n 3) read-write ∙ by-number (fieldsOf e .«read_enable») (fieldsOf e .«write_enable») .1 .1
 
 -- of an enabled entry its bits decide whether it is old
 pub by-alone : (r : PdoDirection) (e : List ℕ) {b : Bool} → on e ≡ true → carriesAlone r (fieldsOf e) ≡ b → isOld r (fieldsOf e) ≡ b

@@ -4,7 +4,8 @@ use mathlib.Core.Path.{_≡_}
 use mathlib.Core.Bool.{Bool, cond, not, _&&_}
 use mathlib.Core.List.{List, map}
 use Prim.Native.Nat.{ℕ}
-use lib.ListN.{replicate}
+use lib.ListN.{getD, replicate}
+use Rattle.wire.specs.Field.{bitsAt}
 use Rattle.wire.specs.Lists.{someOf}
 use Rattle.fmmu.specs.declared.Fmmu.{Fmmu}
 use Rattle.fmmu.specs.Image.{fieldsOf}
@@ -16,9 +17,13 @@ use Rattle.passes.specs.Old.{bitOf, cleared, beginning, bothBits, inTheWay}
 use Rattle.passes.specs.declared.OldEntries.{OldEntries}
 
 -- byte 11: bit 0 read, bit 1 write
-abbrev pub accessBit : PdoDirection → ℕ
-accessBit MasterRead = 0
-accessBit MasterWrite = 1
+abbrev pub accessOf : List ℕ → ℕ
+accessOf e = bitsAt (getD e 11 0) 0 2
+
+-- the direction's bit alone
+abbrev pub accessAlone : PdoDirection → ℕ
+accessAlone MasterRead = 1
+accessAlone MasterWrite = 2
 
 -- of an entry that is enabled: the direction's bit alone; both bits
 abbrev pub carriesAlone : PdoDirection → Fmmu → Bool

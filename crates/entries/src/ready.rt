@@ -8,8 +8,7 @@ ghost use Rattle.sheet.specs.Sheet.{managersIn};
 ghost use Rattle.passes.specs.Old as Old;
 ghost use Rattle.passes.specs.Old.{someEnabled};
 ghost use Rattle.passes.specs.Handed.{usesBy};
-ghost use Rattle.pdo.specs.Direction.{other};
-ghost use Rattle.entries.specs.Ready.{accessBit, carriesAlone, withBoth, Clears, Readies};
+ghost use Rattle.entries.specs.Ready.{accessOf, accessAlone, carriesAlone, withBoth, Clears, Readies};
 use crate::entry_of;
 use crate::takes;
 use passes::OldEntries;
@@ -30,22 +29,20 @@ fn is_enabled(image: [u8; 16]) -> bool
     wire::flag(image[12], 0)
 }
 
-// A direction's bit of byte 11, and the other direction's.
-fn access_bit(direction: PdoDirection) -> u8
-    ensures { λ r. ⌜ r ≡ accessBit direction ⌝ }
+// The access bits of byte 11: bit 0 read, bit 1 write.
+fn access_of(image: [u8; 16]) -> u8
+    ensures { λ r. ⌜ r ≡ accessOf image ⌝ }
 {
-    match direction {
-        PdoDirection::MasterRead => 0,
-        PdoDirection::MasterWrite => 1,
-    }
+    image[11] & 0x03
 }
 
-fn other_bit(direction: PdoDirection) -> u8
-    ensures { λ r. ⌜ r ≡ accessBit (other direction) ⌝ }
+// The access bits that have the direction's alone.
+fn alone(direction: PdoDirection) -> u8
+    ensures { λ r. ⌜ r ≡ accessAlone direction ⌝ }
 {
     match direction {
         PdoDirection::MasterRead => 1,
-        PdoDirection::MasterWrite => 0,
+        PdoDirection::MasterWrite => 2,
     }
 }
 
@@ -53,10 +50,7 @@ fn other_bit(direction: PdoDirection) -> u8
 fn carries_alone(image: [u8; 16], direction: PdoDirection) -> bool
     ensures { λ r. ⌜ r ≡ carriesAlone direction (fieldsOf image) ⌝ }
 {
-    if wire::flag(image[11], other_bit(direction)) {
-        return false;
-    }
-    wire::flag(image[11], access_bit(direction))
+    access_of(image) == alone(direction)
 }
 
 // What is left of an enabled entry: an old one is set to zero, all sixteen bytes of it.
@@ -77,10 +71,7 @@ fn found_both(before: bool, image: [u8; 16]) -> bool
     if before {
         return true;
     }
-    if !wire::flag(image[11], 0) {
-        return false;
-    }
-    wire::flag(image[11], 1)
+    access_of(image) == 3
 }
 
 // Clears each old entry of the direction, and answers what is still enabled then.
