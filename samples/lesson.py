@@ -174,8 +174,8 @@ def group(ask):
 
 def exercise_6(ask):
     yield from on_registers(ask, area(entry(2, 3, 0x1180), first=1), 0x10)
-    outputs = input_pass(area(entry(2, 3, 0x1180, 2), first=1), a=0x10, sheet=SAMPLE)
-    [[line]] = ask([("left with W", outputs)])
+    left_with_w = input_pass(area(entry(2, 3, 0x1180, 2), first=1), a=0x10, sheet=SAMPLE)
+    [[line]] = ask([("left with W", left_with_w)])
     yield f"by default, left with W: {outcome(line)}"
 
 

@@ -6,7 +6,7 @@ Each bay's data passes are asked in the default and keeping, from the same areas
 from ask_sheets import longest
 from bays import EITHER_ORDER, ONE_ORDER
 from build import SAMPLE
-from planning import OldEntries, configure_fmmus, configure_mailboxes
+from planning import OldEntries, Settings, configure_fmmus, configure_mailboxes
 from registers import Refused
 from stream import Request
 
@@ -32,7 +32,8 @@ def data_passes(bay, channels, order, old):
             letter, write, a=offset, b=bay.group, sheet=bay.sheet, table=bay.table,
             fmmus=bytes(fmmus), channels=bytes(channels),
         )
-        answer = after(configure_fmmus, write, offset, bay.group, bay.sheet, bay.table, fmmus, channels, old)
+        settings = Settings(bay.group, old)
+        answer = after(configure_fmmus, write, offset, settings, bay.sheet, bay.table, fmmus, channels)
         offset = answer[2] if answer else offset
 
 

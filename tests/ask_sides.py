@@ -2,7 +2,7 @@
 
 from bays import IN, OUT, PAIR
 from build import FOUR, SAMPLE, STALE, area, coe, eeprom, entry, managers, on_coe, on_eeprom, sheet
-from planning import OldEntries, configure_fmmus
+from planning import OldEntries, Settings, configure_fmmus
 from registers import LIMIT
 from stored import sample
 from stream import Request
@@ -21,7 +21,7 @@ def planned(sheet, passes, fmmus=area(), table=(), old=OldEntries.CLEAR):
     """The FMMU area after the passes, each (direction, offset)."""
     fmmus, channels = bytearray(fmmus), bytearray(128)
     for write, offset in passes:
-        configure_fmmus(write, offset, 0, sheet, table, fmmus, channels, old)
+        configure_fmmus(write, offset, Settings(old=old), sheet, table, fmmus, channels)
     return bytes(fmmus)
 
 

@@ -80,9 +80,9 @@ def mailbox_answer(q):
 
 
 def pass_answer(q, old):
-    fmmus, channels = bytearray(q.fmmus), bytearray(q.channels)
+    fmmus, channels, settings = bytearray(q.fmmus), bytearray(q.channels), planning.Settings(q.b, old)
     try:
-        answer = "ok " + listed(planning.configure_fmmus(q.write, q.a, q.b, q.sheet, q.table, fmmus, channels, old))
+        answer = "ok " + listed(planning.configure_fmmus(q.write, q.a, settings, q.sheet, q.table, fmmus, channels))
     except Refused as refused:
         answer = f"refused {refused.args[0]} {q.a}"
     return f"{answer} {shown(fmmus)} {shown(channels)}"

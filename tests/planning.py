@@ -22,6 +22,13 @@ class OldEntries(Enum):
     KEEP = "works as document 01 says"
 
 
+class Settings(NamedTuple):
+    """How a data pass is made: its group's start, and what becomes of old entries."""
+
+    group: int = 0
+    old: OldEntries = OldEntries.CLEAR
+
+
 class Way(NamedTuple):
     """What a direction takes: the sync managers' usage, the FMMU usage and the EEPROM kind."""
 
@@ -150,11 +157,12 @@ def write_entry(fmmus, e, offset, size, start, write):
     fmmus[16 * e : 16 * e + 16] = image(FMMU, new, 16)
 
 
-def configure_fmmus(write, offset, group, data, table, fmmus, channels, old=OldEntries.CLEAR):
+def configure_fmmus(write, offset, settings, data, table, fmmus, channels):
     """The segment's start and end, less the group start, and the next offset.
 
     By default the pass first clears the old entries of its direction, then plans as if those were never there.
     """
+    group, old = settings
     demand({1: len(fmmus) != 256 or len(channels) != 128})
     sheet = read_sheet(data)
     bits = wanted_bits(sheet, table, write)
@@ -215,9 +223,9 @@ def plan(data, table=()):
     """Mailbox, input and output pass over zero areas: the two segments and both areas."""
     fmmus, channels = bytearray(256), bytearray(128)
     configure_mailboxes(data, channels)
-    start, end, offset = configure_fmmus(False, 0, 0, data, table, fmmus, channels)
+    start, end, offset = configure_fmmus(False, 0, Settings(), data, table, fmmus, channels)
     inputs = start, end
-    start, end, _ = configure_fmmus(True, offset, 0, data, table, fmmus, channels)
+    start, end, _ = configure_fmmus(True, offset, Settings(), data, table, fmmus, channels)
     return inputs, (start, end), fmmus, channels
 
 

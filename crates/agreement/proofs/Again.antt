@@ -9,7 +9,7 @@ use lib.ListN.{length, getD, length-map}
 use Rattle.wire.specs.Outcome.{Outcome, accepted}
 use Rattle.wire.specs.Image.{Bytes}
 use Rattle.wire.specs.Lists.{Each, someOf}
-use Rattle.wire.proofs.Lists.{or-none, of-none}
+use Rattle.wire.proofs.Lists.{or-none, of-none, at-none}
 use Rattle.pdi.specs.declared.PdiOffset.{PdiOffset}
 use Rattle.pdi.specs.declared.PdiSegment.{PdiSegment}
 use Rattle.pdi.specs.declared.Placed.the-variants.{Segment}
@@ -19,7 +19,7 @@ use Rattle.pdo.specs.declared.PdoDirection.{PdoDirection}
 use Rattle.area.specs.Area.{entriesOf, flat}
 use Rattle.area.proofs.Flat.{length-chunks}
 use Rattle.channels.specs.Channels.{channelsAfter}
-use Rattle.passes.specs.declared.OldEntries.the-variants as old
+use Rattle.passes.specs.declared.OldEntries.the-variants.{Clear}
 use Rattle.passes.specs.Use.{Use, usesOf}
 use Rattle.passes.specs.Old.{clean, cleared, bothBits, someEnabled, inTheWay}
 use Rattle.passes.specs.Entries.{plan, tooLong, Planned}
@@ -27,7 +27,7 @@ use Rattle.passes.specs.Pass.{notAreas, passRefusals, plannedOf, dataPass, data
 use Rattle.passes.proofs.Kept.{plan-length}
 use Rattle.passes.proofs.Once.{passes-once}
 use Rattle.agreement.specs.Clean.{byDefault, MadeAgain}
-use Rattle.agreement.proofs.Basics.{Clear, clear-accepted, each-map, none-at, at-none}
+use Rattle.agreement.proofs.Basics.{none-accepted, each-map, none-at, NoneHolds}
 use Rattle.agreement.proofs.Straight.{Fresh}
 use Rattle.passes.proofs.Cleared.{Off, old-not-both, zeros-off, nil-off, cleared-old, cleared-has, cleared-at}
 use Rattle.agreement.proofs.Clean.{cleared-twice}
@@ -40,7 +40,7 @@ use Rattle.agreement.proofs.Told.{answered, none-holds, channels-long, 
 
 -- over the entries that a pass left: those that it used are cleared, so disabled again, and all others stay
 module _ (r : PdoDirection) (q : ℕ) (us : List Use) (area : List (List ℕ)) (long : length area ≡ 16) (places : Each (λ (u : Use). u .entry < 16) us)
-    (free : inTheWay old.Clear r us area ≡ false) where
+    (free : inTheWay Clear r us area ≡ false) where
   abbrev begin : List (List ℕ)
   begin = map (cleared r) area
 
@@ -97,7 +97,7 @@ module _ (r : PdoDirection) (q : ℕ) (us : List Use) (area : List (List ℕ)) (
       (λ u h. ours-off (u .entry) h)
       us (laid-left r q us begin placed (start .off))
 
-  pub free-again : inTheWay old.Clear r us (plan r q us (map (cleared r) area)) ≡ false
+  pub free-again : inTheWay Clear r us (plan r q us (map (cleared r) area)) ≡ false
   unfolding inTheWay
   free-again =
       rw (
@@ -109,12 +109,12 @@ module _ (r : PdoDirection) (q : ℕ) (us : List Use) (area : List (List ℕ)) (
 -- the whole call
 module _ (sheet ws : List ℕ) (r : PdoDirection) (offset group : ℕ) (fmmus channels fmmusThen channelsThen : List ℕ) (bytes : Bytes sheet)
     (p : Planned) (says : byDefault sheet ws r offset group fmmus channels ≡ accepted p)
-    (entries : fmmusThen ≡ entriesAfter (byDefault sheet ws r offset group fmmus channels) (sheetData sheet) ws r offset old.Clear fmmus)
+    (entries : fmmusThen ≡ entriesAfter (byDefault sheet ws r offset group fmmus channels) (sheetData sheet) ws r offset Clear fmmus)
     (images : channelsThen ≡ channelAreaAfter (byDefault sheet ws r offset group fmmus channels) (sheetData sheet) ws r channels) where
   abbrev us : List Use
   us = usesOf (sheetData sheet) ws r
 
-  c : Clear (passRefusals sheet ws r offset (clean group) fmmus channels)
+  c : NoneHolds (passRefusals sheet ws r offset (clean group) fmmus channels)
   c = none-holds sheet ws r offset (clean group) fmmus channels p says
 
   t : Told sheet ws r offset (clean group) fmmus fmmusThen
@@ -138,7 +138,7 @@ module _ (sheet ws : List ℕ) (r : PdoDirection) (offset group : ℕ) (fmmus ch
 
   -- the FMMU area
   fmmus-are : fmmusThen ≡ flat (plan r offset us (map (cleared r) (entriesOf 16 fmmus)))
-  fmmus-are = entries ∙ ap (λ (o : Outcome Planned). entriesAfter o (sheetData sheet) ws r offset old.Clear fmmus) says
+  fmmus-are = entries ∙ ap (λ (o : Outcome Planned). entriesAfter o (sheetData sheet) ws r offset Clear fmmus) says
 
   fmmus-kept : flat (plan r offset us (map (cleared r) (entriesOf 16 fmmusThen))) ≡ fmmusThen
   fmmus-kept =
@@ -150,23 +150,23 @@ module _ (sheet ws : List ℕ) (r : PdoDirection) (offset group : ℕ) (fmmus ch
   both-long : notAreas fmmusThen channelsThen ≡ false
   both-long = rw (t .after-long, ap length channels-are ∙ images-long (dataSize (sheetData sheet) ws r) (sheetData sheet .managers) channels long) refl
 
-  clear-again : Clear (passRefusals sheet ws r offset (clean group) fmmusThen channelsThen)
+  none-again : NoneHolds (passRefusals sheet ws r offset (clean group) fmmusThen channelsThen)
   unfolding tooLong
-  clear-again =
+  none-again =
       let s = c .1 .1 .1 .1 .1 in
-      let free = ap (inTheWay old.Clear r us) (t .leaves) ∙ free-again r offset us (entriesOf 16 fmmus) (length-chunks 16 16 fmmus) places (t .free) in
+      let free = ap (inTheWay Clear r us) (t .leaves) ∙ free-again r offset us (entriesOf 16 fmmus) (length-chunks 16 16 fmmus) places (t .free) in
       (both-long, (c .1 .0, (c .1 .1 .0, (c .1 .1 .1 .0, (c .1 .1 .1 .1 .0, (s .0, (s .1 .0, (s .1 .1 .0, (s .1 .1 .1 .0, (s .1 .1 .1 .1 .0, (free, tt)))))))))))
 
   pub outcome-again : byDefault sheet ws r offset group fmmusThen channelsThen ≡ accepted p
   unfolding dataPass
   outcome-again =
       let x = plannedOf (sheetData sheet) ws r offset group in
-      clear-accepted (passRefusals sheet ws r offset (clean group) fmmusThen channelsThen) x clear-again
-      ∙ sym (clear-accepted (passRefusals sheet ws r offset (clean group) fmmus channels) x c)
+      none-accepted (passRefusals sheet ws r offset (clean group) fmmusThen channelsThen) x none-again
+      ∙ sym (none-accepted (passRefusals sheet ws r offset (clean group) fmmus channels) x c)
       ∙ says
 
-  pub entries-again : fmmusThen ≡ entriesAfter (byDefault sheet ws r offset group fmmusThen channelsThen) (sheetData sheet) ws r offset old.Clear fmmusThen
-  entries-again = sym (ap (λ (o : Outcome Planned). entriesAfter o (sheetData sheet) ws r offset old.Clear fmmusThen) outcome-again ∙ fmmus-kept)
+  pub entries-again : fmmusThen ≡ entriesAfter (byDefault sheet ws r offset group fmmusThen channelsThen) (sheetData sheet) ws r offset Clear fmmusThen
+  entries-again = sym (ap (λ (o : Outcome Planned). entriesAfter o (sheetData sheet) ws r offset Clear fmmusThen) outcome-again ∙ fmmus-kept)
 
   pub channels-again : channelsThen ≡ channelAreaAfter (byDefault sheet ws r offset group fmmusThen channelsThen) (sheetData sheet) ws r channelsThen
   channels-again = sym (ap (λ (o : Outcome Planned). channelAreaAfter o (sheetData sheet) ws r channelsThen) outcome-again ∙ channels-kept)

@@ -1,29 +1,31 @@
 -- The default on any area is keeping on the area with the direction's old entries zeroed, where nothing is in the way.
 -- Assumes nothing.
-use mathlib.Core.Path.{_≡_, refl, sym, _∙_, ap}
-use mathlib.Core.Bool.{Bool, true, false, not, _||_}
+use mathlib.Core.Path.{_≡_, refl, sym, _∙_, ap, subst}
+use mathlib.Core.Bool.{Bool, true, false, not, _||_, _&&_}
 use mathlib.Core.List.{List, [], _∷_, _++_, map}
 use mathlib.Core.Logic.{_⊎_, inl, inr}
 use Prim.Native.Nat.{ℕ, _+_}
 use lib.Dec.{eqb, ltb}
-use lib.ListN.{length, getD}
+use lib.ListN.{length, getD, replicate}
 use borrow.Author.Tests.{eqb-true, eq-eqb}
+use Rattle.fmmu.specs.Image.{fieldsOf}
 use Rattle.wire.specs.Image.{Bytes}
 use Rattle.wire.specs.Outcome.{Outcome, accepted, when, decide}
 use Rattle.pdi.specs.Offset.{pastEnd}
 use Rattle.sheet.specs.Sheet.{sheetRefusals, sheetData}
 use Rattle.pdo.specs.declared.PdoDirection.{PdoDirection}
-use Rattle.area.specs.Area.{entriesOf, flat, notEntries, notChannels}
+use Rattle.area.specs.Area.{entriesOf, flat, notEntries, notChannels, chunks}
 use Rattle.passes.specs.declared.OldEntries.the-variants.{Clear, Keep}
 use Rattle.passes.specs.Use.{Use, usesOf, sizeOf}
-use Rattle.passes.specs.Old.{clean, cleared, inTheWay}
+use Rattle.passes.specs.Old.{clean, cleared, inTheWay, bothBits, carriesBoth}
 use Rattle.passes.specs.Entries.{plan, tooLong, Planned}
 use Rattle.passes.specs.Pass.{wantedRefusals, plannedOf, dataPass, entriesAfter, channelAreaAfter, segmentAlone, offsetAfter}
 use Rattle.area.proofs.Flat.{entry-bytes}
-use Rattle.passes.proofs.Cleared.{length-bytes, cleared-eight}
-use Rattle.agreement.specs.Clean.{zeroed, byDefault, byKeeping, AsKeeping, PromiseAsKeeping}
-use Rattle.agreement.proofs.Basics.{either}
-use Rattle.agreement.proofs.Areas.{Sixteen, sixteen-of, sixteen-begun, flat-long, flat-entries}
+use Rattle.passes.proofs.Cleared.{length-bytes, cleared-eight, Off, zeros-all-off, none-used, cleared-off, cleared-at}
+use Rattle.agreement.specs.Clean.{zeroed, byDefault, byKeeping, AsKeeping, PromiseAsKeeping, AsFromZeros}
+use Rattle.agreement.proofs.Basics.{either, none-at}
+use Rattle.area.proofs.Flat.{Sixteen, sixteen-of, flat-bytes, flat-entries}
+use Rattle.passes.proofs.Cleared.{sixteen-begun}
 use Rattle.agreement.proofs.Told.{answered, none-holds, area-long, told}
 
 -- an entry's length is two of its bytes, so 8 is the same counted from zero as from those lengths
@@ -36,27 +38,27 @@ module _ (r : PdoDirection) (fmmus : List ℕ) (long : length fmmus ≡ 256) whe
   zeroed-whole : zeroed r fmmus ≡ flat (map (cleared r) (entriesOf 16 fmmus))
   zeroed-whole = rw (eq-eqb (length fmmus) 256 long) refl
 
-  sixteen : Sixteen (map (cleared r) (entriesOf 16 fmmus))
-  sixteen = sixteen-begun Clear r (entriesOf 16 fmmus) (sixteen-of fmmus long)
+  sixteen : Sixteen 16 (map (cleared r) (entriesOf 16 fmmus))
+  sixteen = sixteen-begun Clear r (entriesOf 16 fmmus) (sixteen-of 16 fmmus long)
 
   pub zeroed-long : length (zeroed r fmmus) ≡ 256
-  zeroed-long = ap length zeroed-whole ∙ flat-long (map (cleared r) (entriesOf 16 fmmus)) sixteen
+  zeroed-long = ap length zeroed-whole ∙ flat-bytes 16 16 (map (cleared r) (entriesOf 16 fmmus)) sixteen
 
   pub zeroed-entries : entriesOf 16 (zeroed r fmmus) ≡ map (cleared r) (entriesOf 16 fmmus)
-  zeroed-entries = ap (entriesOf 16) zeroed-whole ∙ flat-entries (map (cleared r) (entriesOf 16 fmmus)) sixteen
+  zeroed-entries = ap (entriesOf 16) zeroed-whole ∙ flat-entries 16 (map (cleared r) (entriesOf 16 fmmus)) sixteen
+
+-- a pass by the answers to 1, 8 and 15
+abbrev answer : List ℕ → List ℕ → PdoDirection → ℕ → ℕ → List ℕ → Bool → Bool → Bool → Outcome Planned
+answer sheet ws r offset group channels one eight fifteen =
+    decide
+    (when 1 (one || notChannels channels) ∷ sheetRefusals sheet ++ (wantedRefusals (sheetData sheet) ws r
+    ++ (when 8 eight ∷ when 9 (pastEnd (offset + sizeOf (sheetData sheet) ws r)) ∷ when 10 (ltb offset group) ∷ when 15 fifteen ∷ [])))
+    (plannedOf (sheetData sheet) ws r offset group)
 
 module _ (sheet ws : List ℕ) (r : PdoDirection) (offset group : ℕ) (fmmus channels : List ℕ) (bytes : Bytes fmmus)
     (free : inTheWay Clear r (usesOf (sheetData sheet) ws r) (entriesOf 16 fmmus) ≡ false) where
   abbrev uses : List Use
   uses = usesOf (sheetData sheet) ws r
-
-  -- a pass by the answers to 1, 8 and 15
-  abbrev answer : Bool → Bool → Bool → Outcome Planned
-  answer one eight fifteen =
-      decide
-      (when 1 (one || notChannels channels) ∷ sheetRefusals sheet ++ (wantedRefusals (sheetData sheet) ws r
-      ++ (when 8 eight ∷ when 9 (pastEnd (offset + sizeOf (sheetData sheet) ws r)) ∷ when 10 (ltb offset group) ∷ when 15 fifteen ∷ [])))
-      (plannedOf (sheetData sheet) ws r offset group)
 
   outcomes-same : (eqb (length fmmus) 256 ≡ true) ⊎ (eqb (length fmmus) 256 ≡ false) → byDefault sheet ws r offset group fmmus channels ≡ byKeeping sheet ws r offset group fmmus channels
   unfolding dataPass inTheWay
@@ -66,7 +68,7 @@ module _ (sheet ws : List ℕ) (r : PdoDirection) (offset group : ℕ) (fmmus ch
       let one : notEntries fmmus ≡ notEntries (zeroed r fmmus) = ap (λ (n : ℕ). not (eqb n 256)) (long ∙ sym (zeroed-long r fmmus long)) in
       let eight : tooLong Clear uses (entriesOf 16 fmmus) ≡ tooLong Keep uses (entriesOf 16 (zeroed r fmmus)) =
       eight-same r uses fmmus bytes free ∙ ap (tooLong Keep uses) (sym (zeroed-entries r fmmus long)) in
-      λ i. answer (one i) (eight i) (free i)
+      λ i. answer sheet ws r offset group channels (one i) (eight i) (free i)
 
   -- accepted, it is of 256 bytes
   entries-same : (p : Planned) → byDefault sheet ws r offset group fmmus channels ≡ accepted p
@@ -101,3 +103,21 @@ promise-as-keeping sheet ws r offset group fmmus channels s o f c bytes p =
           ∙ ap (λ (x : Outcome Planned). entriesAfter x (sheetData sheet) ws r at Keep (zeroed r fmmus)) (sym (went .says) ∙ same);
       images = p .images ∙ k .images;
     }
+
+-- nothing of zeros is in the way
+zeros-free : (r : PdoDirection) (us : List Use) → inTheWay Clear r us (entriesOf 16 (replicate 256 0)) ≡ false
+unfolding chunks inTheWay
+zeros-free r us =
+    let zeros : List (List ℕ) = replicate 16 (replicate 16 0) in
+    let both = none-at bothBits zeros [] (λ k. ap (λ (b : Bool). b && carriesBoth (fieldsOf (getD zeros k []))) (zeros-all-off 16 k)) in
+    let off : (k : ℕ) → Off (getD (map (cleared r) zeros) k []) = λ k. subst Off (sym (cleared-at r zeros k ∙ cleared-off r (getD zeros k []) (zeros-all-off 16 k))) (zeros-all-off 16 k) in
+    λ i. both i || none-used us (map (cleared r) zeros) off i
+
+-- 8 counts from zero over any area, so by default only 1 and 15 look at one
+pub as-from-zeros : AsFromZeros
+unfolding dataPass tooLong
+as-from-zeros sheet ws r offset group fmmus channels long free =
+    let uses = usesOf (sheetData sheet) ws r in
+    let one : notEntries fmmus ≡ notEntries (replicate 256 0) = ap (λ (n : ℕ). not (eqb n 256)) long in
+    let fifteen : inTheWay Clear r uses (entriesOf 16 fmmus) ≡ inTheWay Clear r uses (entriesOf 16 (replicate 256 0)) = free ∙ sym (zeros-free r uses) in
+    λ i. answer sheet ws r offset group channels (one i) (tooLong Clear uses (entriesOf 16 fmmus)) (fifteen i)

@@ -14,7 +14,6 @@ use lib.Dec.{ltb}
 use borrow.Author.Tests.{ltb-true, ltb-false}
 use Rattle.wire.specs.Outcome.{refused, accepted, Refusal, decide}
 use Rattle.wire.proofs.Order.{never}
-use Rattle.wire.proofs.Lists.{or-none}
 use Rattle.wire.specs.Lists.{Each, someOf}
 use Rattle.translation.specs.Translate.{firstSaid}
 
@@ -30,21 +29,21 @@ same-or-not m n = go (ℕ-discrete m n)
     go (no e) = inr e
 
 -- none of the refusals of an accepted call holds
-abbrev pub Clear : List Refusal → Type 0
-Clear rs = Each (λ (r : Refusal). r .holds ≡ false) rs
+abbrev pub NoneHolds : List Refusal → Type 0
+NoneHolds rs = Each (λ (r : Refusal). r .holds ≡ false) rs
 
-pub accepted-clear : {A : Type 0} (rs : List Refusal) (x y : A) → decide rs x ≡ accepted y → Clear rs
-accepted-clear [] x y e = tt
-accepted-clear (r ∷ rs) x y e = go (either (r .holds)) (accepted-clear rs x y)
+pub accepted-none : {A : Type 0} (rs : List Refusal) (x y : A) → decide rs x ≡ accepted y → NoneHolds rs
+accepted-none [] x y e = tt
+accepted-none (r ∷ rs) x y e = go (either (r .holds)) (accepted-none rs x y)
   where
-    go : (r .holds ≡ true) ⊎ (r .holds ≡ false) → (decide rs x ≡ accepted y → Clear rs) → (r .holds ≡ false) × Clear rs
+    go : (r .holds ≡ true) ⊎ (r .holds ≡ false) → (decide rs x ≡ accepted y → NoneHolds rs) → (r .holds ≡ false) × NoneHolds rs
     go (inl h) i = let z : refused (r .number) ≡ accepted y = rw h at e in absurd (never z)
     go (inr h) i = let z : decide rs x ≡ accepted y = rw h at e in (h, i z)
 
 -- and where none holds, the call is accepted
-pub clear-accepted : {A : Type 0} (rs : List Refusal) (x : A) → Clear rs → decide rs x ≡ accepted x
-clear-accepted [] x c = refl
-clear-accepted (r ∷ rs) x c = rw (c .0) (clear-accepted rs x (c .1))
+pub none-accepted : {A : Type 0} (rs : List Refusal) (x : A) → NoneHolds rs → decide rs x ≡ accepted x
+none-accepted [] x c = refl
+none-accepted (r ∷ rs) x c = rw (c .0) (none-accepted rs x (c .1))
 
 -- a question asks only what `map` shows; and it holds of none exactly if at no place
 pub some-map : {A : Type 0} (f : A → Bool) (l m : List A) → map f l ≡ map f m → someOf f l ≡ someOf f m
@@ -57,11 +56,6 @@ some-map {A = A} f l m e = shown l ∙ ap (someOf (λ b. b)) e ∙ sym (shown m)
 pub none-at : {A : Type 0} (f : A → Bool) (l : List A) (z : A) → ((k : ℕ) → f (getD l k z) ≡ false) → someOf f l ≡ false
 none-at f [] z h = refl
 none-at f (x ∷ xs) z h = rw (h 0) (none-at f xs z (λ k. h (suc k)))
-
-pub at-none : {A : Type 0} (f : A → Bool) (l : List A) (z : A) → f z ≡ false → someOf f l ≡ false → (k : ℕ) → f (getD l k z) ≡ false
-at-none f [] z n h k = n
-at-none f (x ∷ xs) z n h zero = or-none (f x) (someOf f xs) h .0
-at-none f (x ∷ xs) z n h (suc k) = at-none f xs z n (or-none (f x) (someOf f xs) h .1) k
 
 pub each-map : {A : Type 0} (P Q : A → Type 0) → ((x : A) → P x → Q x) → (l : List A) → Each P l → Each Q l
 each-map P Q f [] e = tt

@@ -1,6 +1,6 @@
--- Wrong planners on nonempty data: a pass that writes nothing, one that clears alone, one that pretends in the second direction, one that invents its sizes. Over the bytes that each
--- leaves, translating and counting disagree. Where the direction's sync managers lie end to end that contradicts demand 3 (`contradicts`); where they don't,
--- demand 3 has the two disagree anyhow, and it is the pass's own promise that such a planner breaks.
+-- Wrong planners on nonempty data: a pass that writes nothing, one that clears alone, one that pretends in the second direction, one that invents its
+-- sizes. Over the bytes that each leaves, translating and counting disagree. Where the direction's sync managers lie end to end that contradicts demand 3
+-- (`contradicts`); where they don't, demand 3 has the two disagree anyhow, and it is the pass's own promise that such a planner breaks.
 -- Assumes nothing.
 use mathlib.Core.Path.{_≡_, refl, sym, _∙_, ap, subst}
 use mathlib.Core.Bool.{true, false}
@@ -33,7 +33,8 @@ use Rattle.agreement.proofs.Step.{Silent, off-silent, says-silent, odd-
 use Rattle.agreement.proofs.Run.{clean-start, said, none-odd, other-silents}
 use Rattle.passes.proofs.Pieces.{uses-total}
 use Rattle.area.proofs.Flat.{length-chunks}
-use Rattle.agreement.proofs.Areas.{sixteen-of, sixteen-planned, flat-long, flat-entries}
+use Rattle.area.proofs.Flat.{sixteen-of, flat-bytes, flat-entries}
+use Rattle.passes.proofs.Kept.{sixteen-planned}
 use Rattle.agreement.specs.Clean.{zeroed}
 use Rattle.agreement.proofs.AsKeeping.{zeroed-long, zeroed-entries}
 use Rattle.agreement.proofs.Demand3.{one-of-two, two, ownBy, rangeSize, Facts, facts, sane-uses, lays, counted-own, counted-lay, disabled-off, disabled-start}
@@ -170,11 +171,11 @@ module _ (sheet : List ℕ) (bytes : Bytes sheet) (r : PdoDirection) (l : Lent) 
   invented agree a h =
       let es = plan r (l .offset) vs (entriesOf 16 area) in
       let t = disabled-start r vs area d in
-      let sixteen = sixteen-planned r (l .offset) vs (entriesOf 16 area) (sixteen-of area long) in
+      let sixteen = sixteen-planned r (l .offset) vs (entriesOf 16 area) (sixteen-of 16 area long) in
       let x : translate r (flat es) a ≡ accepted (orNone (lay (l .offset) (goOn 16 0 vs) a)) =
       rw (
-        eq-eqb (length (flat es)) 256 (flat-long es sixteen),
-        flat-entries es sixteen,
+        eq-eqb (length (flat es)) 256 (flat-bytes 16 16 es sixteen),
+        flat-entries 16 es sixteen,
         none-odd r (l .offset) vs (entriesOf 16 area) y t,
         said r (l .offset) vs (entriesOf 16 area) y t a,
       )

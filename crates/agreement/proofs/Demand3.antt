@@ -33,7 +33,7 @@ use Rattle.passes.proofs.Pieces.{uses-total}
 use Rattle.translation.specs.Translate.{says, odd, firstSaid, orNone, translate}
 use Rattle.counting.specs.Count.{spotIn, deviceAlone, countRefusals, count}
 use Rattle.agreement.specs.Agreement.{EveryDisabled, Needs, Lent, weights, passOf, Accepted, TwoPasses, EndToEnd, laidBy, counted, Agree, Demand3OfOne, Demand3, Demand3Clean, Demand3FromDisabled, Demand3InReach}
-use Rattle.agreement.proofs.Basics.{clear-accepted, each-map, each-of, either}
+use Rattle.agreement.proofs.Basics.{none-accepted, each-map, each-of, either}
 use Rattle.agreement.proofs.Straight.{lay, Lays, apart-flip}
 use Rattle.passes.proofs.Cleared.{Off, nil-off}
 use Rattle.agreement.proofs.Step.{off-silent}
@@ -98,7 +98,7 @@ module _ (sheet : List ℕ) (bytes : Bytes sheet) (r : PdoDirection) (l : Lent) 
       let ps = piecesOf (sheetData sheet) (weights sheet l) r in
       let k = f .sheet-kept in
       ap deviceAlone
-      (clear-accepted
+      (none-accepted
       (countRefusals sheet (weights sheet l) r (l .offset))
       (spotIn (l .offset) ps a)
       (k .right, (k .version, (k .whole, (k .named, (f .bits, (f .entry, (f .end, tt))))))))

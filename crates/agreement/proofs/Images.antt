@@ -11,11 +11,11 @@ use lib.ListN.{length, getD, set}
 use lib.Seq.{getD-set-same, getD-set-other, set-getD, set-out}
 use borrow.Author.Tests.{ltb-true, ltb-false}
 use Rattle.sheet.specs.declared.SyncManager.{SyncManager}
-use Rattle.area.specs.Area.{chunks, entriesOf, flat}
-use Rattle.area.proofs.Flat.{length-chunks, rows-chunks, chunks-flat, flat-bytes}
+use Rattle.area.specs.Area.{entriesOf, flat}
+use Rattle.area.proofs.Flat.{flat-bytes, Sixteen, sixteen-of, flat-entries}
 use Rattle.sync_manager_channel.specs.Image.{imageOf}
 use Rattle.channels.specs.Channels.{channelFor, written, channelsAfter}
-use Rattle.channels.proofs.After.{Sixteen, written-kept, channels-kept}
+use Rattle.channels.proofs.After.{written-kept, channels-kept}
 use Rattle.agreement.proofs.Basics.{either}
 
 module _ (size : ℕ → SyncManager → Option ℕ) where
@@ -37,7 +37,7 @@ module _ (size : ℕ → SyncManager → Option ℕ) where
       (λ h. set-out fs k (imageOf (channelFor m n)) (let g = ltb-false k (length es) h in omega arith))
       (either (ltb k (length es)))
 
-  images-again : (k : ℕ) (ms : List SyncManager) (es : List (List ℕ)) → Sixteen es → channelsAfter size k ms (channelsAfter size k ms es) ≡ channelsAfter size k ms es
+  images-again : (k : ℕ) (ms : List SyncManager) (es : List (List ℕ)) → Sixteen 8 es → channelsAfter size k ms (channelsAfter size k ms es) ≡ channelsAfter size k ms es
   unfolding channelsAfter
   images-again k [] es s = refl
   images-again k (m ∷ ms) es s =
@@ -53,10 +53,10 @@ module _ (size : ℕ → SyncManager → Option ℕ) where
     abbrev found : List (List ℕ)
     found = entriesOf 8 area
 
-    sixteen : Sixteen found
-    sixteen = (length-chunks 8 16 area, rows-chunks 8 16 area long)
+    sixteen : Sixteen 8 found
+    sixteen = sixteen-of 8 area long
 
-    then : Sixteen (channelsAfter size 0 ms found)
+    then : Sixteen 8 (channelsAfter size 0 ms found)
     then = channels-kept size 0 ms .kept found sixteen
 
     pub images-long : length (flat (channelsAfter size 0 ms (entriesOf 8 area))) ≡ 128
@@ -65,5 +65,5 @@ module _ (size : ℕ → SyncManager → Option ℕ) where
     pub images-stay : flat (channelsAfter size 0 ms (entriesOf 8 (flat (channelsAfter size 0 ms (entriesOf 8 area))))) ≡ flat (channelsAfter size 0 ms (entriesOf 8 area))
     images-stay =
         let fs = channelsAfter size 0 ms found in
-        ap (λ (es : List (List ℕ)). flat (channelsAfter size 0 ms es)) (ap (λ (n : ℕ). chunks 8 n (flat fs)) (sym (then .0)) ∙ chunks-flat 8 fs (then .1))
+        ap (λ (es : List (List ℕ)). flat (channelsAfter size 0 ms es)) (flat-entries 8 fs then)
         ∙ ap flat (images-again 0 ms found sixteen)

@@ -9,7 +9,6 @@ pub mod Clean
 pub mod Run
 pub mod Left
 pub mod Uses
-pub mod Areas
 pub mod Sheets
 pub mod Told
 pub mod Demand3

@@ -13,7 +13,7 @@ use lib.Seq.{getD-set-same, getD-set-other, map-set-same}
 use borrow.Author.Tests.{ltb-true, ltb-false, eq-eqb, ne-eqb}
 use Rattle.fmmu.specs.Image.{fieldsOf, imageOf}
 use Rattle.wire.specs.Lists.{Each, someOf}
-use Rattle.wire.proofs.Lists.{or-none, none-of, each-both}
+use Rattle.wire.proofs.Lists.{or-none, none-of, each-both, at-none}
 use Rattle.pdo.specs.declared.PdoDirection.{PdoDirection}
 use Rattle.pdo.specs.Direction.{other}
 use Rattle.passes.specs.Use.{Use, total, totalOn}
@@ -25,7 +25,7 @@ use Rattle.translation.specs.Translate.{named, carries, says, odd, firstSaid, o
 use Rattle.agreement.specs.Agreement.{EndToEnd}
 use Rattle.translation.proofs.Lies.{inside, behind}
 use Rattle.passes.proofs.Kept.{plan-length}
-use Rattle.agreement.proofs.Basics.{either, same-or-not, each-map, each-of, first-none, first-new, none-at, at-none, some-map}
+use Rattle.agreement.proofs.Basics.{either, same-or-not, each-map, each-of, first-none, first-new, none-at, some-map}
 use Rattle.agreement.proofs.Straight.{lay, Fresh, Next, Grouped, linked, Apart, Lays, fresh-16, reach, goOn, lay-before, straight-same, same-straight, straight-iff}
 use Rattle.passes.proofs.Cleared.{Off, nil-off, cleared-at, begun-length}
 use Rattle.agreement.proofs.Step.{Silent, Stand, Good, silent, stands, good-on, good-odd, good-says, says-silent, odd-silent, Stepped, step-off, step-on, silent-laid}

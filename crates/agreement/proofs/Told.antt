@@ -23,8 +23,10 @@ use Rattle.passes.specs.Use.{usesOf, sizeOf}
 use Rattle.passes.specs.Old.{beginning, inTheWay}
 use Rattle.passes.specs.Entries.{plan, Planned, tooLong}
 use Rattle.passes.specs.Pass.{someTooMany, noEntry, entriesAfter, segmentAlone, passRefusals, plannedOf, dataPass}
-use Rattle.agreement.proofs.Basics.{Clear, accepted-clear}
-use Rattle.agreement.proofs.Areas.{sixteen-of, sixteen-begun, sixteen-planned, flat-long, flat-entries}
+use Rattle.agreement.proofs.Basics.{accepted-none, NoneHolds}
+use Rattle.area.proofs.Flat.{sixteen-of, flat-bytes, flat-entries}
+use Rattle.passes.proofs.Kept.{sixteen-planned}
+use Rattle.passes.proofs.Cleared.{sixteen-begun}
 
 -- a pass that answered a segment was accepted
 pub record Answered (o : Outcome Planned) : Type 0 where
@@ -37,11 +39,11 @@ answered (accepted p) s e = record { planned = p; says = refl }
 
 module _ (sheet ws : List ℕ) (r : PdoDirection) (offset : ℕ) (settings : Settings) (area channels : List ℕ) where
   -- none of the refusals holds
-  pub none-holds : (p : Planned) → dataPass sheet ws r offset settings area channels ≡ accepted p → Clear (passRefusals sheet ws r offset settings area channels)
+  pub none-holds : (p : Planned) → dataPass sheet ws r offset settings area channels ≡ accepted p → NoneHolds (passRefusals sheet ws r offset settings area channels)
   unfolding dataPass
-  none-holds p e = accepted-clear (passRefusals sheet ws r offset settings area channels) (plannedOf (sheetData sheet) ws r offset (settings .group)) p e
+  none-holds p e = accepted-none (passRefusals sheet ws r offset settings area channels) (plannedOf (sheetData sheet) ws r offset (settings .group)) p e
 
-  module _ (c : Clear (passRefusals sheet ws r offset settings area channels)) where
+  module _ (c : NoneHolds (passRefusals sheet ws r offset settings area channels)) where
     pub area-long : length area ≡ 256
     area-long = eqb-true (length area) 256 (not-false (eqb (length area) 256) (or-none (notEntries area) (notChannels channels) (c .0) .0))
 
@@ -71,7 +73,7 @@ told sheet ws r offset settings area channels after p says leaves =
     let s = c .1 .1 .1 .1 .1 in
     let es = plan r offset (usesOf (sheetData sheet) ws r) (beginning (settings .old) r (entriesOf 16 area)) in
     let left : after ≡ flat es = leaves ∙ ap (λ (o : Outcome Planned). entriesAfter o (sheetData sheet) ws r offset (settings .old) area) says in
-    let sixteen = sixteen-planned r offset (usesOf (sheetData sheet) ws r) _ (sixteen-begun (settings .old) r (entriesOf 16 area) (sixteen-of area long)) in
+    let sixteen = sixteen-planned r offset (usesOf (sheetData sheet) ws r) _ (sixteen-begun (settings .old) r (entriesOf 16 area) (sixteen-of 16 area long)) in
     record {
       long = long;
       sheet-kept = accepts sheet (c .1 .0) (c .1 .1 .0) (c .1 .1 .1 .0) (c .1 .1 .1 .1 .0);
@@ -80,6 +82,6 @@ told sheet ws r offset settings area channels after p says leaves =
       room = s .1 .1 .0;
       end = s .1 .1 .1 .0;
       free = s .1 .1 .1 .1 .1 .0;
-      after-long = ap length left ∙ flat-long es sixteen;
-      leaves = ap (entriesOf 16) left ∙ flat-entries es sixteen;
+      after-long = ap length left ∙ flat-bytes 16 16 es sixteen;
+      leaves = ap (entriesOf 16) left ∙ flat-entries 16 es sixteen;
     }

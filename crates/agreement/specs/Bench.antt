@@ -113,8 +113,7 @@ noBitsSheet =
     (0x00 ∷ 0x13 ∷ 0x01 ∷ 0x03 ∷ 0x00 ∷ 0x80 ∷ 0x00 ∷ 0x80 ∷ 0x02 ∷ 0x00 ∷ 0x00 ∷ [])
     ++ (0x10 ∷ 0x80 ∷ 0x22 ∷ 0x01 ∷ 0x02 ∷ 0x11 ∷ 0x80 ∷ 0x20 ∷ 0x01 ∷ 0x04 ∷ [])
 
--- each case, by the step and by the pass where both have it; P8 keeping, and by default, where the full entry is cleared first;
--- a control byte by itself, in an image, and by the pass that writes one
+-- each case, by the step and by the pass where both have it; a control byte by itself, in an image, and by the pass that writes one
 abbrev pub benchCases : List Row
 benchCases =
     row 1 (number (roundedUp 65528)) (accepted (8191 ∷ []))
@@ -135,7 +134,6 @@ benchCases =
     ∷ row 7 (number (incremented 4294967294 2)) (refused 9)
     ∷ row 7 (startAndEnd (inputFrom 4294967294 (bitsSheet 16) zeros)) (refused 9)
     ∷ row 8 (startAndEnd (inputKept (bitsSheet 8) fullEntry)) (refused 8)
-    ∷ row 8 (startAndEnd (inputPass (bitsSheet 8) fullEntry)) (accepted (0 ∷ 1 ∷ []))
     ∷ row 9 (startAndEnd (inputPass noBitsSheet zeros)) (accepted (0 ∷ 0 ∷ []))
     ∷ row 10 (inputEntry 0 (bitsSheet 0) zeros) (accepted (0 ∷ 0 ∷ 0 ∷ 0 ∷ 0 ∷ 0 ∷ 0 ∷ 7 ∷ 0x80 ∷ 0x11 ∷ 0 ∷ 1 ∷ 1 ∷ 0 ∷ 0 ∷ 0 ∷ []))
     ∷ row 11 (control (readControl 0x23)) (refused 5)

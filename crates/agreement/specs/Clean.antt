@@ -4,6 +4,7 @@ use mathlib.Core.Path.{_≡_}
 use mathlib.Core.Bool.{false, cond}
 use mathlib.Core.List.{List, map}
 use Prim.Native.Nat.{ℕ}
+use lib.ListN.{length, replicate}
 use Rattle.wire.specs.Outcome.{Outcome, accepted}
 use Rattle.wire.specs.Image.{Bytes}
 use Rattle.pdi.specs.declared.PdiOffset.{PdiOffset}
@@ -57,6 +58,14 @@ PromiseAsKeeping =
     → Bytes fmmus
     → Passes sheet ws r offset (clean group) fmmus channels (Segment segment) offsetThen fmmusThen channelsThen
     → Passes sheet ws r offset (keeping group) (zeroed r fmmus) channels (Segment segment) offsetThen fmmusThen channelsThen
+
+-- and what the default answers doesn't depend on what stood in the area before: where the condition of 15 doesn't hold, it is the answer from zeros
+abbrev pub AsFromZeros : Type 0
+AsFromZeros =
+    (sheet ws : List ℕ) (r : PdoDirection) (offset group : ℕ) (fmmus channels : List ℕ)
+    → length fmmus ≡ 256
+    → inTheWay Clear r (usesOf (sheetData sheet) ws r) (entriesOf 16 fmmus) ≡ false
+    → byDefault sheet ws r offset group fmmus channels ≡ byDefault sheet ws r offset group (replicate 256 0) channels
 
 -- a pass in the default that answered a segment, made again from the same offset over what it left, answers the same and leaves the same
 abbrev pub MadeAgain : Type 0

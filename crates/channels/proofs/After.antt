@@ -15,9 +15,9 @@ use borrow.Author.Tests.{eq-eqb, ne-eqb, eqb-true, eqb-false, leb-true, leb-fals
 use Rattle.sheet.specs.declared.SyncManager.{SyncManager}
 use Rattle.sync_manager_channel.specs.Image.{imageOf}
 use Rattle.sync_manager_channel.proofs.RoundTrip.{image-length}
-use Rattle.area.specs.Area.{chunks, entriesOf, storedAt, flat}
+use Rattle.area.specs.Area.{entriesOf, storedAt, flat}
 use Rattle.area.proofs.Entry.{stored-entry, stored-not, length-stored}
-use Rattle.area.proofs.Flat.{Rows, rows-set, rows-chunks, length-chunks, chunks-flat, flat-chunks, flat-bytes}
+use Rattle.area.proofs.Flat.{rows-set, length-chunks, flat-chunks, flat-bytes, Sixteen, sixteen-of, flat-entries}
 use Rattle.channels.specs.Channels.{channelFor, written, channelsAfter, channelArea, wantedSize}
 
 -- an area of 128 bytes is all entries; any other stays
@@ -38,12 +38,9 @@ area-same area = go (eqb (length area) 128) refl
     go true e = let long = eqb-true (length area) 128 e in area-whole (λ es. es) area long ∙ flat-chunks 8 16 area long
     go false e = area-other (λ es. es) area (eqb-false (length area) 128 e)
 
--- sixteen entries of eight bytes, and writing that leaves as many
-abbrev pub Sixteen : List (List ℕ) → Type 0
-Sixteen es = (length es ≡ 16) × Rows 8 es
-
+-- writing that leaves sixteen entries of eight bytes
 pub record Keeps (write : List (List ℕ) → List (List ℕ)) : Type 0 where
-  pub kept : (es : List (List ℕ)) → Sixteen es → Sixteen (write es)
+  pub kept : (es : List (List ℕ)) → Sixteen 8 es → Sixteen 8 (write es)
 
 -- one writing after another
 pub area-then : (g h : List (List ℕ) → List (List ℕ)) → Keeps h → (area : List ℕ) → channelArea g (channelArea h area) ≡ channelArea (λ es. g (h es)) area
@@ -53,11 +50,10 @@ area-then g h k area = go (eqb (length area) 128) refl
     go true e =
         let long = eqb-true (length area) 128 e in
         let es = entriesOf 8 area in
-        let sixteen = k .kept es (length-chunks 8 16 area, rows-chunks 8 16 area long) in
-        let back : entriesOf 8 (flat (h es)) ≡ h es = ap (λ (n : ℕ). chunks 8 n (flat (h es))) (sym (sixteen .0)) ∙ chunks-flat 8 (h es) (sixteen .1) in
+        let sixteen = k .kept es (sixteen-of 8 area long) in
         ap (channelArea g) (area-whole h area long)
         ∙ area-whole g (flat (h es)) (flat-bytes 8 16 (h es) sixteen)
-        ∙ ap (λ (x : List (List ℕ)). flat (g x)) back
+        ∙ ap (λ (x : List (List ℕ)). flat (g x)) (flat-entries 8 (h es) sixteen)
         ∙ sym (area-whole (λ x. g (h x)) area long)
     go false e =
         let short = eqb-false (length area) 128 e in

@@ -4,11 +4,11 @@ use mathlib.Core.Path.{_≡_, refl, sym, _∙_, ap, subst}
 use mathlib.Core.Bool.{Bool, true, false, cond, _||_}
 use mathlib.Core.List.{List, [], _∷_, map}
 use mathlib.Core.Logic.{inl}
-use Prim.Native.Nat.{ℕ, zero, suc, _+_, _<_, _≤_, min}
+use Prim.Native.Nat.{ℕ, _+_, _<_, _≤_, min}
 use native.Mathlib.Omega.{arith}
-use lib.ListN.{length, getD, drop, replicate, length-map, List·getD-eq-default}
+use lib.ListN.{length, getD, drop, length-map, List·getD-eq-default}
 use Rattle.wire.specs.Lists.{someOf}
-use Rattle.wire.proofs.Lists.{or-none}
+use Rattle.wire.proofs.Lists.{at-none}
 use Rattle.pdi.specs.declared.ByteLen.{ByteLen}
 use Rattle.fmmu.specs.Image.{fieldsOf}
 use Rattle.sheet.specs.declared.SyncManager.{SyncManager}
@@ -24,9 +24,9 @@ use Rattle.passes.specs.Use.{Use}
 use Rattle.passes.specs.Handed.{usesBy}
 use Rattle.passes.specs.Entries.{lengthNow, tooLong}
 use Rattle.passes.specs.Old.{cleared, bothBits, someEnabled, inTheWay}
-use Rattle.passes.proofs.Cleared.{cleared-at, length-off, cleared-short, from-zero, cleared-eight}
+use Rattle.passes.proofs.Cleared.{nil-off, zeros-all-off, none-used, cleared-at, length-off, cleared-short, from-zero, cleared-eight}
 use Rattle.entries.specs.Lay.{takesEntry, entryBy, Short}
-use Rattle.entries.specs.Ready.{on, nothing, ready, Clears, Readies}
+use Rattle.entries.specs.Ready.{on, zeroEntries, ready, Clears, Readies}
 use Rattle.entries.proofs.Uses.{usesAt, uses-end, uses-other, uses-skip, uses-next}
 
 -- a number past the last one is no entry
@@ -88,17 +88,6 @@ module _ {sheet : List ℕ} {route : Route} {sizes : List ByteLen} {usage : ℕ}
         pub free-passed : on (getD es e []) ≡ false → NoneYet sheet route sizes usage es (k + 1)
         free-passed o = record { same = sym (ap (λ (b : Bool). b || enabledFrom sheet route sizes usage es (k + 1)) o) ∙ asked }
 
--- where no entry is enabled, none that is used is
-off-at : (es : List (List ℕ)) → someOf on es ≡ false → (k : ℕ) → on (getD es k []) ≡ false
-unfolding fieldsOf
-off-at [] e k = refl
-off-at (x ∷ es) e zero = or-none (on x) (someOf on es) e .0
-off-at (x ∷ es) e (suc k) = off-at es (or-none (on x) (someOf on es) e .1) k
-
-none-used : (us : List Use) (es : List (List ℕ)) → someOf on es ≡ false → someEnabled us es ≡ false
-none-used [] es e = refl
-none-used (u ∷ us) es e = λ i. off-at es e (u .entry) i || none-used us es e i
-
 -- clearing leaves as many
 pub cleared-many : {r : PdoDirection} {before after : List (List ℕ)} {enabled both : Bool} → Clears r before after enabled both → length before ≡ 16 → length after ≡ 16
 cleared-many {r} {before} c many = ap length (c .holds) ∙ length-map before (cleared r) ∙ many
@@ -114,33 +103,27 @@ module _ {old : OldEntries} (r : PdoDirection) (us : List Use) (before : List (L
     unfolding inTheWay
     by-both x y e f = λ i. e i || f i
 
-    made : {now : List (List ℕ)} {b : Bool} → inTheWay Clear r us before ≡ b → now ≡ cond b nothing (map (cleared r) before) → Readies old r us before now b
+    made : {now : List (List ℕ)} {b : Bool} → inTheWay Clear r us before ≡ b → now ≡ cond b zeroEntries (map (cleared r) before) → Readies old r us before now b
     made {now} {b} w h =
         subst (λ (o : OldEntries). Readies o r us before now b) (sym is)
-        (record { says = sym w; holds = h ∙ ap (λ (x : Bool). cond x nothing (map (cleared r) before)) (sym w) })
+        (record { says = sym w; holds = h ∙ ap (λ (x : Bool). cond x zeroEntries (map (cleared r) before)) (sym w) })
 
     -- none is enabled any more; none that is wanted
     pub all-off : both ≡ false → enabled ≡ false → Readies old r us before after false
-    all-off b e = made (by-both false false (sym (c .twice) ∙ b) (none-used us (map (cleared r) before) (sym (c .some) ∙ e))) (c .holds)
+    all-off b e = made (by-both false false (sym (c .twice) ∙ b) (none-used us (map (cleared r) before) (at-none on (map (cleared r) before) [] nil-off (sym (c .some) ∙ e)))) (c .holds)
 
     pub none-wanted : both ≡ false → someEnabled us after ≡ false → Readies old r us before after false
     none-wanted b e = made (by-both false false (sym (c .twice) ∙ b) (sym (ap (someEnabled us) (c .holds)) ∙ e)) (c .holds)
 
     -- one with both bits; one that is wanted
-    pub both-blocks : both ≡ true → Readies old r us before nothing true
+    pub both-blocks : both ≡ true → Readies old r us before zeroEntries true
     both-blocks b = made (by-both true _ (sym (c .twice) ∙ b) refl) refl
 
-    pub wanted-blocks : both ≡ false → someEnabled us after ≡ true → Readies old r us before nothing true
+    pub wanted-blocks : both ≡ false → someEnabled us after ≡ true → Readies old r us before zeroEntries true
     wanted-blocks b e = made (by-both false true (sym (c .twice) ∙ b) (sym (ap (someEnabled us) (c .holds)) ∙ e)) refl
 
-nothing-off : (n k : ℕ) → on (getD (replicate n (replicate 16 0)) k []) ≡ false
-unfolding fieldsOf
-nothing-off zero k = refl
-nothing-off (suc n) zero = refl
-nothing-off (suc n) (suc k) = nothing-off n k
-
-short-nothing : Short nothing
-short-nothing = record { many = refl; short = λ k h. (let z = length-off (getD nothing k []) (nothing-off 16 k) in omega arith) }
+short-zeros : Short zeroEntries
+short-zeros = record { many = refl; short = λ k h. (let z = length-off (getD zeroEntries k []) (zeros-all-off 16 k) in omega arith) }
 
 short-cleared : (r : PdoDirection) (es : List (List ℕ)) → Short es → Short (map (cleared r) es)
 short-cleared r es s =
@@ -155,8 +138,8 @@ unfolding inTheWay
 short-ready Keep r us es s = s
 short-ready Clear r us es s = go (inTheWay Clear r us es)
   where
-    go : (b : Bool) → Short (cond b nothing (map (cleared r) es))
-    go true = short-nothing
+    go : (b : Bool) → Short (cond b zeroEntries (map (cleared r) es))
+    go true = short-zeros
     go false = short-cleared r es s
 
 pub short-made : {old : OldEntries} {r : PdoDirection} {us : List Use} {before after : List (List ℕ)} {blocked : Bool} → Readies old r us before after blocked → Short before → Short after
@@ -168,6 +151,6 @@ unfolding inTheWay
 too-long-ready Keep r us es s = refl
 too-long-ready Clear r us es s = go (inTheWay Clear r us es) refl
   where
-    go : (b : Bool) → inTheWay Clear r us es ≡ b → tooLong Keep us (cond b nothing (map (cleared r) es)) ≡ tooLong Clear us es
-    go true w = from-zero us nothing es (short-nothing .short) (λ k. inl (nothing-off 16 k))
+    go : (b : Bool) → inTheWay Clear r us es ≡ b → tooLong Keep us (cond b zeroEntries (map (cleared r) es)) ≡ tooLong Clear us es
+    go true w = from-zero us zeroEntries es (short-zeros .short) (λ k. inl (zeros-all-off 16 k))
     go false w = cleared-eight r us es (s .short) w

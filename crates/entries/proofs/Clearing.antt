@@ -2,11 +2,9 @@
 -- Assumes nothing.
 use mathlib.Core.Path.{_≡_, refl, sym, _∙_, ap}
 use mathlib.Core.Bool.{Bool, true, false, not, _&&_, _||_, true≢false}
-use mathlib.Core.List.{List, [], _∷_, _++_, map}
+use mathlib.Core.List.{List, [], _++_, map}
 use mathlib.Core.Logic.{_≢_}
-use Prim.Native.Nat.{ℕ, zero, suc, _+_, _*_, _/_, _%_, _<_, _≤_}
-use native.Mathlib.Nat.{not-suc-le-zero, le-of-suc-le-suc}
-use native.Mathlib.Numerals.{add-one}
+use Prim.Native.Nat.{ℕ, suc, _+_, _*_, _/_, _%_, _<_, _≤_}
 use native.Mathlib.Omega.{arith}
 use lib.ListN.{length, getD, take, drop, set, length-map}
 use lib.Dec.{eqb}
@@ -14,13 +12,14 @@ use borrow.Author.Tests.{eqb-true, eqb-false}
 use lib.Seq.{take-all, drop-cons, set-getD, getD-at, length-take-le}
 use Rattle.wire.specs.Field.{bitsAt, flagAt, bit}
 use Rattle.wire.specs.Lists.{someOf}
+use Rattle.wire.proofs.Lists.{or-false, some-next}
 use Rattle.wire.proofs.Copied.{copied, copied-whole}
 use Rattle.fmmu.specs.Image.{fieldsOf}
 use Rattle.pdo.specs.declared.PdoDirection.{PdoDirection}
 use Rattle.pdo.specs.declared.PdoDirection.the-variants.{MasterRead, MasterWrite}
-use Rattle.passes.specs.Old.{isOld, cleared, bothBits}
+use Rattle.passes.specs.Old.{carriesAlone, carriesBoth, isOld, cleared, bothBits}
 use Rattle.passes.proofs.Cleared.{zeros-off, old-not-both, cleared-old, cleared-not, cleared-off, cleared-at}
-use Rattle.entries.specs.Ready.{accessOf, accessAlone, carriesAlone, withBoth, on, Clears}
+use Rattle.entries.specs.Ready.{accessOf, accessAlone, on, Clears}
 
 -- the bits of an image that are asked
 pub enable-is : (e : List ℕ) → flagAt (getD e 12 0) 0 ≡ on e
@@ -57,7 +56,7 @@ module _ (e : List ℕ) where
   alone-is MasterRead = ap (λ (n : ℕ). eqb n 1) read-write ∙ by-number (fieldsOf e .«read_enable») (fieldsOf e .«write_enable») .0
   alone-is MasterWrite = ap (λ (n : ℕ). eqb n 2) read-write ∙ by-number (fieldsOf e .«read_enable») (fieldsOf e .«write_enable») .1 .0
 
-  pub both-is : eqb (accessOf e) 3 ≡ withBoth e
+  pub both-is : eqb (accessOf e) 3 ≡ carriesBoth (fieldsOf e)
   both-is = ap (λ (n : ℕ). eqb n 3) read-write ∙ by-number (fieldsOf e .«read_enable») (fieldsOf e .«write_enable») .1 .1
 
 -- of an enabled entry its bits decide whether it is old
@@ -78,23 +77,6 @@ gone-old r e o f = go (isOld r (fieldsOf e)) refl
     go : (b : Bool) → isOld r (fieldsOf e) ≡ b → isOld r (fieldsOf e) ≡ true
     go true h = h
     go false h = absurd (true≢false (sym o ∙ ap on (sym (cleared-not r e h)) ∙ f))
-
--- of the first k elements and the next
-some-next : {A : Type 0} (f : A → Bool) (l : List A) (k : ℕ) (d : A) → k < length l → someOf f (take (k + 1) l) ≡ someOf f (take k l) || f (getD l k d)
-some-next {A} f l k d h = ap (λ (n : ℕ). someOf f (take n l)) (add-one k) ∙ go l k h
-  where
-    swap : (b : Bool) → b || false ≡ b
-    swap true = refl
-    swap false = refl
-
-    assoc : (a b c : Bool) → a || (b || c) ≡ (a || b) || c
-    assoc true b c = refl
-    assoc false b c = refl
-
-    go : (l : List A) (k : ℕ) → k < length l → someOf f (take (suc k) l) ≡ someOf f (take k l) || f (getD l k d)
-    go [] k h = absurd (not-suc-le-zero h)
-    go (x ∷ l) zero h = swap (f x)
-    go (x ∷ l) (suc k) h = ap (λ (b : Bool). f x || b) (go l k (le-of-suc-le-suc h)) ∙ assoc (f x) (someOf f (take k l)) (f (getD l k d))
 
 -- the first k entries are cleared
 pub record Clearing (r : PdoDirection) (before : List (List ℕ)) (k : ℕ) (now : List (List ℕ)) (enabled both : Bool) : Type 0 where
@@ -142,10 +124,6 @@ module _ {r : PdoDirection} {before : List (List ℕ)} {k : ℕ} {now : List (Li
           twice = b ∙ (λ i. c .twice i || bothBits (untouched i)) ∙ sym (some-next bothBits before k [] (omega arith));
         }
 
-    or-false : (b : Bool) → b ≡ b || false
-    or-false true = refl
-    or-false false = refl
-
     or-true : (b : Bool) → true ≡ b || true
     or-true true = refl
     or-true false = refl
@@ -154,21 +132,21 @@ module _ {r : PdoDirection} {before : List (List ℕ)} {k : ℕ} {now : List (Li
     pub clearing-off : on (getD now k []) ≡ false → Clearing r before (k + 1) now enabled both
     clearing-off o =
         let stays = cleared-off r (getD now k []) o in
-        turned (sym (ap (set now k) stays ∙ set-getD now k [])) (or-false enabled ∙ ap (λ (b : Bool). enabled || b) (sym (ap on stays ∙ o)))
-        (or-false both ∙ ap (λ (b : Bool). both || (b && withBoth (getD now k []))) (sym o))
+        turned (sym (ap (set now k) stays ∙ set-getD now k [])) (sym (or-false enabled) ∙ ap (λ (b : Bool). enabled || b) (sym (ap on stays ∙ o)))
+        (sym (or-false both) ∙ ap (λ (b : Bool). both || (b && carriesBoth (fieldsOf (getD now k [])))) (sym o))
 
     -- of an enabled one nothing is left that is enabled: it was old
     pub clearing-gone :
         {left : List ℕ} → on (getD now k []) ≡ true → left ≡ cleared r (getD now k []) → on left ≡ false → Clearing r before (k + 1) (set now k left) enabled both
     clearing-gone o l f =
         let is = gone-old r (getD now k []) o (ap on (sym l) ∙ f) in
-        turned (ap (set now k) l) (or-false enabled ∙ ap (λ (b : Bool). enabled || b) (sym (ap on (sym l) ∙ f)))
-        (or-false both ∙ ap (λ (b : Bool). both || b) (sym (old-not-both r (getD now k []) is)))
+        turned (ap (set now k) l) (sym (or-false enabled) ∙ ap (λ (b : Bool). enabled || b) (sym (ap on (sym l) ∙ f)))
+        (sym (or-false both) ∙ ap (λ (b : Bool). both || b) (sym (old-not-both r (getD now k []) is)))
 
     -- any other is as it was
     pub clearing-still :
-        {left : List ℕ} {bo : Bool} → left ≡ cleared r (getD now k []) → on left ≡ true → bo ≡ both || withBoth left → Clearing r before (k + 1) (set now k left) true bo
+        {left : List ℕ} {bo : Bool} → left ≡ cleared r (getD now k []) → on left ≡ true → bo ≡ both || carriesBoth (fieldsOf left) → Clearing r before (k + 1) (set now k left) true bo
     clearing-still {left} l o b =
         let same : left ≡ getD now k [] = l ∙ still-same r (getD now k []) (ap on (sym l) ∙ o) in
         turned (ap (set now k) l) (or-true enabled ∙ ap (λ (b : Bool). enabled || b) (sym (ap on (sym l) ∙ o)))
-        (b ∙ ap (λ (x : Bool). both || (x && withBoth left)) (sym o) ∙ ap (λ (e : List ℕ). both || bothBits e) same)
+        (b ∙ ap (λ (x : Bool). both || (x && carriesBoth (fieldsOf left))) (sym o) ∙ ap (λ (e : List ℕ). both || bothBits e) same)

@@ -27,7 +27,7 @@ use Rattle.passes.specs.Entries.{plan, tooLong, Planned, configuredOf, entriesO
 use Rattle.entries.specs.declared.Laid.{Laid}
 use Rattle.entries.specs.declared.Laid.the-variants as lay
 use Rattle.entries.specs.Lay.{Short, Run, laidAll, laidOf, segmentTo, thenInTheWay}
-use Rattle.entries.specs.Ready.{nothing, Readies}
+use Rattle.entries.specs.Ready.{zeroEntries, Readies}
 use Rattle.entries.proofs.Blocked.{too-long-ready}
 
 -- the offset alone decides whether a segment that starts there is below the group start
@@ -136,7 +136,7 @@ module _ (us : List Use) (area : List ℕ) (r : PdoDirection) (offset : ℕ) (se
     begins : blocked ≡ false → start ≡ beginning (settings .old) r (entriesOf 16 area)
     begins f =
         made .holds
-        ∙ ap (λ (w : Bool). cond w nothing (beginning (settings .old) r before)) (sym (made .says) ∙ f)
+        ∙ ap (λ (w : Bool). cond w zeroEntries (beginning (settings .old) r before)) (sym (made .says) ∙ f)
         ∙ ap (beginning (settings .old) r) is-loaded
 
     -- 8

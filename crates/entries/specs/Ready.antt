@@ -1,19 +1,17 @@
 -- What the parts of making the entries ready promise one another.
 -- Assumes nothing.
 use mathlib.Core.Path.{_≡_}
-use mathlib.Core.Bool.{Bool, cond, not, _&&_}
+use mathlib.Core.Bool.{Bool, cond}
 use mathlib.Core.List.{List, map}
 use Prim.Native.Nat.{ℕ}
 use lib.ListN.{getD, replicate}
 use Rattle.wire.specs.Field.{bitsAt}
 use Rattle.wire.specs.Lists.{someOf}
-use Rattle.fmmu.specs.declared.Fmmu.{Fmmu}
 use Rattle.fmmu.specs.Image.{fieldsOf}
 use Rattle.pdo.specs.declared.PdoDirection.{PdoDirection}
 use Rattle.pdo.specs.declared.PdoDirection.the-variants.{MasterRead, MasterWrite}
-use Rattle.pdo.specs.Direction.{other}
 use Rattle.passes.specs.Use.{Use}
-use Rattle.passes.specs.Old.{bitOf, cleared, beginning, bothBits, inTheWay}
+use Rattle.passes.specs.Old.{cleared, beginning, bothBits, inTheWay}
 use Rattle.passes.specs.declared.OldEntries.{OldEntries}
 
 -- byte 11: bit 0 read, bit 1 write
@@ -24,13 +22,6 @@ accessOf e = bitsAt (getD e 11 0) 0 2
 abbrev pub accessAlone : PdoDirection → ℕ
 accessAlone MasterRead = 1
 accessAlone MasterWrite = 2
-
--- of an entry that is enabled: the direction's bit alone; both bits
-abbrev pub carriesAlone : PdoDirection → Fmmu → Bool
-carriesAlone r f = bitOf r f && not (bitOf (other r) f)
-
-abbrev pub withBoth : List ℕ → Bool
-withBoth e = fieldsOf e .«read_enable» && fieldsOf e .«write_enable»
 
 -- an entry that is enabled
 abbrev pub on : List ℕ → Bool
@@ -43,12 +34,12 @@ pub record Clears (r : PdoDirection) (before after : List (List ℕ)) (enabled b
   pub twice : both ≡ someOf bothBits before
 
 -- sixteen entries of zeros
-abbrev pub nothing : List (List ℕ)
-nothing = replicate 16 (replicate 16 0)
+abbrev pub zeroEntries : List (List ℕ)
+zeroEntries = replicate 16 (replicate 16 0)
 
 -- what is laid on: the entries with which the pass begins; where one is in the way nothing of them is written, and 8 counts from zero
 abbrev pub ready : OldEntries → PdoDirection → List Use → List (List ℕ) → List (List ℕ)
-ready old r us entries = cond (inTheWay old r us entries) nothing (beginning old r entries)
+ready old r us entries = cond (inTheWay old r us entries) zeroEntries (beginning old r entries)
 
 pub record Readies (old : OldEntries) (r : PdoDirection) (us : List Use) (before after : List (List ℕ)) (blocked : Bool) : Type 0 where
   pub says : blocked ≡ inTheWay old r us before

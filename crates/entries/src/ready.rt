@@ -6,9 +6,9 @@ ghost use mathlib.Core.List.{[]};
 ghost use Rattle.fmmu.specs.Image.{fieldsOf};
 ghost use Rattle.sheet.specs.Sheet.{managersIn};
 ghost use Rattle.passes.specs.Old as Old;
-ghost use Rattle.passes.specs.Old.{someEnabled};
+ghost use Rattle.passes.specs.Old.{carriesAlone, carriesBoth, someEnabled};
 ghost use Rattle.passes.specs.Handed.{usesBy};
-ghost use Rattle.entries.specs.Ready.{accessOf, accessAlone, carriesAlone, withBoth, Clears, Readies};
+ghost use Rattle.entries.specs.Ready.{accessOf, accessAlone, Clears, Readies};
 use crate::entry_of;
 use crate::takes;
 use passes::OldEntries;
@@ -66,7 +66,7 @@ fn cleared(image: [u8; 16], direction: PdoDirection) -> [u8; 16]
 
 // Whether an entry with both bits was found before, or this enabled one is such.
 fn found_both(before: bool, image: [u8; 16]) -> bool
-    ensures { λ r. ⌜ r ≡ before || withBoth image ⌝ }
+    ensures { λ r. ⌜ r ≡ before || carriesBoth (fieldsOf image) ⌝ }
 {
     if before {
         return true;

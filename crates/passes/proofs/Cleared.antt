@@ -1,10 +1,10 @@
 -- Old entries cleared: one entry, and all that a pass begins with; and 8, which counts from zero then.
 -- Assumes nothing.
 use mathlib.Core.Path.{_≡_, refl, sym, _∙_, ap, subst}
-use mathlib.Core.Bool.{Bool, true, false, cond, not, _&&_, true≢false}
+use mathlib.Core.Bool.{Bool, true, false, cond, not, _&&_, _||_, true≢false}
 use mathlib.Core.List.{List, [], _∷_, map}
 use mathlib.Core.Logic.{_⊎_, inl, inr, ⊎-elim}
-use Prim.Native.Nat.{ℕ, _+_, _<_, _≤_}
+use Prim.Native.Nat.{ℕ, zero, suc, _+_, _<_, _≤_}
 use native.Mathlib.Nat.{zero-add}
 use native.Mathlib.Decide.{ℕ-discrete}
 use native.Mathlib.Omega.{arith}
@@ -19,7 +19,7 @@ use Rattle.wire.proofs.Bytes.{little-fits}
 use Rattle.wire.proofs.Lists.{or-none, some-same}
 use Rattle.fmmu.specs.declared.Fmmu.{Fmmu}
 use Rattle.fmmu.specs.Image.{fieldsOf}
-use Rattle.area.proofs.Flat.{Rows}
+use Rattle.area.proofs.Flat.{Rows, Sixteen}
 use Rattle.pdo.specs.declared.PdoDirection.{PdoDirection}
 use Rattle.pdo.specs.declared.PdoDirection.the-variants.{MasterRead, MasterWrite}
 use Rattle.pdo.specs.Direction.{other}
@@ -40,6 +40,16 @@ zeros-off = refl
 pub nil-off : Off []
 unfolding fieldsOf
 nil-off = refl
+
+pub zeros-all-off : (n k : ℕ) → Off (getD (replicate n (replicate 16 0)) k [])
+zeros-all-off zero k = nil-off
+zeros-all-off (suc n) zero = zeros-off
+zeros-all-off (suc n) (suc k) = zeros-all-off n k
+
+-- where none is enabled, none that is used is
+pub none-used : (us : List Use) (es : List (List ℕ)) → ((k : ℕ) → Off (getD es k [])) → someEnabled us es ≡ false
+none-used [] es off = refl
+none-used (u ∷ us) es off = λ i. off (u .entry) i || none-used us es off i
 
 -- what an old entry has: it is enabled, and of the two bits it has its direction's alone
 pub old-bits : (r : PdoDirection) (f : Fmmu) → isOld r f ≡ true → (f .enable ≡ true) × ((bitOf r f ≡ true) × (bitOf (other r) f ≡ false))
@@ -84,10 +94,13 @@ pub begun-length : (old : OldEntries) (r : PdoDirection) (es : List (List ℕ)) 
 begun-length Keep r es = refl
 begun-length Clear r es = length-map es (cleared r)
 
-pub rows-begun : (old : OldEntries) (r : PdoDirection) (es : List (List ℕ)) → Rows 16 es → Rows 16 (beginning old r es)
+rows-begun : (old : OldEntries) (r : PdoDirection) (es : List (List ℕ)) → Rows 16 es → Rows 16 (beginning old r es)
 rows-begun Keep r es h = h
 rows-begun Clear r [] h = tt
 rows-begun Clear r (e ∷ es) h = (cleared-has r e (λ x. length x ≡ 16) refl (λ z. h .0), rows-begun Clear r es (h .1))
+
+pub sixteen-begun : (old : OldEntries) (r : PdoDirection) (es : List (List ℕ)) → Sixteen 16 es → Sixteen 16 (beginning old r es)
+sixteen-begun old r es s = (begun-length old r es ∙ s .0, rows-begun old r es (s .1))
 
 -- a disabled entry has no length
 pub length-off : (e : List ℕ) → Off e → lengthNow e ≡ 0

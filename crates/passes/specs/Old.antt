@@ -27,9 +27,16 @@ abbrev pub bitOf : PdoDirection → Fmmu → Bool
 bitOf MasterRead f = f .«read_enable»
 bitOf MasterWrite f = f .«write_enable»
 
--- an enabled entry that carries the direction's bit alone
+-- it carries the direction's bit alone; it carries both
+abbrev pub carriesAlone : PdoDirection → Fmmu → Bool
+carriesAlone r f = bitOf r f && not (bitOf (other r) f)
+
+abbrev pub carriesBoth : Fmmu → Bool
+carriesBoth f = f .«read_enable» && f .«write_enable»
+
+-- an old entry: an enabled one that carries the direction's bit alone
 abbrev pub isOld : PdoDirection → Fmmu → Bool
-isOld r f = f .enable && (bitOf r f && not (bitOf (other r) f))
+isOld r f = f .enable && carriesAlone r f
 
 -- such an entry is set to zero, all sixteen bytes
 unfoldable pub cleared : PdoDirection → List ℕ → List ℕ
@@ -42,7 +49,7 @@ beginning Keep r entries = entries
 
 -- an enabled entry with both bits
 abbrev pub bothBits : List ℕ → Bool
-bothBits e = fieldsOf e .enable && (fieldsOf e .«read_enable» && fieldsOf e .«write_enable»)
+bothBits e = fieldsOf e .enable && carriesBoth (fieldsOf e)
 
 -- a wanted entry, that is one that the pass uses, is enabled
 abbrev pub someEnabled : List Use → List (List ℕ) → Bool

@@ -10,7 +10,8 @@ pub struct Route {
     pub entry: u8,
 }
 
-// What a pass does with the enabled entries that carry its direction bit alone: sets them to zero first, or keeps them.
+// What a pass does with entries that it finds enabled: it clears those that carry its direction bit alone and refuses what else is in its way, or it adds to
+// whatever is there.
 pub enum OldEntries {
     Clear,
     Keep,

@@ -19,15 +19,15 @@ use Rattle.wire.specs.Lists.{Each}
 use Rattle.sheet.specs.Sheet.{sheetData, managerCount}
 use Rattle.sheet.specs.declared.SyncManager.{SyncManager}
 use Rattle.area.specs.Area.{chunks, entriesOf, flat}
-use Rattle.area.proofs.Flat.{length-chunks, rows-chunks, chunks-flat, flat-bytes, area-whole}
+use Rattle.area.proofs.Flat.{flat-bytes, area-whole, sixteen-of, flat-entries}
 use Rattle.pdo.specs.declared.PdoDirection.{PdoDirection}
 use Rattle.channels.specs.Channels.{channelFor, written, channelsAfter}
 use Rattle.channels.proofs.After.{channels-kept}
 use Rattle.passes.specs.Use.{usesOf}
-use Rattle.passes.specs.Entries.{Planned, plan}
-use Rattle.passes.proofs.Kept.{plan-length, rows-plan}
-use Rattle.passes.proofs.Cleared.{begun-length, rows-begun}
-use Rattle.passes.specs.Old.{clean, beginning}
+use Rattle.passes.specs.Entries.{Planned}
+use Rattle.passes.proofs.Kept.{sixteen-planned}
+use Rattle.passes.proofs.Cleared.{sixteen-begun}
+use Rattle.passes.specs.Old.{clean}
 use Rattle.mailboxes.specs.Mailbox.{Recorded, mailboxPass, mailboxSize, mailboxChannels}
 use Rattle.passes.specs.Pass.{dataSize}
 use Rattle.lines.specs.Text.{line, inputsFront, outputsFront, channelLine, imageLine, enabledLine, lines, bayText}
@@ -77,9 +77,8 @@ zeros-right = record { entries = refl; images = record { long = refl; reads = ea
 images-after : (f : ℕ → SyncManager → Option ℕ) (ms : List SyncManager) (l : List ℕ) → Images l → Images (flat (channelsAfter f 0 ms (entriesOf 8 l)))
 images-after f ms l h =
     let es = channelsAfter f 0 ms (entriesOf 8 l) in
-    let kept = channels-kept f 0 ms .kept (entriesOf 8 l) (length-chunks 8 16 l, rows-chunks 8 16 l (h .long)) in
-    let back : entriesOf 8 (flat es) ≡ es = ap (λ (m : ℕ). chunks 8 m (flat es)) (sym (kept .0)) ∙ chunks-flat 8 es (kept .1) in
-    record { long = flat-bytes 8 16 es kept; reads = subst (Each Reads) (sym back) (after-reads f 0 ms (entriesOf 8 l) (h .reads)) }
+    let kept = channels-kept f 0 ms .kept (entriesOf 8 l) (sixteen-of 8 l (h .long)) in
+    record { long = flat-bytes 8 16 es kept; reads = subst (Each Reads) (sym (flat-entries 8 es kept)) (after-reads f 0 ms (entriesOf 8 l) (h .reads)) }
 
 mailbox-right : (sheet : List ℕ) (a : Areas) (c : Recorded) → Right a → Right (mailboxLeaves sheet a c)
 unfolding mailboxChannels
@@ -93,11 +92,9 @@ pass-right : (sheet : List ℕ) (r : PdoDirection) (offset : ℕ) (a : Areas) (p
 pass-right sheet r offset a p h =
     let d = sheetData sheet in
     let old = clean 0 .old in
-    let es = beginning old r (entriesOf 16 (a .fmmus)) in
     let us = usesOf d (once sheet) r in
-    let many = plan-length r offset us es ∙ begun-length old r (entriesOf 16 (a .fmmus)) ∙ length-chunks 16 16 (a .fmmus) in
-    let rows = rows-plan r offset us es (rows-begun old r (entriesOf 16 (a .fmmus)) (rows-chunks 16 16 (a .fmmus) (h .entries))) in
-    record { entries = flat-bytes 16 16 (plan r offset us es) (many, rows); images = images-after (dataSize d (once sheet) r) (d .managers) (a .channels) (h .images) }
+    let sixteen = sixteen-planned r offset us _ (sixteen-begun old r (entriesOf 16 (a .fmmus)) (sixteen-of 16 (a .fmmus) (h .entries))) in
+    record { entries = flat-bytes 16 16 _ sixteen; images = images-after (dataSize d (once sheet) r) (d .managers) (a .channels) (h .images) }
 
 -- what holds of whatever follows an accepted answer holds of the whole
 then-all : {A B : Type 0} (P : B → Type 0) (o : Outcome A) (f : A → Outcome B) → ((x : A) (b : B) → accepted b ≡ f x → P b) → (b : B) → accepted b ≡ andThen o f → P b

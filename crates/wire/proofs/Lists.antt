@@ -87,6 +87,23 @@ unfolding someBelow
 some-same f g zero h = refl
 some-same f g (suc n) h = λ i. some-same f g n (λ k s. h k (omega arith)) i || h n (omega arith) i
 
+-- of the first k of a list and the next
+pub or-false : (b : Bool) → b || false ≡ b
+or-false true = refl
+or-false false = refl
+
+pub some-next : {A : Type 0} (f : A → Bool) (l : List A) (k : ℕ) (d : A) → k < length l → someOf f (take (k + 1) l) ≡ someOf f (take k l) || f (getD l k d)
+some-next {A} f l k d h = ap (λ (n : ℕ). someOf f (take n l)) (add-one k) ∙ go l k h
+  where
+    assoc : (a b c : Bool) → a || (b || c) ≡ (a || b) || c
+    assoc true b c = refl
+    assoc false b c = refl
+
+    go : (l : List A) (k : ℕ) → k < length l → someOf f (take (suc k) l) ≡ someOf f (take k l) || f (getD l k d)
+    go [] k h = absurd (not-suc-le-zero h)
+    go (x ∷ l) zero h = or-false (f x)
+    go (x ∷ l) (suc k) h = ap (λ (b : Bool). f x || b) (go l k (le-of-suc-le-suc h)) ∙ assoc (f x) (someOf f (take k l)) (f (getD l k d))
+
 -- of the first n of a list: it holds of one; it holds of none of the first k, and not of the next
 pub some-first : {A : Type 0} (f : A → Bool) (l : List A) (n k : ℕ) (d : A) → k < n → k < length l → f (getD l k d) ≡ true → someOf f (take n l) ≡ true
 some-first f [] n k d h g e = absurd (not-suc-le-zero g)
@@ -96,14 +113,13 @@ some-first f (x ∷ l) (suc n) (suc k) d h g e =
     or-right (f x) (someOf f (take n l)) (some-first f l n k d (le-of-suc-le-suc h) (le-of-suc-le-suc g) e)
 
 pub none-first : {A : Type 0} (f : A → Bool) (l : List A) (k : ℕ) (d : A) → k < length l → someOf f (take k l) ≡ false → f (getD l k d) ≡ false → someOf f (take (k + 1) l) ≡ false
-none-first {A} f l k d g n e = ap (λ (i : ℕ). someOf f (take i l)) (add-one k) ∙ go l k g n e
-  where
-    go : (l : List A) (k : ℕ) → k < length l → someOf f (take k l) ≡ false → f (getD l k d) ≡ false → someOf f (take (suc k) l) ≡ false
-    go [] k g n e = absurd (not-suc-le-zero g)
-    go (x ∷ l) zero g n e = rw e refl
-    go (x ∷ l) (suc k) g n e =
-        let h = or-none (f x) (someOf f (take k l)) n in
-        ap₂ (λ (a b : Bool). a || b) (h .0) (go l k (le-of-suc-le-suc g) (h .1) e)
+none-first f l k d g n e = some-next f l k d g ∙ (λ i. n i || e i)
+
+-- it holds of none, so not of the one with a number, nor of what would stand past the end
+pub at-none : {A : Type 0} (f : A → Bool) (l : List A) (z : A) → f z ≡ false → someOf f l ≡ false → (k : ℕ) → f (getD l k z) ≡ false
+at-none f [] z n h k = n
+at-none f (x ∷ xs) z n h zero = or-none (f x) (someOf f xs) h .0
+at-none f (x ∷ xs) z n h (suc k) = at-none f xs z n (or-none (f x) (someOf f xs) h .1) k
 
 -- a question that holds of none, and what is known of each: the one gives the other
 pub none-of : {A : Type 0} (f : A → Bool) (P : A → Type 0) → ((x : A) → f x ≡ false → P x) → (l : List A) → someOf f l ≡ false → Each P l

@@ -5,7 +5,8 @@ use mathlib.Core.Bool.{Bool, _||_}
 use Prim.Native.Nat.{ℕ}
 use lib.Dec.{eqb}
 use borrow.Author.Needs.{needs}
-use Rattle.entries.specs.Ready.{withBoth}
+use Rattle.fmmu.specs.Image.{fieldsOf}
+use Rattle.passes.specs.Old.{carriesBoth}
 use Rattle.entries.proofs.Clearing.{both-is}
 use Rattle.entries.proofs.ready.found_both.Statement.{statement}
 use Rattle.entries.proofs.ready.found_both.Tie as tie
@@ -19,7 +20,7 @@ access-of-requires c κs = search needs
 returns-2 : tie.Need-returns-2
 returns-2 c =
     let a = c .before .before .args in
-    ap (λ (n : ℕ). eqb n 3) (c .access-of .ensures) ∙ both-is (a .image) ∙ ap (λ (b : Bool). b || withBoth (a .image)) (sym (c .before .if1 .left))
+    ap (λ (n : ℕ). eqb n 3) (c .access-of .ensures) ∙ both-is (a .image) ∙ ap (λ (b : Bool). b || carriesBoth (fieldsOf (a .image))) (sym (c .before .if1 .left))
 
 pub found-both-spec : {M : Type 1} → statement M
 found-both-spec = tie.close (tie.spec returns access-of-requires returns-2)
