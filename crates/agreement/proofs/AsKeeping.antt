@@ -10,22 +10,20 @@ use lib.ListN.{length, getD, replicate}
 use borrow.Author.Tests.{eqb-true, eq-eqb}
 use Rattle.fmmu.specs.Image.{fieldsOf}
 use Rattle.wire.specs.Image.{Bytes}
-use Rattle.wire.specs.Outcome.{Outcome, accepted, when, decide}
+use Rattle.wire.specs.Outcome.{Outcome, refused, accepted, when, decide}
 use Rattle.pdi.specs.Offset.{pastEnd}
 use Rattle.sheet.specs.Sheet.{sheetRefusals, sheetData}
 use Rattle.pdo.specs.declared.PdoDirection.{PdoDirection}
 use Rattle.area.specs.Area.{entriesOf, flat, notEntries, notChannels, chunks}
 use Rattle.passes.specs.declared.OldEntries.the-variants.{Clear, Keep}
 use Rattle.passes.specs.Use.{Use, usesOf, sizeOf}
-use Rattle.passes.specs.Old.{clean, cleared, inTheWay, bothBits, carriesBoth}
+use Rattle.passes.specs.Old.{clean, keeping, cleared, inTheWay, bothBits, carriesBoth}
 use Rattle.passes.specs.Entries.{plan, tooLong, Planned}
 use Rattle.passes.specs.Pass.{wantedRefusals, plannedOf, dataPass, entriesAfter, channelAreaAfter, segmentAlone, offsetAfter}
-use Rattle.area.proofs.Flat.{entry-bytes}
-use Rattle.passes.proofs.Cleared.{length-bytes, cleared-eight, Off, zeros-all-off, none-used, cleared-off, cleared-at}
-use Rattle.agreement.specs.Clean.{zeroed, byDefault, byKeeping, AsKeeping, PromiseAsKeeping, AsFromZeros}
+use Rattle.area.proofs.Flat.{Sixteen, entry-bytes, sixteen-of, flat-bytes, flat-entries}
+use Rattle.passes.proofs.Cleared.{length-bytes, cleared-eight, sixteen-begun, Off, zeros-all-off, none-used, cleared-off, cleared-at}
+use Rattle.agreement.specs.Clean.{zeroed, byDefault, byKeeping, AsKeeping, PromiseAsKeeping, NothingCleared, AsFromZeros}
 use Rattle.agreement.proofs.Basics.{either, none-at}
-use Rattle.area.proofs.Flat.{Sixteen, sixteen-of, flat-bytes, flat-entries}
-use Rattle.passes.proofs.Cleared.{sixteen-begun}
 use Rattle.agreement.proofs.Told.{answered, none-holds, area-long, told}
 
 -- an entry's length is two of its bytes, so 8 is the same counted from zero as from those lengths
@@ -103,6 +101,28 @@ promise-as-keeping sheet ws r offset group fmmus channels s o f c bytes p =
           ∙ ap (λ (x : Outcome Planned). entriesAfter x (sheetData sheet) ws r at Keep (zeroed r fmmus)) (sym (went .says) ∙ same);
       images = p .images ∙ k .images;
     }
+
+-- a refusal leaves the area, of either
+pub nothing-cleared : NothingCleared
+nothing-cleared sheet ws r offset group fmmus channels s o f c bytes same free p =
+    let at = offset .«start_address» in
+    let k = as-keeping sheet ws r at group fmmus channels bytes free in
+    let d = sheetData sheet in
+    let outcomes : byDefault sheet ws r at group fmmus channels ≡ dataPass sheet ws r at (keeping group) fmmus channels =
+    k .outcomes ∙ ap (λ (area : List ℕ). dataPass sheet ws r at (keeping group) area channels) same in
+    let left = go (byDefault sheet ws r at group fmmus channels) (λ q h. k .entries q h ∙ ap (λ (area : List ℕ). entriesAfter (accepted q) d ws r at Keep area) same) in
+    record {
+      says = p .says ∙ ap segmentAlone outcomes;
+      moves = p .moves ∙ ap (λ (x : Outcome Planned). offsetAfter x offset) outcomes;
+      entries = p .entries ∙ left ∙ ap (λ (x : Outcome Planned). entriesAfter x d ws r at Keep fmmus) outcomes;
+      images = p .images ∙ ap (λ (x : Outcome Planned). channelAreaAfter x d ws r channels) outcomes;
+    }
+  where
+    go : (x : Outcome Planned)
+        → ((q : Planned) → x ≡ accepted q → entriesAfter (accepted q) (sheetData sheet) ws r (offset .«start_address») Clear fmmus ≡ entriesAfter (accepted q) (sheetData sheet) ws r (offset .«start_address») Keep fmmus)
+        → entriesAfter x (sheetData sheet) ws r (offset .«start_address») Clear fmmus ≡ entriesAfter x (sheetData sheet) ws r (offset .«start_address») Keep fmmus
+    go (refused n) h = refl
+    go (accepted q) h = h q refl
 
 -- nothing of zeros is in the way
 zeros-free : (r : PdoDirection) (us : List Use) → inTheWay Clear r us (entriesOf 16 (replicate 256 0)) ≡ false

@@ -59,6 +59,17 @@ PromiseAsKeeping =
     → Passes sheet ws r offset (clean group) fmmus channels (Segment segment) offsetThen fmmusThen channelsThen
     → Passes sheet ws r offset (keeping group) (zeroed r fmmus) channels (Segment segment) offsetThen fmmusThen channelsThen
 
+-- so where the clearing changes nothing, whatever the answer is: the promise of the default is that of keeping on the very area
+abbrev pub NothingCleared : Type 0
+NothingCleared =
+    (sheet ws : List ℕ) (r : PdoDirection) (offset : PdiOffset) (group : ℕ) (fmmus channels : List ℕ)
+    (answer : Placed) (offsetThen : PdiOffset) (fmmusThen channelsThen : List ℕ)
+    → Bytes fmmus
+    → zeroed r fmmus ≡ fmmus
+    → inTheWay Clear r (usesOf (sheetData sheet) ws r) (entriesOf 16 fmmus) ≡ false
+    → Passes sheet ws r offset (clean group) fmmus channels answer offsetThen fmmusThen channelsThen
+    → Passes sheet ws r offset (keeping group) fmmus channels answer offsetThen fmmusThen channelsThen
+
 -- and what the default answers doesn't depend on what stood in the area before: where the condition of 15 doesn't hold, it is the answer from zeros
 abbrev pub AsFromZeros : Type 0
 AsFromZeros =
