@@ -2,6 +2,7 @@
 
 A block that begins with ```text shows a command, after `$ `, and what it prints; a line `...` stands for lines left out.
 A block that begins with ```hex is a sheet, which the page's next `$ ./plan mine.hex` is given.
+A block that begins with ```rust is code of the library, as it stands in crates/.
 """
 
 import io
@@ -113,8 +114,18 @@ def wrong_sheets():
             yield f"a sheet of docs/EXERCISES.md isn't samples/refused-{number}.hex"
 
 
+def wrong_code():
+    """Code of the pages that no source has."""
+    sources = [path.read_text() for path in ROOT.glob("crates/*/src/*.rt")]
+    for page in PAGES:
+        for kind, lines in blocks(page):
+            if kind == "rust" and not any(in_lines(lines) in source for source in sources):
+                yield f"{page} shows code that stands nowhere in crates/: {lines[0]}"
+
+
 def wrong_pages():
     yield from wrong_sheets()
+    yield from wrong_code()
     for one in shown():
         text = right_text(one)
         if text is None:

@@ -28,7 +28,12 @@ impl BitLen {
         if bits > 65528 {
             return Rounded::Refused(6);
         }
-        Rounded::Bytes(ByteLen(((bits + 7) / 8) as u16))
+        let whole = (bits / 8) as u16;
+        let left_over = bits % 8;
+        if left_over > 0 {
+            return Rounded::Bytes(ByteLen(whole + 1));
+        }
+        Rounded::Bytes(ByteLen(whole))
     }
 }
 
