@@ -2,7 +2,8 @@
 """Checks samples/ and the outputs that the pages show against the model.
 
     python3 tests/samples.py          each samples/NAME.out is what the model answers for samples/NAME.hex, and each
-                                      output of the pages (tests/pages.py lists them) what it answers for their command
+                                      output of the pages (tests/pages.py lists them) what it answers for their command;
+                                      code that the pages show stands in crates/
     python3 tests/samples.py --write  makes each samples/NAME.out again, but bay.out: that is copied from document 01
     python3 tests/samples.py --run    runs ./plan on each samples/NAME.hex, on the longest sheets and on the longest
                                       report, and each command of the pages, and compares what they print
