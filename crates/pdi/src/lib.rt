@@ -28,12 +28,12 @@ impl BitLen {
         if bits > 65528 {
             return Rounded::Refused(6);
         }
-        let whole = (bits / 8) as u16;
+        let mut bytes = bits / 8;
         let left_over = bits % 8;
         if left_over > 0 {
-            return Rounded::Bytes(ByteLen(whole + 1));
+            bytes += 1;
         }
-        Rounded::Bytes(ByteLen(whole))
+        Rounded::Bytes(ByteLen(bytes as u16))
     }
 }
 
