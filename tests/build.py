@@ -1,5 +1,6 @@
-"""Making sheets and register areas for the requests."""
+"""Making sheets, dumps and register areas for the requests."""
 
+import dump
 from registers import FMMU, image
 from stream import DEVICE_RECORD, MANAGER, packed
 
@@ -60,6 +61,61 @@ def device(rows=(), usages=(), pdos=0, p=0, flags=0, receive=0, send=0, n=None, 
     counts = [len(rows) if n is None else n, len(usages) if f is None else f, pdos, p]
     places = b"".join(managers(*rows)).ljust(80, bytes([rest])) + bytes(usages).ljust(16, bytes([rest]))
     return packed([*head, *counts], DEVICE_RECORD[:9]) + places
+
+
+# ---- dumps of the category area: little-endian
+
+MARK = b"\xff\xff"
+
+
+def little(values, widths):
+    """Little-endian numbers, one after another."""
+    assert len(values) == len(widths)
+    return b"".join(value.to_bytes(width, "little") for value, width in zip(values, widths))
+
+
+def category(kind, data=b"", more=0):
+    """A category; `more` is added to the words that it tells."""
+    return little([kind, len(data) // 2 + more], [2, 2]) + data
+
+
+def sync_manager(start, control, enable, usage, length=0, status=0):
+    """A record of SyncM."""
+    return little([start, length, control, status, enable, usage], [2, 2, 1, 1, 1, 1])
+
+
+def pdo_entry(bits, index=0x7123, sub=0x24, name=0x25, kind=0x26, flags=0x2827):
+    return little([index, sub, name, kind, bits, flags], [2, 1, 1, 1, 1, 2])
+
+
+def pdo_head(index, entries, manager, synchronisation=0x13, name=0x14, flags=0x1615):
+    return little([index, entries, manager, synchronisation, name, flags], [2, 1, 1, 1, 1, 2])
+
+
+def pdo_record(manager, index, *bits, more=0):
+    """A record of TxPDO or RxPDO with an entry for each bit length; `more` is added to how many it tells."""
+    return pdo_head(index, len(bits) + more, manager) + b"".join(map(pdo_entry, bits))
+
+
+def fmmu_category(*usages):
+    """Padded to whole words, as devices do it: the pad is unused."""
+    return category(dump.FMMUS, bytes(usages) + b"\xff" * (len(usages) % 2))
+
+
+def manager_category(*rows):
+    """Each row: start, control, enable byte, type."""
+    return category(dump.MANAGERS, b"".join(sync_manager(*row) for row in rows))
+
+
+def tx_category(*pdos):
+    return category(dump.TX_PDOS, b"".join(pdos))
+
+
+def rx_category(*pdos):
+    return category(dump.RX_PDOS, b"".join(pdos))
+
+
+# ---- FMMU areas
 
 
 def entry(logical, length, physical, rights=1, on=1, bits=(0, 7, 0), reserved=False):

@@ -6,6 +6,7 @@ Run `python3 tests/model.py < crates/probe/stdin > crates/probe/stdout` to make 
 
 import sys
 
+import dump
 import planning
 import portions
 import registers as reg
@@ -189,15 +190,28 @@ def portions_answer(q):
 # ---- writing sheets
 
 
-def sheet_answer(write, size):
-    """What writing into a room answers, and how many bytes of it aren't as they were but should be."""
+def room_answer(write, size):
+    """What writing into a room answers, the bytes written, and how many more aren't as they were but should be.
+
+    `write` gives the answer and how many bytes it wrote.
+    """
     room = bytearray(b"\xff" * size)
     try:
-        length = write(room)
-        answer = f"{length} {shown(room[:length])}"
+        told, length = write(room)
+        answer = f"{told} {shown(room[:length])}"
     except Refused as refused:
         length, answer = 0, f"refused {refused.args[0]}"
     return f"{answer} {sum(byte != 0xFF for byte in room[length:])}"
+
+
+def sheet_answer(write, size):
+    """A sheet's length is both."""
+
+    def told(room):
+        length = write(room)
+        return length, length
+
+    return room_answer(told, size)
 
 
 def again_written_answer(q):
@@ -209,6 +223,28 @@ def again_written_answer(q):
 def fields_answer(q):
     device = device_record(q.fmmus)
     return sheet_answer(lambda room: writer.write(device, q.sheet, room), q.room)
+
+
+# ---- dumps of the category area
+
+
+def dump_head(q):
+    """The flags stand in byte 1, both mailbox sizes in b."""
+    return dump.Head(q.write, *divmod(q.b, 65_536))
+
+
+def dump_answer(q):
+    """Read over and over, it answers as once."""
+
+    def told(room):
+        sheet = dump.read(q.sheet, dump_head(q), room)
+        return device_text(sheet), 7 * len(sheet.pdos)
+
+    return room_answer(told, q.room)
+
+
+def dump_written_answer(q):
+    return sheet_answer(lambda room: dump.write_sheet(q.sheet, dump_head(q), room), q.room)
 
 
 ANSWERS = {
@@ -240,6 +276,8 @@ ANSWERS = {
     "H": portions_answer,
     "w": again_written_answer,
     "v": fields_answer,
+    "D": dump_answer,
+    "E": dump_written_answer,
 }
 
 

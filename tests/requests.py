@@ -63,7 +63,7 @@ def crate():
 
 
 def others():
-    for letter in "aDz\0\xff":
+    for letter in "aFz\0\xff":
         yield "no such letter", Request(letter)
     yield "one answer for several values", Request("d", c=7, times=3, sheet=SAMPLE)
 
