@@ -18,7 +18,7 @@ from pathlib import Path
 
 import model
 from ask_sheets import longest as longest_sheet
-from build import SAMPLE, SAMPLE_DATA, area, coe, device, entry, on_coe
+from build import MARK, SAMPLE, SAMPLE_DATA, area, category, coe, device, entry, on_coe, pdo_record, tx_category
 from portions import KEPT
 from stream import BadRequest, Request, requests
 
@@ -96,7 +96,7 @@ def parts():
     yield between("all at their most", longest("R"), "refused 1")
     past = {"room": ROOM + 1, "sheet": bytes(SHEET + 1), "fmmus": bytes(FMMUS + 1), "channels": bytes(CHANNELS + 1)}
     past["table"] = last[:1] + last
-    for letter in "spKrtHwvz":
+    for letter in "spKrtHwvDEz":
         for part, value in past.items():
             yield refused(f"{letter}, {part} past its limit", Request(letter, **zeros(letter) | {part: value}).bytes() + GOOD)
 
@@ -225,9 +225,39 @@ def by_fields():
     yield between("by fields under times", sample, f"7: 58 {SAMPLE.hex()} 0")
 
 
+def of_dumps():
+    """The dump, the room and the numbers of D and E at their most; byte 1 isn't a direction."""
+    asked, whole = Request("D", 7, ROOM, b=LAST, sheet=MARK), category(42, bytes(SHEET - 6)) + MARK
+    none = "1 1 1 65535 65535 managers usages pdos 0 - 0"  # how a dump of no category is answered
+    for times in (0, 1, 3):
+        yield between(f"a dump read {times} times", asked._replace(a=times), none)
+    yield between("a dump read under times", asked._replace(c=7, times=3), f"7: {none}")
+    yield between("the longest dump", asked._replace(sheet=whole), none)
+    yield between("the longest dump without its mark", asked._replace(sheet=whole[:-2] + bytes(2)), "refused 16 0")
+    yield between("no dump and no room", asked._replace(sheet=b"", room=0), "refused 16 0")
+    for flags in (8, 255):
+        yield between(f"a dump's flags are {flags}", asked._replace(write=flags), "refused 4 0")
+    sizes = asked._replace(write=0, b=0x1234_5678)
+    yield between("both sizes of a dump", sizes, "0 0 0 4660 22136 managers usages pdos 0 - 0")
+    one = sizes._replace(b=0, sheet=tx_category(pdo_record(3, 0x1A42, 200, 100)) + MARK)
+    record = "01031a4202012c"
+    for room, line in ((6, "refused 12 0"), (7, f"0 0 0 0 0 managers usages pdos 1 {record} 0")):
+        yield between(f"a dump's PDO in room {room}", one._replace(room=room), line)
+    sheet = Request("E", 255, ROOM, sheet=MARK)
+    yield between("a dump's sheet, flags 255", sheet, "refused 4 0")
+    yield between("a dump's sheet, no room", sheet._replace(write=0, room=0), "refused 12 0")
+    yield between("a dump's sheet, nothing in it", sheet._replace(write=0), SMALLEST)
+    yield between("a dump's sheet, the longest dump", sheet._replace(write=0, sheet=whole), SMALLEST)
+    for times in (0, 3):
+        said = f"18 0010010000000000000001{record} 0"
+        yield between(f"a dump's sheet {times} times", one._replace(letter="E", a=times), said)
+    yield between("a dump's sheet under times", sheet._replace(write=0, c=7, times=3), f"7: {SMALLEST}")
+
+
 def streams():
     """Each stream with its name and the lines that answer it."""
-    for group in (cut_short, parts, records, repetitions, refusals, calls, in_portions, written_again, by_fields):
+    groups = (cut_short, parts, records, repetitions, refusals, calls, in_portions, written_again, by_fields, of_dumps)
+    for group in groups:
         yield from group()
 
 

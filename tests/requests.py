@@ -9,6 +9,7 @@
 import sys
 from pathlib import Path
 
+import ask_dump
 import ask_old
 import ask_passes
 import ask_portions
@@ -70,7 +71,7 @@ def others():
 
 def ask():
     """Each request with its name, in the order of the stream."""
-    files = (ask_registers, ask_sheets, ask_portions, ask_writer, ask_passes, ask_old, ask_sides)
+    files = (ask_registers, ask_sheets, ask_portions, ask_writer, ask_dump, ask_passes, ask_old, ask_sides)
     for part in (*(file.ask for file in files), lessons, programs, crate, others):
         yield from part()
 
