@@ -45,7 +45,7 @@ SYNC = manager_category(*((*row, 128, 0x30) for row in FIVE))
 TX = tx_category(pdo_record(3, 0x1A00, 12, 5), pdo_record(4, 0x1A01, 8, 1))
 RX = rx_category(pdo_record(2, 0x1600, 16))
 BAY = STRINGS + GENERAL + USAGES + SYNC + TX + RX + CLOCKS + MARK
-# one record of each of the four, and one category of no known type
+# one record of each of the four and a category that is stepped over, by type; then all of them without a mark
 SMALL = {
     FMMUS: fmmu_category(1, 255),
     10: category(10, b"\x01\x02"),
@@ -53,7 +53,7 @@ SMALL = {
     TX_PDOS: tx_category(pdo_record(3, 0x1A42, 7)),
     RX_PDOS: rx_category(pdo_record(2, 0x1643)),
 }
-LITTLE = b"".join(SMALL.values())
+SHORT = b"".join(SMALL.values())
 # as much as there can be: sixteen of each and 255 PDOs
 FULL_ROWS = [(0x1000 + 0x111 * k, (0x26, 0x22, 0x64, 0x20)[k % 4], k, k % 5) for k in range(16)]
 FULL_PDOS = [pdo_record(k % 17, 0x1A01 + 211 * k, *[k] * (k % 3)) for k in range(255)]
@@ -82,12 +82,12 @@ def often():
 def told_beside():
     """The flags and sizes are the caller's."""
     for flags in (*range(9), 16, 128, 248, 255):
-        yield from read(f"flags {flags}", LITTLE + MARK, flags=flags)
+        yield from read(f"flags {flags}", SHORT + MARK, flags=flags)
     for flags in (1, 2, 4, 7, 8, 255):
-        yield from write(f"flags {flags}", LITTLE + MARK, flags=flags)
+        yield from write(f"flags {flags}", SHORT + MARK, flags=flags)
     sizes = (0, 1, 255, 256, 0x1234, 65_535)
     for receive, send in zip(sizes, sizes[1:] + sizes[:1]):
-        yield from both(f"sizes {receive} and {send}", LITTLE + MARK, sizes=(receive, send))
+        yield from read(f"sizes {receive} and {send}", SHORT + MARK, sizes=(receive, send))
 
 
 # ---- where a dump ends
@@ -95,20 +95,20 @@ def told_beside():
 
 def cuts():
     """Every cut is refused with 16 up to the mark; behind it nothing counts."""
-    data = LITTLE + MARK + b"\x28\x00\x09"
+    data = SHORT + MARK + b"\x28\x00\x09"
     for size in range(len(data) + 1):
         yield from read(f"{size} bytes of {len(data)}", data[:size])
-    for size in range(len(LITTLE) - 3, len(data)):
+    for size in range(len(SHORT) - 3, len(data)):
         yield from write(f"{size} bytes of {len(data)}", data[:size])
 
 
 def behind_the_mark():
-    dump = LITTLE + MARK
+    dump = SHORT + MARK
     rest = {"a byte": b"\0", "two": b"\x28\0", "three": b"\x28\0\1", "five": b"\x28\0\1\0\5", "a mark": MARK}
     rest |= {"half a mark": b"\xff", "the same again": dump, "a bay's": BAY, "broken categories": category(FMMUS, b"\5\5", 9)}
     for name, data in rest.items():
         yield from both(f"{name} behind the mark", dump + data)
-    yield from both("all bytes behind the mark", (dump + pattern(MOST))[:MOST])
+    yield from both("20,480 bytes, most of them behind the mark", (dump + pattern(MOST))[:MOST])
 
 
 def past_the_end():
@@ -123,6 +123,8 @@ def past_the_end():
         yield from read(f"category {kind} without its last byte", category(kind, data)[:-1])
         yield from read(f"category {kind} without a mark", category(kind, data))
         yield from read(f"category {kind} and half a mark", category(kind, data) + b"\xff")
+    for words in (0x7FFE, 0x7FFF, 0x8000, 0xFFFE, 0xFFFF):
+        yield from read(f"{words} words told, the mark at once", category(42, more=words) + MARK)
     shorter = category(10, pattern(8), -2) + MARK  # its last four bytes are then the head of another, of 0x0706 words
     yield from read("a category that tells 2 words fewer", shorter)
     yield from read("a category that tells 1 word fewer, the last being a mark", category(10, b"\1\2\xff\xff", -1))
@@ -155,7 +157,7 @@ def unknown():
         yield from read(f"a category of type {kind}", SMALL[FMMUS] + category(kind, b"\5" * 16) + SMALL[TX_PDOS] + MARK)
     parts = list(SMALL.values())
     for place in range(len(parts) + 1):
-        for data in (MARK, b"\5" * 6, LITTLE + MARK):
+        for data in (MARK, b"\5" * 6, SHORT + MARK):
             name = f"{len(data)} unknown bytes in place {place}"
             yield from read(name, b"".join([*parts[:place], category(42, data), *parts[place:], MARK]))
     between = category(42, b"\5" * 10) + category(42) + category(43, MARK * 3)
@@ -165,7 +167,7 @@ def unknown():
 def second():
     """A second category of one of the four, whichever is empty, and wherever it stands."""
     for kind in (FMMUS, MANAGERS, TX_PDOS, RX_PDOS):
-        one, none, rest = SMALL[kind], category(kind), LITTLE.replace(SMALL[kind], b"")
+        one, none, rest = SMALL[kind], category(kind), SHORT.replace(SMALL[kind], b"")
         yield from read(f"category {kind} twice", one + one + MARK)
         yield from read(f"category {kind} twice, the second empty", one + none + MARK)
         yield from read(f"category {kind} twice, the first empty", none + one + MARK)
@@ -175,7 +177,7 @@ def second():
         yield from read(f"category {kind} again as the last", BAY[:-2] + none + MARK)
         yield from read(f"category {kind} again far away", one + category(42, pattern(2_000)) + one + MARK)
         yield from read(f"category {kind} again behind the mark", one + MARK + one)
-    yield from read("category 10 twice", SMALL[10] + LITTLE + SMALL[10] + MARK)
+    yield from read("category 10 twice", SMALL[10] + SHORT + SMALL[10] + MARK)
 
 
 def orders():
@@ -317,11 +319,11 @@ def pdo_counts():
 
 
 def long_dumps():
-    room = MOST - len(LITTLE) - 6
-    yield from both("20,480 bytes, the four behind", category(42, pattern(room)) + LITTLE + MARK)
-    yield from read("20,479 bytes and half a mark", LITTLE + category(42, pattern(room)) + b"\xff")
-    yield from read("20,480 bytes and no mark", LITTLE + category(42, pattern(room + 2)))
-    yield from read("20,480 bytes, a word more told", LITTLE + category(42, pattern(room), 1) + MARK)
+    room = MOST - len(SHORT) - 6
+    yield from both("20,480 bytes, the four behind", category(42, pattern(room)) + SHORT + MARK)
+    yield from read("20,479 bytes and half a mark", SHORT + category(42, pattern(room)) + b"\xff")
+    yield from read("20,480 bytes and no mark", SHORT + category(42, pattern(room + 2)))
+    yield from read("20,480 bytes, a word more told", SHORT + category(42, pattern(room), 1) + MARK)
     yield from read("20,480 bytes of unknown categories", b"".join(category(42 + k % 8) for k in range(5_119)) + MARK * 2)
     for byte in (0, 255):
         yield from read(f"20,480 bytes of {byte}", bytes([byte]) * MOST)
@@ -355,9 +357,9 @@ ENDS = {"no mark": b"", "half a mark": b"\xff", "a head without its length": b"\
 
 
 def pairs():
-    """A number of the order with its neighbours, given in every way; the later one first in the dump, and behind."""
+    """A number and the next of the order, each given in several ways; what gives the later one stands first in the dump."""
     for end, rest in ENDS.items():
-        yield from both(end, LITTLE + rest)
+        yield from both(end, SHORT + rest)
         yield from read(f"16 and 17, {end}", SMALL[FMMUS] * 2 + rest)
     for place, (name, data) in enumerate(SEVENTEENS.items()):
         yield from both(f"17, {name}", data + MARK)
@@ -386,8 +388,10 @@ def together():
             data = manager_category((0x1180, 0x23 if 5 in chosen else 0x20, 1, 4)) + TX
             data += fmmu_category(1, 4 if 4 in chosen else 2) + (category(TX_PDOS) if 17 in chosen else b"")
             name = " and ".join(map(str, chosen)) or "none"
-            ask_all = both if count in (0, 1, 4, 5) else read
-            yield from ask_all(f"{name} of five", data + (b"" if 16 in chosen else MARK), 13 if 12 in chosen else 64)
+            data += b"" if 16 in chosen else MARK
+            yield from read(f"{name} of five", data, 13 if 12 in chosen else 14)
+            if count < 2 or 12 in chosen:
+                yield from write(f"{name} of five", data, 31 if 12 in chosen else 32)
 
 
 def ask():
