@@ -15,13 +15,13 @@ Plans a bay: gives its device sheet, written in hexadecimal, to the proved progr
   ./plan --explain FILE           also says a refusal in words: which rule, where in the sheet, what to do; of an
                                   accepted sheet, where an FMMU that is shared misses a sync manager
   ./plan --picture OUT.svg FILE   also draws the plan: device memory, FMMU entries, the image
-  ./plan --dump FILE              the plan of a dump of the device's EEPROM, as in samples/bay-dump.hex, in place of a sheet:
-                                  its category area, from byte 128 on; - is standard input. --explain and --picture too
+  ./plan --dump FILE              the plan of a dump of the device's EEPROM, as in samples/bay-dump.hex, in place of a
+                                  sheet: its category area, from byte 128 on. --explain and --picture go with it, and
       --flags N                   the sheet's flags, which a dump doesn't say: 1 mailbox + 2 CoE + 4 complete access
       --receive N, --send N       bytes of the mailboxes that the controller writes and reads. Each N is decimal or 0x..,
                                   and 0 if not given
       --raw                       the dump's bytes as they are, in place of hexadecimal
-      --sheet                     prints the sheet of the dump, with its comments, in place of the plan: keep it, edit it, plan it
+      --sheet                     prints the dump's sheet, with comments, in place of the plan: keep it, edit it, plan it
   ./plan --probe FILE             gives requests (docs/PROBE.md), as they are, to the program `probe`; - is standard input
   ./plan --build                  makes the three programs ready beforehand: the evening before a class
   ./plan --help                   this page
@@ -133,7 +133,8 @@ def understood(words):
         return Wish("build")
     check_dump(options)
     if len(files) != 1:
-        slip = f"one file at a time, not {len(files)}" if files else "which file? ./plan samples/bay.hex, for example"
+        example = "--dump samples/bay-dump.hex" if "--dump" in options else "samples/bay.hex"
+        slip = f"one file at a time, not {len(files)}" if files else f"which file? ./plan {example}, for example"
         raise Trouble(f"{slip}; ./plan --help says more")
     if "--probe" in options:
         return Wish("probe", files[0])

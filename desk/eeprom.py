@@ -34,7 +34,7 @@ class Category(NamedTuple):
     words: int
 
     def name(self):
-        return f"{NAMES.get(self.type, 'category')} ({self.type})"
+        return f"{NAMES[self.type]} ({self.type})" if self.type in NAMES else f"category {self.type}"
 
     def first(self):
         return self.at + 4
@@ -92,7 +92,7 @@ def check_end(data, found, ended):
     if at + 4 > len(data):
         before = f"the last category is {found[-1].name()} at byte {found[-1].at}" if found else "there is no category"
         what = f"the dump ends after {many(len(data), 'byte')} without the end mark 0xFFFF; {before}"
-        about = "where the next category or the end mark would stand"
+        about = "the place of the next category or of the end mark"
         raise Finding(16, about, [at], what, length_to_do(data, None))
     category = Category(at, word(data, at), word(data, at + 2))
     what = f"{category.name()} at byte {at} has the length {many(category.words, 'word')}, {many(2 * category.words, 'byte')}; "
@@ -110,7 +110,7 @@ def check_once(categories):
         other = seen.setdefault(category.type, category)
         if other is not category and category.type in (FMMU, SYNCM, TXPDO, RXPDO):
             what = f"a second {category.name()}; the first stands at byte {other.at}"
-            to_do = "take one of the two out; or, if both are the device's, put their records into one category and add the lengths"
+            to_do = "take one of the two out; or, if both are the device's, put the records into one and add up the lengths"
             raise Finding(17, category.name(), range(category.at, category.first()), what, to_do)
 
 
@@ -136,10 +136,10 @@ def pdos_at(data, category):
     while at < category.end():
         room, number = category.end() - at, len(places)
         if room < RECORD:
-            cut(category, at, number, f"a PDO's head has {RECORD} bytes; {room} are left in {category.name()}")
+            cut(category, at, number, f"a head has {RECORD} bytes; {room} are left in {category.name()}")
         needed = RECORD * data[at + 2]
         if room - RECORD < needed:
-            what = f"PDO {number}'s head says {data[at + 2]} entries (byte {at + 2}), {needed:,} bytes; {room - RECORD:,} follow "
+            what = f"PDO {number} says {data[at + 2]} entries (byte {at + 2}), {needed:,} bytes; {room - RECORD:,} follow "
             cut(category, at, number, f"{what}in {category.name()}")
         places.append(at)
         at += RECORD + needed
@@ -203,6 +203,11 @@ def read(data, given):
     return Sheet(given.flags, given.send, managers, usages, usage_places[0] if usages else 0, pdos, RECORD)
 
 
+def category_at(data, at):
+    """The name of the category that has this byte; none where no whole category has it."""
+    return next((c.name() for c in walked(data)[0] if c.at <= at < c.end()), "")
+
+
 # ---- what a person should know of a dump that was accepted
 
 
@@ -215,6 +220,6 @@ def warnings(sheet):
         )
     if sheet.on_coe():
         yield (
-            f"with --flags {sheet.flags} and a read mailbox CoE is on, and a dump's PDOs ({len(sheet.pdos)} here) count nowhere. "
-            f"Leave flag bit 1 out (--flags {sheet.flags & ~2}), or write the CoE PDOs into the sheet that --sheet prints"
+            f"with --flags {sheet.flags} and a read mailbox CoE is on, and a dump's PDOs ({len(sheet.pdos)} here) count "
+            f"nowhere. Leave flag bit 1 out (--flags {sheet.flags & ~2}), or write the CoE PDOs into the sheet (--sheet)"
         )

@@ -166,4 +166,6 @@ def explanation(sheet, number):
 
 def dump_explanation(dump, given, number):
     """The text for a dump that was refused with this number, by `lockersheet` or its sheet by `lockerplan`."""
-    return in_words(in_dump(dump.data, given), number, dump.lines, "dump")
+    found = in_dump(dump.data, given)
+    name = eeprom.category_at(dump.data, found.at[0]) if found and found.at else ""
+    return in_words(found, number, dump.lines, f"dump, in {name}" if name and name not in found.about else "dump")

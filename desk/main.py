@@ -60,7 +60,8 @@ def plan_dump(wish):
     def words(number):
         return explain.dump_explanation(dump, wish.given, number)
 
-    answer = build.answer("lockersheet", dump.data, [str(number) for number in wish.given], [] if wish.sheet else ["lockerplan"])
+    beside = [] if wish.sheet else ["lockerplan"]
+    answer = build.answer("lockersheet", dump.data, [str(number) for number in wish.given], beside)
     if REFUSAL.fullmatch(answer):
         return refused(wish, answer, words)
     if len(answer) < 11 or int.from_bytes(answer[:2], "big") != len(answer) - 2:

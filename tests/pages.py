@@ -19,12 +19,14 @@ from registers import Refused
 from stored import ROOT, dump_by, sample, sheet_in
 from writer import sheet_bytes
 
-sys.path.append(str(ROOT / "samples"))
+sys.path += [str(ROOT / "samples"), str(ROOT)]
 import lesson
+from desk import command, feed, main
 
 PAGES = ["README.md", "docs/TRAINING.md", "docs/SHEET.md", "docs/EXERCISES.md", "docs/ANSWERS.md"]
 MINE, PIPED, PROBED = "./plan mine.hex", " | ./plan -", " | ./plan --probe -"
-DUMPED = re.compile(r"(?P<made>.* \| )?\./plan --dump (?:--(?:flags|receive|send) \w+ )*(?P<file>-|mine\.hex|samples/[\w-]+\.hex)")
+OPTIONS = r"(?:--(?:flags|receive|send) \w+ |--sheet )*"
+DUMPED = re.compile(rf"(?P<made>.* \| )?\./plan --dump {OPTIONS}(?P<file>-|mine\.hex|samples/[\w-]+\.hex)")
 
 
 class Shown(NamedTuple):
@@ -107,11 +109,17 @@ def dump_given(one):
     return dump_by(one.command, one.sheet if found["file"] == "mine.hex" else (ROOT / found["file"]).read_text())
 
 
+def dumped_text(one, dump):
+    """What a command of ./plan --dump prints: the plan by the model, or its sheet, with the script's own comments."""
+    wish = command.understood(one.command.partition("./plan ")[2].split())
+    return main.sheet_text(wish, feed.Sheet(dump.data, []), sheet_bytes(read_dump(*dump))) if wish.sheet else dump_text(dump)
+
+
 def right_text(one):
     """What a page's command prints, by the model; None where there is no such command."""
     dump = dump_given(one)
     if dump is not None:
-        return dump_text(dump)
+        return dumped_text(one, dump)
     sheet = sheet_given(one)
     if sheet is not None:
         return text_of(sheet_in(sheet))
