@@ -95,8 +95,8 @@ def check_end(data, found, ended):
         about = "the place of the next category or of the end mark"
         raise Finding(16, about, [at], what, length_to_do(data, None))
     category = Category(at, word(data, at), word(data, at + 2))
-    what = f"{category.name()} at byte {at} has the length {many(category.words, 'word')}, {many(2 * category.words, 'byte')}; "
-    what += f"{len(data) - category.first():,} follow in the dump"
+    length = f"{many(category.words, 'word')}, {many(2 * category.words, 'byte')}"
+    what = f"{category.name()} at byte {at} has the length {length}; {len(data) - category.first():,} follow in the dump"
     at = range(category.at + 2, category.first())
     raise Finding(16, f"the length of {category.name()}", at, what, length_to_do(data, category))
 
@@ -125,8 +125,8 @@ def managers_at(category):
 
 
 def cut(category, at, number, what):
-    to_do = "correct how many entries a head says (its byte 2), or look for bytes that are missing or too many; the category's "
-    to_do += f"length, at byte {category.at + 2}, has {RECORD // 2} words for each head and each entry"
+    to_do = "correct how many entries a head says (its byte 2), or look for bytes that are missing or too many; the "
+    to_do += f"category's length, at byte {category.at + 2}, has {RECORD // 2} words for each head and each entry"
     raise Finding(17, f"PDO {number} of {category.name()}", range(at, category.end()), what, to_do)
 
 

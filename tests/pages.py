@@ -1,8 +1,8 @@
 """The outputs that the pages show.
 
 A block that begins with ```text shows a command, after `$ `, and what it prints; a line `...` stands for lines left out.
-A block that begins with ```hex is a sheet, which the page's next `$ ./plan mine.hex` is given; one that begins with ```dump is
-a dump, for its next `$ ./plan --dump OPTIONS mine.hex`.
+A block that begins with ```hex is a sheet, which the page's next `$ ./plan mine.hex` is given; one that begins with ```dump
+is a dump, for its next `$ ./plan --dump OPTIONS mine.hex`.
 A block that begins with ```rust is code of the library, as it stands in crates/.
 """
 
@@ -13,7 +13,7 @@ import sys
 from typing import NamedTuple
 
 import model
-from dump import read_dump
+from dump import Head, read_dump
 from planning import lockerplan
 from registers import Refused
 from stored import ROOT, dump_by, sample, sheet_in
@@ -71,10 +71,15 @@ def text_of(sheet):
     return in_lines(lockerplan(sheet))
 
 
+def dump_sheet(dump):
+    """A dump's sheet, by the model."""
+    return sheet_bytes(read_dump(dump.data, Head(dump.flags, dump.receive, dump.send)))
+
+
 def dump_text(dump):
     """What ./plan prints for a dump, by the model: the plan of its sheet, or the refusal."""
     try:
-        return text_of(sheet_bytes(read_dump(*dump)))
+        return text_of(dump_sheet(dump))
     except Refused as refused:
         return f"refused {refused.args[0]}\n"
 
@@ -112,7 +117,7 @@ def dump_given(one):
 def dumped_text(one, dump):
     """What a command of ./plan --dump prints: the plan by the model, or its sheet, with the script's own comments."""
     wish = command.understood(one.command.partition("./plan ")[2].split())
-    return main.sheet_text(wish, feed.Sheet(dump.data, []), sheet_bytes(read_dump(*dump))) if wish.sheet else dump_text(dump)
+    return main.sheet_text(wish, feed.Sheet(dump.data, []), dump_sheet(dump)) if wish.sheet else dump_text(dump)
 
 
 def right_text(one):
@@ -178,7 +183,8 @@ def run(command, given=None):
 
 def typed(one):
     """A page's command as it is run; what stands in mine.hex comes on standard input."""
-    return (one.command.removesuffix("mine.hex") + "-", one.sheet) if one.command.endswith(" mine.hex") else (one.command, None)
+    mine = one.command.endswith(" mine.hex")
+    return (one.command.removesuffix("mine.hex") + "-", one.sheet) if mine else (one.command, None)
 
 
 def wrong_runs():

@@ -25,13 +25,11 @@ import plan_dumps  # noqa: E402
 import plan_sheets  # noqa: E402
 from build import SAMPLE  # noqa: E402
 from desk import build, feed, kit  # noqa: E402
-from dump import read_dump  # noqa: E402
-from pages import dump_text  # noqa: E402
+from pages import dump_sheet, dump_text  # noqa: E402
 from samples import samples  # noqa: E402
-from stored import dumps, sheet_in  # noqa: E402
+from stored import Dump, dumps, sheet_in  # noqa: E402
 from stream import Request  # noqa: E402
 from stub import CRATES, PLANNED, Fake  # noqa: E402
-from writer import sheet_bytes  # noqa: E402
 
 BAY = (ROOT / "samples" / "bay.hex").read_text()
 
@@ -214,7 +212,7 @@ def sample_dumps(fake):
     for path, command, dump in dumps():
         text, words = dump_text(dump), [*command.split()[1:-1], path]
         refused = text.startswith("refused")
-        sheet = text.encode() if refused else sheet_bytes(read_dump(*dump))
+        sheet = text.encode() if refused else dump_sheet(dump)
         answering(fake, sheet, "rubbish" if refused else text)
         ran = fake.run(*words)
         yield f"{command}", same((ran.status, ran.out, ran.err), (1 if refused else 0, text, ""))
@@ -229,7 +227,7 @@ def sample_dumps(fake):
 def bay_dump(fake):
     """The bay's dump, with each option."""
     dump, path = plan_dumps.BAY, ROOT / "samples" / "bay-dump.hex"
-    sheet, text = sheet_bytes(read_dump(*dump)), dump_text(dump)
+    sheet, text = dump_sheet(dump), dump_text(dump)
     answering(fake, sheet, text)
     ran = fake.run("--dump", "--flags=0x1", "--receive", "0X80", "--send", "0080", path)
     yield "numbers in hexadecimal and decimal", same((ran.status, fake.noted("words", "lockersheet")), (0, b"1 128 80\n"))
@@ -248,7 +246,7 @@ def bay_dump(fake):
     ran = fake.run("--dump", "--picture", "dump.svg", path)
     drawn = fake.folder.joinpath("dump.svg").read_text()
     yield "--picture", same((ran.status, ran.out, "bay-dump.hex: how the bay is mapped" in drawn), (0, text, True))
-    fake.write("kit/answer-lockersheet", sheet_bytes(read_dump(dump.data, 3, 128, 128)))
+    fake.write("kit/answer-lockersheet", dump_sheet(dump._replace(flags=3)))
     for words in ((), ("--sheet",)):
         ran = fake.run("--dump", "--flags", "3", "--send", "128", *words, path)
         one = ran.status == 0 and ran.err.count("\n") == 1 and "Leave flag bit 1 out (--flags 1), or write" in ran.err
@@ -268,7 +266,7 @@ def refused_dumps(fake):
     yield "no words where the numbers differ, of a dump", "" if "nothing would be refused" in ran.out else ran.out
     hint = "the same with --explain" in on_terminal(fake, "--dump", path)
     yield "on a terminal a refused dump hints at --explain", "" if hint else "no hint"
-    answering(fake, sheet_bytes(read_dump(b"\xff\xff", 0, 0, 0)), PLANNED)
+    answering(fake, dump_sheet(Dump(b"\xff\xff")), PLANNED)
     ran = fake.run("--dump", path)
     yield "a dump with nothing in it is warned of", "" if ran.status == 0 and "none of the categories" in ran.err else ran.err
     for name in ("lockersheet", "lockerplan"):
@@ -277,7 +275,7 @@ def refused_dumps(fake):
 
 def dump_builds(fake):
     """Both programs of a dump are built at once; for a sheet of it one is enough."""
-    sheet = sheet_bytes(read_dump(b"\xff\xff", 0, 0, 0))
+    sheet = dump_sheet(Dump(b"\xff\xff"))
     fake.write("kit/answer-lockersheet", sheet)
     path = fake.write("dump.hex", "ff ff\n")
     for words, built in (((), "lockersheet lockerplan"), (("--sheet",), "lockersheet")):
@@ -457,7 +455,7 @@ def real_dumps():
         explained = f"rule {number} " in ran.stdout if number else "rule" not in ran.stdout
         got = ran.returncode, ran.stdout.startswith(out), explained
         yield f"samples/{path.name}, by the proved programs", same(got, (1 if number else 0, True, True))
-    sheet = sheet_bytes(read_dump(*plan_dumps.BAY))
+    sheet = dump_sheet(plan_dumps.BAY)
     command = "./plan --dump --flags 1 --receive 128 --send 128 --sheet samples/bay-dump.hex"
     ran = subprocess.run(command.split(), cwd=ROOT, capture_output=True, text=True)
     yield "the sheet of samples/bay-dump.hex, by the proved program", same(sheet_in(ran.stdout), sheet)

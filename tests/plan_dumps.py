@@ -8,10 +8,8 @@ ROOT = Path(__file__).resolve().parent.parent
 sys.path.insert(0, str(ROOT))
 
 from desk import command, eeprom, explain, feed, lanes, main  # noqa: E402
-from dump import read_dump  # noqa: E402
-from pages import dump_text  # noqa: E402
+from pages import dump_sheet, dump_text  # noqa: E402
 from stored import Dump, dumps, sheet_in  # noqa: E402
-from writer import sheet_bytes  # noqa: E402
 
 END = b"\xff\xff"
 BAY = next(dump for path, _, dump in dumps() if path.stem == "bay-dump")
@@ -94,7 +92,7 @@ WORDS = [
      ["FMMU1's usage is 4", "0xFF reads as unused", "byte 5 of the dump, in FMMU (40)"]),
     ("a mode", changed(SYNCM + 16, 0x23), 5, ["SM1's control is 0x23", "byte 100 of the dump, in SyncM (41)"]),
     ("too many bits", Dump(category(41, *manager()) + category(50, *pdo(255, *[255] * 255), *pdo(2, 255, 249)) + END), 6,
-     ["SM0: 65,529 bits", "65,025 of PDO 0 (0x1A00, byte 16) + 504 of PDO 1 (0x1A00, byte 2064)", "bytes 4 to 11 of"]),
+     ["SM0: 65,529 bits", "65,025 of PDO 0 (0x1A00, byte 16) + 504 of PDO 1 (0x1A00, byte 2064)", "bytes 4 to 11"]),
 ]
 
 
@@ -113,7 +111,7 @@ def words():
 
 def written(dump):
     """The text of the dump's sheet, and the sheet."""
-    data = sheet_bytes(read_dump(*dump))
+    data = dump_sheet(dump)
     wish = command.understood(["--dump", "--sheet", "any.hex"])._replace(given=eeprom.Given(*dump[1:]))
     return main.sheet_text(wish, feed.Sheet(dump.data, []), data), data
 
@@ -131,7 +129,7 @@ def sheets():
 
 
 def warned(dump):
-    return " ".join(eeprom.warnings(lanes.read_alone(sheet_bytes(read_dump(*dump)))))
+    return " ".join(eeprom.warnings(lanes.read_alone(dump_sheet(dump))))
 
 
 def warnings():
