@@ -161,11 +161,16 @@ def in_words(found, number, lines, source):
 
 def explanation(sheet, number):
     """The text for a sheet that the program refused with this number."""
-    return in_words(in_sheet(sheet.data), number, sheet.lines, "sheet")
+    found = in_sheet(sheet.data)
+    if found and found.number == 2 and eeprom.ends_well(sheet.data):
+        found.to_do = "plan it with --dump: it looks like a dump of an EEPROM, not like a sheet"
+    return in_words(found, number, sheet.lines, "sheet")
 
 
 def dump_explanation(dump, given, number):
     """The text for a dump that was refused with this number, by `lockersheet` or its sheet by `lockerplan`."""
     found = in_dump(dump.data, given)
+    if found and found.number == 16 and in_sheet(dump.data) is None:
+        found.to_do = "leave --dump and what goes with it out: it looks like a sheet, not like a dump of an EEPROM"
     name = eeprom.category_at(dump.data, found.at[0]) if found and found.at else ""
     return in_words(found, number, dump.lines, f"dump, in {name}" if name and name not in found.about else "dump")

@@ -7,6 +7,7 @@ from pathlib import Path
 ROOT = Path(__file__).resolve().parent.parent
 sys.path.insert(0, str(ROOT))
 
+from build import SAMPLE  # noqa: E402
 from desk import command, eeprom, explain, feed, lanes, main  # noqa: E402
 from pages import dump_sheet, dump_text  # noqa: E402
 from stored import Dump, dumps, sheet_in  # noqa: E402
@@ -76,6 +77,7 @@ WORDS = [
     ("a length too large", changed(DC + 2, 255, 255), 16,
      ["65,535 words, 131,070 bytes", "bytes 218 and 219 of the dump, line 218"]),
     ("a whole EEPROM", Dump(b"\5\x0c" + bytes([7]) * 126 + BAY.data), 16, ["category 3077", "cut off the first 128 bytes"]),
+    ("a sheet", Dump(SAMPLE), 16, ["leave --dump and what goes with it out: it looks like a sheet"]),
     ("two FMMU", Dump(category(40) + category(7) + category(40) + END), 17,
      ["a second FMMU (40); the first stands at byte 0", "bytes 8 to 11"]),
     ("half a sync manager", Dump(category(41, *manager(), 0, 0) + END), 17,
@@ -107,6 +109,8 @@ def words():
         text = " ".join(explain.dump_explanation(fed, eeprom.Given(*dump[1:]), number).split())
         missing = [phrase for phrase in [f"rule {number} ", *phrases] if phrase not in text]
         yield f"a dump in words: {what}", f"{missing} not in {text}" if missing or refused(dump) != number else ""
+    text = explain.explanation(feed.Sheet(BAY.data, []), 2)
+    yield "a dump given as a sheet", "" if "plan it with --dump" in text else text
 
 
 def written(dump):
