@@ -16,7 +16,8 @@ Plans a bay: gives its device sheet, written in hexadecimal, to the proved progr
                                   accepted sheet, where an FMMU that is shared misses a sync manager
   ./plan --picture OUT.svg FILE   also draws the plan: device memory, FMMU entries, the image
   ./plan --dump FILE              the plan of a dump of the device's EEPROM, as in samples/bay-dump.hex, in place of a
-                                  sheet: its category area, from byte 128 on. --explain and --picture go with it, and
+                                  sheet: its category area, from byte 128 on; - is standard input. --explain and
+                                  --picture go with it, and
       --flags N                   the sheet's flags, which a dump doesn't say: 1 mailbox + 2 CoE + 4 complete access
       --receive N, --send N       bytes of the mailboxes that the controller writes and reads. Each N is decimal or 0x..,
                                   and 0 if not given
