@@ -159,12 +159,12 @@ def made_ready(rt, names):
         os.close(lock)
 
 
-def answer(name, data):
-    """What a program, made ready where needed, writes for this input."""
+def answer(name, data, words=(), beside=()):
+    """What a program, made ready where needed, writes for this input and these words; those `beside` it are built with it."""
     rt = find_rt()
     while True:
-        program = made_ready(rt, [name])[name]
-        ran = run(rt, name, data)
+        program = made_ready(rt, [name, *beside])[name]
+        ran = run(rt, name, data, words)
         if program_of(name) == program:
             break
     if ran.returncode:

@@ -44,6 +44,7 @@ class Sheet(NamedTuple):
     usages: list
     usages_at: int
     pdos: list
+    record: int = 5  # bytes of a sync manager, where the places are those of a sheet
 
     def on_coe(self):
         """Whether CoE is on: both flags, and a read mailbox of a size above 0."""
@@ -151,7 +152,8 @@ def check_end(reader, pdos):
         raise Finding(4, "after the last record", range(reader.at, len(reader.data)), what, to_do)
 
 
-def check_controls(managers):
+def check_controls(managers, place=2):
+    """`place` is that of the control in a sync manager's record."""
     for manager in managers:
         mode, direction = manager.control & 3, manager.control >> 2 & 3
         wrong = [f"mode (bits 0 and 1) is {mode}"] if mode in (1, 3) else []
@@ -160,7 +162,7 @@ def check_controls(managers):
             what = f"SM{manager.number}'s control is 0x{manager.control:02x}: its {' and its '.join(wrong)}; that has no name"
             to_do = "mode is 0 Normal or 2 Mailbox, direction 0 MasterRead or 1 MasterWrite; the samples have 20 for inputs, "
             to_do += "64 for outputs, 22 for a read mailbox and 26 for a write mailbox"
-            raise Finding(5, f"SM{manager.number}'s control", [manager.at + 2], what, to_do)
+            raise Finding(5, f"SM{manager.number}'s control", [manager.at + place], what, to_do)
 
 
 def read(data):

@@ -92,7 +92,8 @@ def command(rt, name):
     return [*before, loader, "--library-path", tools / "lib", ROOT / "target" / "bin" / name]
 
 
-def run(rt, name, data):
-    """Runs the program on this input."""
+def run(rt, name, data, words=()):
+    """Runs the program on this input, with these words behind its name."""
     environment = {word: value for word, value in os.environ.items() if not word.startswith("QEMU_")}
-    return subprocess.run(command(rt, name), input=data, env=environment, stdout=subprocess.PIPE, stderr=subprocess.PIPE)
+    piped = {"stdout": subprocess.PIPE, "stderr": subprocess.PIPE}
+    return subprocess.run([*command(rt, name), *words], input=data, env=environment, **piped)

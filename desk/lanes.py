@@ -49,14 +49,18 @@ def lanes(plan, sheet, way):
     return found
 
 
+def read_alone(data):
+    """A sheet that a program accepted, or wrote."""
+    try:
+        return device.read(data)
+    except device.Finding as found:
+        raise Trouble(f"the sheet, read beside the program, would be refused with {found.number}") from None
+
+
 def read_back(text, data):
     """A plan as it was printed, and its sheet."""
-    plan = printed.taken_apart(text)
-    try:
-        sheet = device.read(data)
-    except device.Finding:
-        sheet = None
-    if sheet is None or len(sheet.managers) != len(plan.channels):
+    plan, sheet = printed.taken_apart(text), read_alone(data)
+    if len(sheet.managers) != len(plan.channels):
         raise Trouble("the sheet, read beside the program, doesn't fit the plan that was printed")
     return plan, sheet
 

@@ -3,41 +3,75 @@
 import re
 import shlex
 
-from desk import build, command, explain, feed, kit, picture, signals, talk
-from desk.lanes import warnings
-from desk.talk import PLANNED, REFUSED, Trouble, put, say, shown
+from desk import build, command, eeprom, explain, feed, kit, picture, signals, talk, written
+from desk.lanes import read_alone, warnings
+from desk.talk import PLANNED, REFUSED, Trouble, in_a_row, put, say, shown
 
-PROGRAMS = ["lockerplan", "probe"]
-REFUSAL = re.compile(r"refused (\d+)\n")
+PROGRAMS = ["lockerplan", "lockersheet", "probe"]
+REFUSAL = re.compile(rb"refused (\d+)\n")
 
 
-def explained(wish, sheet, number):
+def refused(wish, answer, words):
     """After a refusal: the words where they are wanted, else how to get them."""
+    put(answer)
     if wish.explain:
-        put(explain.explanation(sheet, number).encode())
+        put(words(int(REFUSAL.fullmatch(answer)[1])).encode())
     elif talk.watched():
-        again = "the same with --explain" if wish.path == "-" else f"./plan --explain {shown(shlex.quote(wish.path))}"
+        same = wish.what == "dump" or wish.path == "-"
+        again = "the same with --explain" if same else f"./plan --explain {shown(shlex.quote(wish.path))}"
         say(f"{again} says why")
     if wish.picture:
-        say("a sheet that is refused has no picture: none was drawn")
+        say("what is refused has no picture: none was drawn")
+    return REFUSED
+
+
+def planned(wish, data, words):
+    """Plans a sheet; `words` explains a refusal's number."""
+    answer = build.answer("lockerplan", data)
+    if REFUSAL.fullmatch(answer):
+        return refused(wish, answer, words)
+    if not answer.startswith(b"inputs "):
+        raise Trouble("lockerplan printed neither a plan nor a refusal")
+    put(answer)
+    text = answer.decode("ascii", "replace")
+    if wish.picture:
+        picture.draw(wish.picture, feed.named(wish.path), text, data)
+    if wish.explain:
+        put("".join(f"{line}\n" for line in warnings(text, data)).encode())
+    return PLANNED
 
 
 def plan(wish):
     sheet = feed.sheet_of(wish.path)
-    answer = build.answer("lockerplan", sheet.data)
-    text = answer.decode("ascii", "replace")
-    refusal = REFUSAL.fullmatch(text)
-    if not refusal and not text.startswith("inputs "):
-        raise Trouble("lockerplan printed neither a plan nor a refusal")
-    put(answer)
-    if refusal:
-        explained(wish, sheet, int(refusal[1]))
-        return REFUSED
-    if wish.picture:
-        picture.draw(wish.picture, feed.named(wish.path), text, sheet.data)
-    if wish.explain:
-        put("".join(f"{line}\n" for line in warnings(text, sheet.data)).encode())
-    return PLANNED
+    return planned(wish, sheet.data, lambda number: explain.explanation(sheet, number))
+
+
+def sheet_text(wish, dump, data):
+    flags, receive, send = wish.given
+    options = f"--flags {flags} --receive {receive} --send {send}"
+    title = f"The sheet of a dump of {len(dump.data):,} bytes: {feed.named(wish.path)}, with {options}."
+    return written.text(data, [title, "docs/SHEET.md says what each field may be. What stands after # isn't read."])
+
+
+def plan_dump(wish):
+    """A dump becomes a sheet, and that is planned or printed."""
+    dump = feed.dump_of(wish.path, wish.raw)
+
+    def words(number):
+        return explain.dump_explanation(dump, wish.given, number)
+
+    beside = [] if wish.sheet else ["lockerplan"]
+    answer = build.answer("lockersheet", dump.data, [str(number) for number in wish.given], beside)
+    if REFUSAL.fullmatch(answer):
+        return refused(wish, answer, words)
+    if len(answer) < 11 or int.from_bytes(answer[:2], "big") != len(answer) - 2:
+        raise Trouble("lockersheet wrote neither a sheet nor a refusal")
+    for line in eeprom.warnings(read_alone(answer)):
+        say(line)
+    if wish.sheet:
+        put(sheet_text(wish, dump, answer).encode())
+        return PLANNED
+    return planned(wish, answer, words)
 
 
 def probe(wish):
@@ -55,10 +89,10 @@ def act(words):
         return PLANNED
     if wish.what == "build":
         build.made_ready(kit.find_rt(), PROGRAMS)
-        say("lockerplan and probe are ready")
+        say(f"{in_a_row(PROGRAMS)} are ready")
         return PLANNED
     talk.demand_output()
-    return probe(wish) if wish.what == "probe" else plan(wish)
+    return {"plan": plan, "dump": plan_dump, "probe": probe}[wish.what](wish)
 
 
 def main(words):

@@ -4,7 +4,7 @@ import os
 import re
 import time
 
-from desk.talk import ERR, say, watched, whisper
+from desk.talk import ERR, in_a_row, say, watched, whisper
 
 PATIENCE = 3  # seconds before a person is told why nothing happens
 PROVED = re.compile(r"rt: (\w+) proved \((unchanged)?")
@@ -36,7 +36,7 @@ class Progress:
     """Takes what `rt check` prints line by line, and shows which crate it is at."""
 
     def __init__(self, names, crates):
-        self.what = " and ".join(names)
+        self.what = in_a_row(names)
         self.left, self.all = list(crates), len(crates)
         self.began, self.told, self.line, self.said = time.monotonic(), False, Line(), []
 

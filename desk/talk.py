@@ -28,6 +28,11 @@ def shown(text, room=100):
     return "".join(letter if letter.isprintable() else "?" for letter in text)
 
 
+def in_a_row(words):
+    """Words in a row: a, b and c."""
+    return " and ".join([", ".join(words[:-1]), words[-1]] if len(words) > 1 else words)
+
+
 def whisper(text):
     """Text on standard error as it is; where that can't be written there is nobody to tell."""
     try:

@@ -1,7 +1,8 @@
 """The outputs that the pages show.
 
 A block that begins with ```text shows a command, after `$ `, and what it prints; a line `...` stands for lines left out.
-A block that begins with ```hex is a sheet, which the page's next `$ ./plan mine.hex` is given.
+A block that begins with ```hex is a sheet, which the page's next `$ ./plan mine.hex` is given; one that begins with ```dump
+is a dump, for its next `$ ./plan --dump OPTIONS mine.hex`.
 A block that begins with ```rust is code of the library, as it stands in crates/.
 """
 
@@ -12,21 +13,27 @@ import sys
 from typing import NamedTuple
 
 import model
+from dump import Head, read_dump
 from planning import lockerplan
-from stored import ROOT, sample, sheet_in
+from registers import Refused
+from stored import ROOT, dump_by, sample, sheet_in
+from writer import sheet_bytes
 
-sys.path.append(str(ROOT / "samples"))
+sys.path += [str(ROOT / "samples"), str(ROOT)]
 import lesson
+from desk import command, feed, main
 
 PAGES = ["README.md", "docs/TRAINING.md", "docs/SHEET.md", "docs/EXERCISES.md", "docs/ANSWERS.md"]
 MINE, PIPED, PROBED = "./plan mine.hex", " | ./plan -", " | ./plan --probe -"
+OPTIONS = r"(?:--(?:flags|receive|send) \w+ |--sheet )*"
+DUMPED = re.compile(rf"(?P<made>.* \| )?\./plan --dump {OPTIONS}(?P<file>-|mine\.hex|samples/[\w-]+\.hex)")
 
 
 class Shown(NamedTuple):
     page: str
     command: str
     lines: list
-    sheet: str  # of the block ```hex before it
+    sheet: str  # of the block ```hex or ```dump before it
 
 
 def blocks(page):
@@ -45,7 +52,7 @@ def blocks(page):
 def shown_on(page):
     sheet = ""
     for kind, lines in blocks(page):
-        if kind == "hex":
+        if kind in ("hex", "dump"):
             sheet = "\n".join(lines)
         elif kind == "text":
             yield Shown(page, lines[0].removeprefix("$ "), lines[1:], sheet)
@@ -62,6 +69,19 @@ def in_lines(lines):
 def text_of(sheet):
     """What `lockerplan` prints for a sheet, by the model."""
     return in_lines(lockerplan(sheet))
+
+
+def dump_sheet(dump):
+    """A dump's sheet, by the model."""
+    return sheet_bytes(read_dump(dump.data, Head(dump.flags, dump.receive, dump.send)))
+
+
+def dump_text(dump):
+    """What ./plan prints for a dump, by the model: the plan of its sheet, or the refusal."""
+    try:
+        return text_of(dump_sheet(dump))
+    except Refused as refused:
+        return f"refused {refused.args[0]}\n"
 
 
 def by_model(named):
@@ -84,8 +104,27 @@ def sheet_given(one):
     return None
 
 
+def dump_given(one):
+    """The dump that a command gives to ./plan --dump, or None."""
+    found = DUMPED.fullmatch(one.command)
+    if found is None:
+        return None
+    if found["made"]:
+        return dump_by(one.command, made(found["made"].removesuffix(" | ")).decode())
+    return dump_by(one.command, one.sheet if found["file"] == "mine.hex" else (ROOT / found["file"]).read_text())
+
+
+def dumped_text(one, dump):
+    """What a command of ./plan --dump prints: the plan by the model, or its sheet, with the script's own comments."""
+    wish = command.understood(one.command.partition("./plan ")[2].split())
+    return main.sheet_text(wish, feed.Sheet(dump.data, []), dump_sheet(dump)) if wish.sheet else dump_text(dump)
+
+
 def right_text(one):
     """What a page's command prints, by the model; None where there is no such command."""
+    dump = dump_given(one)
+    if dump is not None:
+        return dumped_text(one, dump)
     sheet = sheet_given(one)
     if sheet is not None:
         return text_of(sheet_in(sheet))
@@ -101,8 +140,8 @@ def fits(lines, text):
     return re.fullmatch(pattern, text) is not None
 
 
-def sheets_on(page):
-    return [in_lines(lines) for kind, lines in blocks(page) if kind == "hex"]
+def sheets_on(page, wanted="hex"):
+    return [in_lines(lines) for kind, lines in blocks(page) if kind == wanted]
 
 
 def wrong_sheets():
@@ -112,6 +151,8 @@ def wrong_sheets():
     for number, text in enumerate(sheets_on("docs/EXERCISES.md"), 2):
         if sheet_in(text) != sample(f"refused-{number}"):
             yield f"a sheet of docs/EXERCISES.md isn't samples/refused-{number}.hex"
+    if [sheet_in(text) for text in sheets_on("docs/EXERCISES.md", "dump")] != [sample("dump-refused-17")]:
+        yield "the dump of docs/EXERCISES.md isn't samples/dump-refused-17.hex"
 
 
 def wrong_code():
@@ -140,8 +181,14 @@ def run(command, given=None):
     return done.stdout, done.stderr
 
 
+def typed(one):
+    """A page's command as it is run; what stands in mine.hex comes on standard input."""
+    mine = one.command.endswith(" mine.hex")
+    return (one.command.removesuffix("mine.hex") + "-", one.sheet) if mine else (one.command, None)
+
+
 def wrong_runs():
     for one in shown():
-        text, said = run("./plan -", one.sheet) if one.command == MINE else run(one.command)
+        text, said = run(*typed(one))
         if text != right_text(one):
             yield f"{one.page}: {one.command} prints\n{text}{said}"

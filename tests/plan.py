@@ -21,10 +21,13 @@ from pathlib import Path
 ROOT = Path(__file__).resolve().parent.parent
 sys.path.insert(0, str(ROOT))
 
+import plan_dumps  # noqa: E402
 import plan_sheets  # noqa: E402
 from build import SAMPLE  # noqa: E402
 from desk import build, feed, kit  # noqa: E402
+from pages import dump_sheet, dump_text  # noqa: E402
 from samples import samples  # noqa: E402
+from stored import Dump, dumps, sheet_in  # noqa: E402
 from stream import Request  # noqa: E402
 from stub import CRATES, PLANNED, Fake  # noqa: E402
 
@@ -70,7 +73,8 @@ def read_only(path):
 
 def command_line(fake):
     ran = fake.run("--help")
-    missing = [word for word in ("--explain", "--picture", "--probe", "--build", "Exit status") if word not in ran.out]
+    words = "--explain", "--picture", "--dump", "--flags", "--receive", "--send", "--raw", "--sheet", "--probe", "--build"
+    missing = [word for word in (*words, "Exit status") if word not in ran.out]
     yield "--help is on standard output", same((ran.status, ran.err, missing), (0, "", []))
     for words, phrase in (
         ((), "which file?"),
@@ -83,6 +87,23 @@ def command_line(fake):
         (("--picture", "a.hex", "b.hex"), "ends in .svg"),
         (("--picture", "no/a.svg", "b.hex"), "its folder isn't there"),
         (("--", "-none.hex"), "-none.hex: No such file"),
+        (("--dump",), "./plan --dump samples/bay-dump.hex"),
+        (("--dump", "a", "b"), "one file at a time"),
+        (("--dump", "--flags"), "--flags needs a number: --flags 1"),
+        (("--dump", "--flags", "a.hex"), "--flags a.hex: that is no number; write it in decimal or as 0x.."),
+        (("--dump", "--flags", "\x1b[2J" + "9" * 400, "a"), "that is no number"),
+        (("--dump", "--flags", "0x100", "a"), "--flags 0x100: it is at most 255"),
+        (("--dump", "--receive=65536", "a"), "--receive 65536: it is at most 65,535"),
+        (("--dump", "--send", "-1", "a"), "--send -1: that is no number"),
+        (("--dump", "--send", "٣", "a"), "that is no number"),
+        (("--dump", "--send=", "a"), "that is no number"),
+        (("--dump", "--flags", "1", "--flags", "3", "a"), "--flags is given twice"),
+        (("--flags", "1", "a"), "--flags is for a dump: add --dump"),
+        (("--raw", "a"), "--raw is for a dump"),
+        (("--sheet", "a"), "--sheet is for a dump"),
+        (("--dump", "--sheet", "--picture", "a.svg", "b"), "leave one of the two out"),
+        (("--dump", "--probe", "a"), "--probe stands without other options"),
+        (("--dump", "--build"), "--build stands without other options"),
     ):
         yield f"./plan {' '.join(words)[:40]!r}", line_of(fake.run(*words), phrase)
     with read_only(fake.folder):
@@ -166,6 +187,104 @@ def on_terminal(fake, *words):
     return shown.decode()
 
 
+# ---- dumps
+
+
+def dumps_fed(fake):
+    """What is wrong with a dump's file is said before anything is built."""
+    for what, words, data, phrase in (
+        ("bytes without --raw", (), b"\x28\0\0\0\xff\xff", "zero bytes: binary, or UTF-16; --raw reads a dump's bytes"),
+        ("an odd line", (), b"28 00\n00 0\n", "line 2: 3 digits"),
+        ("too many bytes", (), b"00" * 524_289, "a dump of 524,289 bytes; at most 524,288 are read"),
+        ("too many bytes, raw", ("--raw",), bytes(524_289), "more than 524,288 bytes"),
+    ):
+        yield f"a dump: {what}", line_of(fake.run("--dump", *words, "-", data=data), phrase)
+    yield "a dump that isn't there", line_of(fake.run("--dump", "none.hex"), "none.hex: No such file")
+
+
+def answering(fake, sheet, text):
+    fake.write("kit/answer-lockersheet", sheet)
+    fake.write("kit/answer-lockerplan", text)
+
+
+def sample_dumps(fake):
+    """Each dump of samples/, its sheet and its plan by the model, planned by its own command."""
+    for path, command, dump in dumps():
+        text, words = dump_text(dump), [*command.split()[1:-1], path]
+        refused = text.startswith("refused")
+        sheet = text.encode() if refused else dump_sheet(dump)
+        answering(fake, sheet, "rubbish" if refused else text)
+        ran = fake.run(*words)
+        yield f"{command}", same((ran.status, ran.out, ran.err), (1 if refused else 0, text, ""))
+        given = f"{dump.flags} {dump.receive} {dump.send}\n".encode()
+        got = fake.noted("words", "lockersheet"), fake.noted("fed", "lockersheet")
+        yield "  gives lockersheet the numbers and the dump", same(got, (given, dump.data))
+        ran = fake.run(*words, "--explain")
+        wanted = ["where ", "of the dump, ", f"rule {text.split()[1]} "] if refused else ["each FMMU follows"]
+        yield "  with --explain", same((ran.out.startswith(text), [w for w in wanted if w not in ran.out]), (True, []))
+
+
+def bay_dump(fake):
+    """The bay's dump, with each option."""
+    dump, path = plan_dumps.BAY, ROOT / "samples" / "bay-dump.hex"
+    sheet, text = dump_sheet(dump), dump_text(dump)
+    answering(fake, sheet, text)
+    ran = fake.run("--dump", "--flags=0x1", "--receive", "0X80", "--send", "0080", path)
+    yield "numbers in hexadecimal and decimal", same((ran.status, fake.noted("words", "lockersheet")), (0, b"1 128 80\n"))
+    fake.run("--dump", path)
+    yield "numbers that aren't given are 0", same(fake.noted("words", "lockersheet"), b"0 0 0\n")
+    yield "what lockersheet wrote is planned", same(fake.noted("fed", "lockerplan"), sheet)
+    ran = fake.run("--dump", "--raw", "-", data=dump.data + bytes(range(256)))
+    yield "--raw on standard input", same((ran.status, fake.noted("fed", "lockersheet")), (0, dump.data + bytes(range(256))))
+    fake.write("kit/answer-lockerplan", "refused 9\n")
+    ran = fake.shell(f'"$PLAN" --dump {path} --flags 1 --sheet >mine.hex && "$PLAN" mine.hex')
+    got = ran.out, fake.noted("fed", "lockerplan")
+    yield "--sheet plans nothing; what it prints can be planned", same(got, ("refused 9\n", sheet))
+    first = fake.folder.joinpath("mine.hex").read_text().partition("\n")[0]
+    yield "--sheet begins with what it is of", "" if "246 bytes" in first and "--flags 1 --receive 0" in first else first
+    fake.write("kit/answer-lockerplan", text)
+    ran = fake.run("--dump", "--picture", "dump.svg", path)
+    drawn = fake.folder.joinpath("dump.svg").read_text()
+    yield "--picture", same((ran.status, ran.out, "bay-dump.hex: how the bay is mapped" in drawn), (0, text, True))
+    fake.write("kit/answer-lockersheet", dump_sheet(dump._replace(flags=3)))
+    for words in ((), ("--sheet",)):
+        ran = fake.run("--dump", "--flags", "3", "--send", "128", *words, path)
+        one = ran.status == 0 and ran.err.count("\n") == 1 and "Leave flag bit 1 out (--flags 1), or write" in ran.err
+        yield f"CoE on is warned of {' '.join(words)}", "" if one and len(ran.err) < 260 else ran.err or "no line"
+
+
+def refused_dumps(fake):
+    path = fake.write("dump.hex", "ff ff\n")
+    for answer in (b"", b"rubbish\n", b"\0\x09\1", b"refused\n"):
+        answering(fake, answer, PLANNED)
+        yield f"lockersheet writes {answer!r}", line_of(fake.run("--dump", path), "neither a sheet nor a refusal")
+    answering(fake, "refused 16\n", PLANNED)
+    ran = fake.run("--dump", "--picture", "none.svg", path)
+    got = ran.status, ran.out, "none was drawn" in ran.err, (fake.folder / "none.svg").exists()
+    yield "no picture of what is refused", same(got, (1, "refused 16\n", True, False))
+    ran = fake.run("--dump", "--explain", path)
+    yield "no words where the numbers differ, of a dump", "" if "nothing would be refused" in ran.out else ran.out
+    hint = "the same with --explain" in on_terminal(fake, "--dump", path)
+    yield "on a terminal a refused dump hints at --explain", "" if hint else "no hint"
+    answering(fake, dump_sheet(Dump(b"\xff\xff")), PLANNED)
+    ran = fake.run("--dump", path)
+    yield "a dump with nothing in it is warned of", "" if ran.status == 0 and "none of the categories" in ran.err else ran.err
+    for name in ("lockersheet", "lockerplan"):
+        (fake.kit / f"answer-{name}").unlink()
+
+
+def dump_builds(fake):
+    """Both programs of a dump are built at once; for a sheet of it one is enough."""
+    sheet = dump_sheet(Dump(b"\xff\xff"))
+    fake.write("kit/answer-lockersheet", sheet)
+    path = fake.write("dump.hex", "ff ff\n")
+    for words, built in (((), "lockersheet lockerplan"), (("--sheet",), "lockersheet")):
+        fake.forget()
+        ran = fake.run("--dump", *words, path)
+        yield f"--dump {' '.join(words)} builds {built}", same((ran.status, fake.builds()), (0, [built]))
+    (fake.kit / "answer-lockersheet").unlink()
+
+
 # ---- builds
 
 
@@ -211,8 +330,8 @@ def builds(fake):
     fake.forget()
     ran = fake.run("--build")
     after = fake.run(fake.sheet).status, fake.run("--probe", fake.sheet).status
-    got = ran.status, *after, fake.builds()
-    yield "--build makes both ready, with one build", same(got, (0, 0, 0, ["lockerplan probe"]))
+    got = ran.status, *after, fake.builds(), "lockerplan, lockersheet and probe are ready" in ran.err
+    yield "--build makes all three ready, with one build", same(got, (0, 0, 0, ["lockerplan lockersheet probe"], True))
     fake.write("project/crates/probe/src/lib.rt", "// changed\n")
     fake.write("kit/pause", "1")
     other = fake.start("--probe", fake.sheet)
@@ -324,6 +443,28 @@ def real_runs():
     yield "both take under a second of processor time", slower(began, 1)
 
 
+def real_dumps():
+    if not all(build.ready(kit.find_rt(), name) for name in ("lockersheet", "lockerplan")):
+        yield "the dumps of samples/, by the proved programs: not tried, since they aren't built (./plan --build)", ""
+        return
+    for path, command, _ in dumps():
+        words = [*command.split()[1:-1], path]
+        ran = subprocess.run([ROOT / "plan", *words, "--explain"], capture_output=True, text=True)
+        out = path.with_suffix(".out").read_text()
+        number = out.split()[1] if out.startswith("refused") else ""
+        explained = f"rule {number} " in ran.stdout if number else "rule" not in ran.stdout
+        got = ran.returncode, ran.stdout.startswith(out), explained
+        yield f"samples/{path.name}, by the proved programs", same(got, (1 if number else 0, True, True))
+    sheet = dump_sheet(plan_dumps.BAY)
+    command = "./plan --dump --flags 1 --receive 128 --send 128 --sheet samples/bay-dump.hex"
+    ran = subprocess.run(command.split(), cwd=ROOT, capture_output=True, text=True)
+    yield "the sheet of samples/bay-dump.hex, by the proved program", same(sheet_in(ran.stdout), sheet)
+    more = plan_dumps.BAY.data + b"\xff"
+    ran = subprocess.run([ROOT / "plan", "--dump", "--raw", "-"], input=more, stdout=subprocess.PIPE)
+    wanted = dump_text(plan_dumps.BAY._replace(flags=0, receive=0, send=0))
+    yield "samples/bay-dump.hex as raw bytes, by the proved programs", same(ran.stdout.decode(), wanted)
+
+
 def real_refusals():
     """The probe plans many sheets in one run (its request L)."""
     if not build.ready(kit.find_rt(), "probe"):
@@ -342,12 +483,16 @@ def real_refusals():
 def cases():
     fake = Fake()
     try:
-        for group in (command_line, fed, written, build_needed, builds, beside_rt, failed_builds, interrupts, killed):
+        for group in (command_line, fed, written, dumps_fed, sample_dumps, bay_dump, refused_dumps, dump_builds):
+            yield from group(fake)
+        for group in (build_needed, builds, beside_rt, failed_builds, interrupts, killed):
             yield from group(fake)
     finally:
         fake.remove()
     yield from plan_sheets.cases()
+    yield from plan_dumps.cases()
     yield from real_runs()
+    yield from real_dumps()
     yield from real_refusals()
 
 

@@ -38,7 +38,7 @@ def damaged():
 
 def explained(data):
     """The number that the words are for; 0 where nothing is refused."""
-    found = explain.finding(data)
+    found = explain.in_sheet(data)
     return found.number if found else 0
 
 

@@ -1,9 +1,9 @@
 #!/usr/bin/env python3
 """Checks samples/ and the outputs that the pages show against the model.
 
-    python3 tests/samples.py          each samples/NAME.out is what the model answers for samples/NAME.hex, and each
-                                      output of the pages (tests/pages.py lists them) what it answers for their command;
-                                      code that the pages show stands in crates/
+    python3 tests/samples.py          each samples/NAME.out is what the model answers for samples/NAME.hex, a dump by the
+                                      command of its first line, and each output of the pages (tests/pages.py lists them)
+                                      what it answers for their command; code that the pages show stands in crates/
     python3 tests/samples.py --write  makes each samples/NAME.out again, but bay.out: that is copied from document 01
     python3 tests/samples.py --run    runs ./plan on each samples/NAME.hex, on the longest sheets and on the longest
                                       report, and each command of the pages, and compares what they print
@@ -13,8 +13,8 @@ import sys
 
 import pages
 from build import SAMPLE, coe, eeprom, managers, on_coe, on_eeprom
-from pages import in_lines, text_of
-from stored import sample, samples
+from pages import dump_text, in_lines, text_of
+from stored import dumps, sample, samples
 
 # L is 16,384: 9 bytes, four sync managers, two usages, and 63 PDOs of 254 or 255 lengths
 LONGEST = on_coe(*[coe(2 + k % 2, 0x1A00 + k, *[1 + (i + k) % 7 for i in range(254 + (k < 36))]) for k in range(63)])
@@ -25,16 +25,24 @@ ALL_ENTRIES = on_eeprom(
 )
 
 
+def answers():
+    """Each sample's path, the command that plans it, and what the model answers."""
+    yield from ((path, f"./plan samples/{path.name}", text_of(sheet)) for path, sheet in samples())
+    yield from ((path, command, dump_text(dump)) for path, command, dump in dumps())
+
+
 def wrong_outputs():
     if sample("bay") != SAMPLE:
         yield "samples/bay.hex isn't document 01's sample"
-    for path, sheet in samples():
-        out, answer = path.with_suffix(".out"), text_of(sheet)
-        refused = path.stem.replace("-", " ") + "\n"  # refused-2.hex must be refused with 2
-        if answer != refused and (answer.startswith("refused") or path.stem.startswith("refused")):
+    for path, command, answer in answers():
+        out, stem = path.with_suffix(".out"), path.stem.removeprefix("dump-")
+        refused = stem.replace("-", " ") + "\n"  # refused-2.hex must be refused with 2
+        if answer != refused and (answer.startswith("refused") or stem.startswith("refused")):
             yield f"samples/{path.name} isn't refused as its name says"
         if not out.exists() or out.read_text() != answer:
             yield f"samples/{out.name} isn't what the model answers"
+        if not command.endswith(f" samples/{path.name}"):
+            yield f"the command of samples/{path.name} is about another file"
 
 
 def limits():
@@ -54,10 +62,10 @@ def written(sheet):
 
 
 def wrong_runs():
-    for path, _ in samples():
-        text, said = pages.run(f"./plan samples/{path.name}")
+    for path, command, _ in answers():
+        text, said = pages.run(command)
         if text != path.with_suffix(".out").read_text():
-            yield f"./plan samples/{path.name} doesn't print samples/{path.stem}.out but\n{text}{said}"
+            yield f"{command} doesn't print samples/{path.stem}.out but\n{text}{said}"
     for name, sheet, right in limits():
         text, said = pages.run("./plan -", written(sheet))
         if text != right:
@@ -68,14 +76,15 @@ def main():
     if sys.argv[1:] not in ([], ["--write"], ["--run"]):
         sys.exit(__doc__.strip())
     if sys.argv[1:] == ["--write"]:
-        for path, sheet in samples():
+        for path, _, answer in answers():
             if path.stem != "bay":
-                path.with_suffix(".out").write_text(text_of(sheet))
+                path.with_suffix(".out").write_text(answer)
     if sys.argv[1:] == ["--run"]:
         wrong = [*wrong_runs(), *pages.wrong_runs()]
     else:
         wrong = [*wrong_outputs(), *pages.wrong_pages()]
-    print("\n".join(wrong) or f"{len(samples())} samples and {len(pages.shown())} outputs on the pages are as they should be")
+    count = len(samples()) + len(dumps())
+    print("\n".join(wrong) or f"{count} samples and {len(pages.shown())} outputs on the pages are as they should be")
     sys.exit(1 if wrong else 0)
 
 

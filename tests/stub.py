@@ -1,7 +1,7 @@
 """A copy of ./plan with a fake kit: its `rt` proves nothing, so that the script can be tried in seconds.
 
-The fake `rt check` notes each build, fails where two run at once, takes its time, and leaves a program that answers what a
-test wants.
+The fake `rt check` notes each build, fails where two run at once, takes its time, and leaves programs that answer what a
+test wants, one of them for all or each its own, and note their words and what they read.
 """
 
 import os
@@ -32,8 +32,15 @@ for name in "$@"; do cp "$FAKE/program" "target/bin/$name"; done
 echo "rt: ok, 3 crates proved"
 """
 LOADER = '#!/bin/sh\nshift 2\nexec "$@"\n'
-PROGRAM = '#!/bin/sh\ncat >/dev/null\ncat "$FAKE/answer"\n'
-CRATES = "low:\nhigh: low\nlockerplan: high low io\nprobe: high low io # the other\n"
+PROGRAM = """\
+#!/bin/sh
+name="${0##*/}"
+cat >"$FAKE/fed-$$" && mv -f "$FAKE/fed-$$" "$FAKE/fed-$name"
+echo "$*" >"$FAKE/words-$$" && mv -f "$FAKE/words-$$" "$FAKE/words-$name"
+[ -e "$FAKE/answer-$name" ] && exec cat "$FAKE/answer-$name"
+cat "$FAKE/answer"
+"""
+CRATES = "low:\nhigh: low\nlockerplan: high low io\nlockersheet: high low io\nprobe: high low io # the other\n"
 PLANNED = "inputs (empty)\noutputs (empty)\n"
 
 
@@ -54,7 +61,7 @@ class Fake:
         shutil.copy(ROOT / "plan", self.project / "plan")
         shutil.copytree(ROOT / "desk", self.project / "desk", ignore=shutil.ignore_patterns("__pycache__"))
         (self.project / "crates.txt").write_text(CRATES)
-        for name in ("low", "high", "lockerplan", "probe"):
+        for name in ("low", "high", "lockerplan", "lockersheet", "probe"):
             self.write(f"project/crates/{name}/src/lib.rt", f"// {name}\n")
         self.write("kit/bin/rt", RT, 0o755)
         self.write(f"kit/on/{os.uname().machine}/toolchain/lib/ld-linux-x86-64.so.2", LOADER, 0o755)
@@ -95,6 +102,10 @@ class Fake:
         """Where the tests run as root, rights hold nobody back but nobody."""
         who = {"user": NOBODY, "group": NOBODY, "extra_groups": []} if os.geteuid() == 0 else {}
         return self.run(*words, **who)
+
+    def noted(self, what, name):
+        """What a program was fed (`fed`), or its words (`words`)."""
+        return (self.kit / f"{what}-{name}").read_bytes()
 
     def builds(self):
         log = self.kit / "builds"
