@@ -55,7 +55,7 @@ const NO_CONTROL: Control = Control {
     watchdog_enable: false,
 };
 
-const NO_MANAGER: SyncManager = SyncManager {
+pub const NO_MANAGER: SyncManager = SyncManager {
     start_addr: 0,
     control: NO_CONTROL,
     enable: false,

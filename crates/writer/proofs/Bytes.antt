@@ -21,7 +21,7 @@ use Rattle.writer.specs.Form.{managerBytes, pdoBytes, counted, bodyBytes
 use Rattle.writer.proofs.Keeps.{KeepsManager, KeepsPdo, Keeps}
 
 -- lists of bytes one after the other
-all-bytes : {A : Type 0} (P : A → Type 0) (f : A → List ℕ) → ((x : A) → P x → Bytes (f x)) → (xs : List A) → Each P xs → Bytes (flat (map f xs))
+pub all-bytes : {A : Type 0} (P : A → Type 0) (f : A → List ℕ) → ((x : A) → P x → Bytes (f x)) → (xs : List A) → Each P xs → Bytes (flat (map f xs))
 unfolding flat
 all-bytes P f h [] each = no-bytes
 all-bytes P f h (x ∷ xs) each = append-bytes (h x (each .0)) (all-bytes P f h xs (each .1))
@@ -36,7 +36,7 @@ usages-bytes : (us : List ℕ) → Each (λ (u : ℕ). u ≤ 3) us → Bytes us
 usages-bytes [] each = no-bytes
 usages-bytes (u ∷ us) each = cons-bytes (omega (arith, each .0)) (usages-bytes us (each .1))
 
-pdo-bytes : (p : Pdo) → KeepsPdo p → Bytes (pdoBytes p)
+pub pdo-bytes : (p : Pdo) → KeepsPdo p → Bytes (pdoBytes p)
 pdo-bytes p k =
     cons-bytes (omega arith) (cons-bytes (k .manager) (append-bytes (big-bytes 2 (p .index)) (go (eqb (p .kind) 0) refl)))
   where

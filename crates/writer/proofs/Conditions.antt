@@ -30,7 +30,7 @@ each-take P (suc n) [] p = tt
 each-take P (suc n) (x ∷ l) p = (p .0, each-take P n l (p .1))
 
 -- a start address of two bytes
-abbrev StartInRange : SyncManager → Type 0
+abbrev pub StartInRange : SyncManager → Type 0
 StartInRange m = m .«start_addr» < 65536
 
 module _ (d : Device) (s : List ℕ) (r : InRange d s) where

@@ -67,7 +67,7 @@ module _ (s l : List ℕ) (at : ℕ) (stands : (k : ℕ) → k < length l → ge
       let f = fits-on l p k e in
       ap₂ (λ x xs. x ∷ xs) (same-pdo p k f) (ap (pdosFrom s p) (same-next p k f) ∙ same-pdos p (nextPdo l k) (f .others))
 
-  same-end : (p k : ℕ) → pdosFit l p k ≡ true → pdosEnd s p (at + k) ≡ at + pdosEnd l p k
+  pub same-end : (p k : ℕ) → pdosFit l p k ≡ true → pdosEnd s p (at + k) ≡ at + pdosEnd l p k
   unfolding pdosEnd
   same-end zero k e = refl
   same-end (suc p) k e =
@@ -87,7 +87,7 @@ module _ (s l : List ℕ) (at : ℕ) (stands : (k : ℕ) → k < length l → ge
       rw (le-leb (nextPdo l k) (length l) (omega arith), sym (ap₂ kindFits kind count) ∙ f .kind, others)
 
 -- whole records end where their bytes do
-fit-end : (l : List ℕ) (p k : ℕ) → pdosFit l p k ≡ true → pdosEnd l p k ≡ length l
+pub fit-end : (l : List ℕ) (p k : ℕ) → pdosFit l p k ≡ true → pdosEnd l p k ≡ length l
 unfolding pdosFit pdosEnd
 fit-end l zero k e = eqb-true k (length l) e
 fit-end l (suc p) k e = fit-end l p (nextPdo l k) (fits-on l p k e .others)

@@ -43,7 +43,7 @@ stored-next at a b room {now} {place} h e q =
     ∙ stored-there at (a ++ b) room (omega arith)
 
 -- from the front on
-stored-front : (a room : List ℕ) → length a ≤ length room → storedAt 0 a room ≡ over a room
+pub stored-front : (a room : List ℕ) → length a ≤ length room → storedAt 0 a room ≡ over a room
 stored-front a room h =
     sym (stored-there 0 a room (omega arith)) ∙ ap (λ (k : ℕ). a ++ drop k room) (let z : 0 + length a ≡ length a = omega arith in z) ∙ sym (over-front a room h)
 

@@ -1,0 +1,123 @@
+-- Device data that a dump gives, where no rule of a sheet is broken: it has a sheet, which is at most 1,892 bytes and reads as that data.
+-- Assumes nothing.
+use mathlib.Core.Path.{_≡_, refl, sym, _∙_, ap}
+use mathlib.Core.Bool.{false}
+use mathlib.Core.List.{List, [], _∷_, _++_, map, append-assoc}
+use Prim.Native.Nat.{ℕ, zero, suc, _+_, _*_, _≤_, _<_}
+use native.Mathlib.Omega.{arith}
+use lib.ListN.{length, length-append}
+use lib.Dec.{ltb}
+use borrow.Author.Tests.{ltb-false}
+use Rattle.wire.specs.Image.{Bytes}
+use Rattle.wire.specs.Lists.{someOf, Each}
+use Rattle.wire.specs.Outcome.{accepted}
+use Rattle.wire.proofs.Lists.{or-none, none-of, each-both}
+use Rattle.area.specs.Area.{flat}
+use Rattle.sheet.specs.declared.SyncManager.{SyncManager}
+use Rattle.sheet.specs.Device.{Pdo, Data}
+use Rattle.sheet.specs.Sheet.{readSheet}
+use Rattle.writer.specs.Form.{pdoBytes, bodyBytes, sheetOf}
+use Rattle.writer.proofs.Stored.{managers-long}
+use Rattle.writer.proofs.Keeps.{KeepsManager, Keeps}
+use Rattle.writer.proofs.Parts.{managersBytes, pdosBytes, sheet-length}
+use Rattle.writer.proofs.Back.{kept-reads}
+use Rattle.writer.proofs.Rules.{unnamedUse}
+use Rattle.dump.specs.declared.Head.{Head}
+use Rattle.dump.specs.Categories.{typeOf, categories, contentOf}
+use Rattle.dump.specs.Records.{managerFor, kindFor, pdosFor, pdosIn}
+use Rattle.dump.specs.Dump.{managersFor, usagesFor, dumpData, ruleBroken, recordsOf}
+use Rattle.dump.proofs.Pdos.{pdos-count, pdos-long}
+use Rattle.dump.proofs.Ranges.{StartInRange, categories-bytes, starts-in-range, pdos-keep}
+
+-- the bytes of PDOs after one another are their bytes after one another
+pub pdos-append : (ps qs : List Pdo) → pdosBytes (ps ++ qs) ≡ pdosBytes ps ++ pdosBytes qs
+unfolding flat
+pdos-append [] qs = refl
+pdos-append (p ∷ ps) qs = ap (λ (l : List ℕ). pdoBytes p ++ l) (pdos-append ps qs) ∙ sym (append-assoc (pdoBytes p) (pdosBytes ps) (pdosBytes qs))
+
+-- each PDO of a dump has seven bytes in a sheet, as its kind isn't 0
+pub records-long : (h : Head) (cs : List (List ℕ)) → length (recordsOf (dumpData h cs)) ≡ 7 * length (dumpData h cs .pdos)
+unfolding dumpData pdosIn flat
+records-long h [] = refl
+records-long h (c ∷ cs) =
+    let ps = pdosFor (kindFor (typeOf c)) (contentOf c) in
+    let a = ap length (pdos-append ps (pdosIn cs)) ∙ length-append (pdosBytes ps) (pdosBytes (pdosIn cs)) in
+    omega (arith, a, length-append ps (pdosIn cs), seven (kindFor (typeOf c)) (contentOf c), records-long h cs)
+  where
+    seven : (kind : ℕ) (l : List ℕ) → length (pdosBytes (pdosFor kind l)) ≡ 7 * length (pdosFor kind l)
+    seven zero l = refl
+    seven (suc k) l = pdos-long (suc k) l (omega arith) ∙ ap (λ (n : ℕ). 7 * n) (sym (pdos-count (suc k) l (omega arith)))
+
+-- a sheet is as long as its parts: its head, five bytes of each sync manager, the usages, the PDO records
+sheet-long : (x : Data) → length (sheetOf x) ≡ 11 + 5 * length (x .managers) + length (x .usages) + length (recordsOf x)
+unfolding bodyBytes
+sheet-long x =
+    let a = length-append (managersBytes (x .managers)) (x .usages ++ recordsOf x) in
+    let b = length-append (x .usages) (recordsOf x) in
+    omega (arith, sheet-length x, managers-long (x .managers))
+
+-- a sync manager's usage has a name
+abbrev UseNamed : SyncManager → Type 0
+UseNamed m = m .«usage_type» ≤ 4
+
+-- what the rules say of counts and usages, one by one
+pub record KeepsRule (ms : List SyncManager) (us : List ℕ) (p : ℕ) : Type 0 where
+  pub few-managers : length ms ≤ 16
+  pub few-usages : length us ≤ 16
+  pub few-pdos : p ≤ 255
+  pub managers : Each UseNamed ms
+  pub usages : Each (λ (u : ℕ). u ≤ 3) us
+
+pub keeps-rule : (flags : ℕ) (ms : List SyncManager) (us : List ℕ) (p : ℕ) → ruleBroken flags ms us p ≡ false → KeepsRule ms us p
+keeps-rule flags ms us p e =
+    let n = or-none (ltb 16 (length ms)) _ (or-none (ltb 7 flags) _ e .1) in
+    let f = or-none (ltb 16 (length us)) _ (n .1) in
+    let c = or-none (ltb 255 p) _ (f .1) in
+    let u = or-none (someOf unnamedUse ms) _ (c .1) in
+    record {
+      few-managers = ltb-false 16 (length ms) (n .0);
+      few-usages = ltb-false 16 (length us) (f .0);
+      few-pdos = ltb-false 255 p (c .0);
+      managers = none-of unnamedUse UseNamed (λ m. ltb-false 4 (m .«usage_type»)) ms (u .0);
+      usages = none-of (ltb 3) (λ (u : ℕ). u ≤ 3) (ltb-false 3) us (u .1);
+    }
+
+-- the data of a dump, where its bytes and the caller's sizes are in range and no rule is broken
+module _ (h : Head) (dump : List ℕ) (receive : h .«receive_size» .0 < 65536) (send : h .«send_size» .0 < 65536) (bytes : Bytes dump)
+    (rule : ruleBroken (h .flags) (map managerFor (managersFor (categories dump))) (usagesFor (categories dump)) (length (pdosIn (categories dump))) ≡ false) where
+  abbrev x : Data
+  x = dumpData h (categories dump)
+
+  abbrev ms : List SyncManager
+  ms = map managerFor (managersFor (categories dump))
+
+  kept : KeepsRule ms (usagesFor (categories dump)) (length (pdosIn (categories dump)))
+  kept = keeps-rule (h .flags) ms (usagesFor (categories dump)) (length (pdosIn (categories dump))) rule
+
+  -- its sheet is short, by the counts: 11 + 5 * 16 + 16 + 7 * 255
+  pub sheet-short : length (sheetOf x) ≤ 1892
+  unfolding dumpData
+  sheet-short = omega (arith, kept, sheet-long x, records-long h (categories dump))
+
+  -- it has a sheet: bytes bound its numbers, the rules its counts and usages
+  pub dump-keeps : Keeps x
+  unfolding dumpData
+  dump-keeps =
+      let k = kept in
+      let all = categories-bytes dump bytes in
+      let named = each-both StartInRange UseNamed KeepsManager (λ m a b. record { start = a; usage = b }) ms (starts-in-range (categories dump) all) (k .managers) in
+      record {
+        receive = receive;
+        send = send;
+        few-managers = k .few-managers;
+        managers = named;
+        few-usages = k .few-usages;
+        usages = k .usages;
+        few-pdos = omega arith;
+        pdos = pdos-keep (categories dump) all;
+        short = omega (arith, sheet-short, sheet-length x);
+      }
+
+  -- which reads as it
+  pub sheet-reads : readSheet (sheetOf x) ≡ accepted x
+  sheet-reads = kept-reads x dump-keeps

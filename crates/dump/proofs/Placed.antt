@@ -1,0 +1,55 @@
+-- The PDOs of both types in dump order: how many there are, and how they stand in the room, one category's behind the other's.
+-- Assumes nothing.
+use mathlib.Core.Path.{_≡_, refl, sym, _∙_, ap, ap₂}
+use mathlib.Core.Bool.{Bool, true, false, cond}
+use mathlib.Core.List.{List, [], _∷_, _++_, map, append-assoc}
+use Prim.Native.Nat.{ℕ, _+_, _≤_}
+use native.Mathlib.Omega.{arith}
+use lib.ListN.{length, length-append}
+use Rattle.wire.specs.Room.{over}
+use Rattle.area.specs.Area.{flat, storedAt}
+use Rattle.sheet.specs.Device.{Pdo}
+use Rattle.writer.specs.Form.{pdoBytes}
+use Rattle.writer.proofs.Stored.{stored-next, stored-front}
+use Rattle.dump.specs.Parts.{partsOf}
+use Rattle.dump.specs.Records.{pdoLong, pdosFor}
+use Rattle.dump.specs.Looked.{frontContent, another, pdosFrom}
+use Rattle.dump.proofs.Pdos.{pdos-count}
+
+-- the bytes of PDOs
+abbrev pub pdosBytes : List Pdo → List ℕ
+pdosBytes ps = flat (map pdoBytes ps)
+
+-- of those behind others
+pub bytes-behind : (ps qs : List Pdo) → pdosBytes (ps ++ qs) ≡ pdosBytes ps ++ pdosBytes qs
+unfolding flat
+bytes-behind [] qs = refl
+bytes-behind (p ∷ ps) qs = ap (λ (l : List ℕ). pdoBytes p ++ l) (bytes-behind ps qs) ∙ sym (append-assoc (pdoBytes p) (pdosBytes ps) (pdosBytes qs))
+
+module _ (ps qs : List Pdo) where
+  -- in either order there are as many
+  either-count : (b : Bool) → length (cond b (ps ++ qs) (qs ++ ps)) ≡ length ps + length qs
+  either-count true = length-append ps qs
+  either-count false = length-append qs ps ∙ (let z : length qs + length ps ≡ length ps + length qs = omega arith in z)
+
+  -- one category's behind the other's, from the front of the room on
+  pub both-put : (room : List ℕ) {one two : List ℕ} {next : ℕ} → one ≡ storedAt 0 (pdosBytes ps) room → next ≡ length (pdosBytes ps) → two ≡ storedAt next (pdosBytes qs) one
+      → length (pdosBytes ps) + length (pdosBytes qs) ≤ length room → two ≡ over (pdosBytes (ps ++ qs)) room
+  both-put room e n f h =
+      let l = length-append (pdosBytes ps) (pdosBytes qs) in
+      f
+      ∙ stored-next 0 (pdosBytes ps) (pdosBytes qs) room (omega arith) e (omega arith)
+      ∙ stored-front (pdosBytes ps ++ pdosBytes qs) room (omega arith)
+      ∙ ap (λ (x : List ℕ). over x room) (sym (bytes-behind ps qs))
+
+pub pdos-counted : (is os : List (List ℕ)) → length (pdosFrom is os) ≡ length (partsOf pdoLong (frontContent is)) + length (partsOf pdoLong (frontContent os))
+unfolding pdosFrom
+pdos-counted is os =
+    either-count (pdosFor 1 (frontContent is)) (pdosFor 2 (frontContent os)) (another 51 is)
+    ∙ ap₂ _+_ (pdos-count 1 (frontContent is) (omega arith)) (pdos-count 2 (frontContent os) (omega arith))
+
+-- the one order or the other, as it is asked
+pub in-order : (is os : List (List ℕ)) {i o : List ℕ} (b : Bool) → another 51 is ≡ b → i ≡ frontContent is → o ≡ frontContent os
+    → cond b (pdosFor 1 i ++ pdosFor 2 o) (pdosFor 2 o ++ pdosFor 1 i) ≡ pdosFrom is os
+unfolding pdosFrom
+in-order is os b e x y = λ k. cond (sym e k) (pdosFor 1 (x k) ++ pdosFor 2 (y k)) (pdosFor 2 (y k) ++ pdosFor 1 (x k))

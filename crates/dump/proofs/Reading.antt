@@ -1,0 +1,111 @@
+-- What `read` answers, by what its tests found.
+-- Assumes nothing.
+use mathlib.Core.Path.{_≡_, sym, _∙_, ap, ap₂}
+use mathlib.Core.Bool.{Bool, true, false}
+use mathlib.Core.List.{List, map}
+use Prim.Native.Nat.{ℕ, _*_}
+use lib.ListN.{length}
+use lib.Dec.{ltb}
+use borrow.Author.Tests.{ltb-false}
+use Rattle.wire.specs.Lists.{someOf}
+use Rattle.wire.specs.Outcome.{Outcome, refused, accepted}
+use Rattle.wire.specs.Room.{over}
+use Rattle.wire.proofs.Lists.{or-none}
+use Rattle.area.specs.Area.{flat}
+use Rattle.writer.specs.Form.{pdoBytes}
+use Rattle.sheet.specs.declared.Answer.the-variants.{Accepted}
+use Rattle.sheet.specs.declared.Device.{Device}
+use Rattle.sheet.specs.declared.SheetRead.{SheetRead}
+use Rattle.sheet.specs.Device.{Data, dataOf}
+use Rattle.sheet.specs.Sheet.{answerOf, sheetReadOf}
+use Rattle.writer.proofs.Keeps.{Keeps}
+use Rattle.dump.specs.declared.Head.{Head}
+use Rattle.dump.specs.Categories.{categories, contentFor, unended}
+use Rattle.dump.specs.Records.{managerFor, pdosIn, notWhole, second, notRecords}
+use Rattle.dump.specs.Dump.{managersFor, usagesFor, dumpData, ruleBroken, someUnnamed, recordsOf, readDump, deviceWith, deviceAfter, recordsAfter, ReadsDump}
+use Rattle.dump.specs.Looked.{fromType, frontContent, notRecordsFrom, pdosFrom}
+use Rattle.dump.proofs.Looked.{front-is, single, records-looked, pdos-looked}
+use Rattle.dump.proofs.Kept.{records-long}
+use Rattle.dump.proofs.Held.{data-back}
+
+-- the dump from the first category of each of the four types on
+pub record Found (cs : List (List ℕ)) (fmmus managers inputs outputs : List ℕ) : Type 0 where
+  pub fmmus-from : categories fmmus ≡ fromType 40 cs
+  pub managers-from : categories managers ≡ fromType 41 cs
+  pub inputs-from : categories inputs ≡ fromType 50 cs
+  pub outputs-from : categories outputs ≡ fromType 51 cs
+
+-- the content of the first of a type
+pub content-is : (t : ℕ) (cs : List (List ℕ)) (from : List ℕ) {l : List ℕ} → categories from ≡ fromType t cs → l ≡ frontContent (categories from) → l ≡ contentFor t cs
+content-is t cs from e q = q ∙ ap frontContent e ∙ front-is t cs
+
+module _ {cs : List (List ℕ)} {f m i o : List ℕ} (e : Found cs f m i o) where
+  pub not-records-is : notRecordsFrom (categories f) (categories m) (categories i) (categories o) ≡ notRecords cs
+  not-records-is = (λ k. notRecordsFrom (e .fmmus-from k) (e .managers-from k) (e .inputs-from k) (e .outputs-from k)) ∙ records-looked cs
+
+  pub pdos-are : notRecords cs ≡ false → pdosFrom (categories i) (categories o) ≡ pdosIn cs
+  unfolding notRecords
+  pdos-are w = (λ k. pdosFrom (e .inputs-from k) (e .outputs-from k)) ∙ pdos-looked cs (single cs (or-none (someOf notWhole cs) (second cs) w .1))
+
+module _ (h : Head) (dump room : List ℕ) where
+  abbrev cs : List (List ℕ)
+  cs = categories dump
+
+  abbrev x : Data
+  x = dumpData h cs
+
+  -- the conditions of 4 and of 12
+  abbrev pub Broken : Bool
+  Broken = ruleBroken (h .flags) (map managerFor (managersFor cs)) (usagesFor cs) (length (pdosIn cs))
+
+  abbrev pub Short : Bool
+  Short = ltb (length room) (length (recordsOf x))
+
+  -- the refusals in their order
+  module _ {r : SheetRead} {n : ℕ} (e : r ≡ sheetReadOf (refused n)) where
+    refuses : readDump h dump room ≡ refused n → ReadsDump h dump room r room
+    refuses o =
+        record {
+          says = ap (λ (r : SheetRead). answerOf (r .answer) (dataOf (r .device) room)) e ∙ sym o;
+          holds = ap (λ (r : SheetRead). r .device) e ∙ ap (deviceAfter h) (sym o);
+          leaves = ap (λ (o : Outcome Data). recordsAfter o room) (sym o);
+        }
+
+  pub reads-16 : {r : SheetRead} → r ≡ sheetReadOf (refused 16) → unended dump ≡ true → ReadsDump h dump room r room
+  unfolding readDump
+  reads-16 e a = refuses e (rw a)
+
+  pub reads-17 : {r : SheetRead} → r ≡ sheetReadOf (refused 17) → unended dump ≡ false → notRecords cs ≡ true → ReadsDump h dump room r room
+  unfolding readDump
+  reads-17 e a b = refuses e (rw (a, b))
+
+  pub reads-4 : {r : SheetRead} → r ≡ sheetReadOf (refused 4) → unended dump ≡ false → notRecords cs ≡ false → Broken ≡ true → ReadsDump h dump room r room
+  unfolding readDump
+  reads-4 e a b c = refuses e (rw (a, b, c))
+
+  pub reads-5 :
+      {r : SheetRead} → r ≡ sheetReadOf (refused 5) → unended dump ≡ false → notRecords cs ≡ false → Broken ≡ false → someUnnamed cs ≡ true → ReadsDump h dump room r room
+  unfolding readDump
+  reads-5 e a b c d = refuses e (rw (a, b, c, d))
+
+  pub reads-12 :
+      {r : SheetRead} → r ≡ sheetReadOf (refused 12) → unended dump ≡ false → notRecords cs ≡ false → Broken ≡ false → someUnnamed cs ≡ false → Short ≡ true
+      → ReadsDump h dump room r room
+  unfolding readDump
+  reads-12 e a b c d f = refuses e (rw (a, b, c, d, f))
+
+  -- the room is too short by what the PDOs take
+  pub short-is : {p : ℕ} → p ≡ length (pdosIn cs) → Short ≡ ltb (length room) (7 * p)
+  unfolding dumpData
+  short-is e = ap (ltb (length room)) (records-long h cs ∙ ap (λ (k : ℕ). 7 * k) (sym e))
+
+  -- none of them: the data, and its records in the room
+  pub reads-data :
+      {d : Device} {after : List ℕ} → unended dump ≡ false → notRecords cs ≡ false → Broken ≡ false → someUnnamed cs ≡ false → Short ≡ false → Keeps x
+      → d ≡ deviceWith h (map managerFor (managersFor cs)) (usagesFor cs) (length (pdosIn cs)) → after ≡ over (flat (map pdoBytes (pdosIn cs))) room
+      → ReadsDump h dump room (record { answer = Accepted; device = d }) after
+  unfolding readDump dumpData
+  reads-data a b c d f k p q =
+      let o : readDump h dump room ≡ accepted x = rw (a, b, c, d, f) in
+      let s : dataOf _ _ ≡ x = ap₂ dataOf p q ∙ data-back h cs k room (ltb-false (length room) (length (recordsOf x)) f) in
+      record { says = ap accepted s ∙ sym o; holds = p ∙ ap (deviceAfter h) (sym o); leaves = q ∙ ap (λ (o : Outcome Data). recordsAfter o room) (sym o) }

@@ -1,0 +1,260 @@
+-- `dump::read`: the test that led to each refusal says that it is the first that holds; else the records are put, and the record holds the data.
+-- Assumes nothing.
+use mathlib.Core.Path.{_≡_, sym, _∙_, ap, ap₂}
+use mathlib.Core.Bool.{Bool, false}
+use mathlib.Core.List.{List, map}
+use Prim.Native.Nat.{ℕ, _*_, _/_, _≤_}
+use native.Mathlib.Omega.{arith}
+use denote.Ref.{now}
+use lib.ListN.{length, length-map}
+use borrow.Author.Tests.{lt-ltb, le-ltb}
+use borrow.Author.Needs.{needs}
+use Rattle.wire.specs.Lists.{someOf}
+use Rattle.wire.specs.Room.{over}
+use Rattle.area.specs.Area.{flat}
+use Rattle.channel_bytes.specs.Bytes.{unnamed}
+use Rattle.sheet.specs.Device.{Pdo}
+use Rattle.writer.specs.Form.{pdoBytes}
+use Rattle.writer.proofs.Keeps.{Keeps}
+use Rattle.dump.specs.declared.Head.{Head}
+use Rattle.dump.specs.Categories.{categories, contentFor, unended}
+use Rattle.dump.specs.Parts.{partsOf}
+use Rattle.dump.specs.Records.{usageFor, managerLong, controlIn, managerFor, pdosIn, notRecords}
+use Rattle.dump.specs.Dump.{managersFor, usagesFor, dumpData, ruleBroken, someUnnamed, deviceWith}
+use Rattle.dump.proofs.Managers.{managers-many}
+use Rattle.dump.proofs.Kept.{keeps-rule, dump-keeps}
+use Rattle.dump.proofs.Reading.{Found, content-is, not-records-is, pdos-are, Broken, short-is, reads-16, reads-17, reads-4, reads-5, reads-12, reads-data}
+use Rattle.dump.proofs.read.Statement.{statement}
+use Rattle.dump.proofs.read.Tie as tie
+
+-- the call, and what is found of its dump
+module _ (c : tie.After-from-type4) where
+  abbrev head : Head
+  head = c .before .before .before .before .before .before .before .before .args .head
+
+  abbrev dump : List ℕ
+  dump = now (c .before .before .before .before .before .before .before .before .args .dump)
+
+  abbrev room : List ℕ
+  room = now (c .before .before .before .before .before .before .before .before .args .room)
+
+  ended : unended dump ≡ false
+  ended = let e = c .before .before .before .before in sym (e .before .unended .ensures) ∙ e .if1 .left
+
+  found : Found (categories dump) (now (c .before .before .before .from-type .result)) (now (c .before .before .from-type2 .result)) (now (c .before .from-type3 .result)) (now (c .from-type4 .result))
+  found =
+      record {
+        fmmus-from = c .before .before .before .from-type .ensures;
+        managers-from = c .before .before .from-type2 .ensures;
+        inputs-from = c .before .from-type3 .ensures;
+        outputs-from = c .from-type4 .ensures;
+      }
+
+-- 17
+records : (c : tie.After-not-records) {b : Bool} → c .not-records .result ≡ b → notRecords (categories (dump (c .before))) ≡ b
+records c e = sym (not-records-is (found (c .before))) ∙ sym (c .not-records .ensures) ∙ e
+
+-- the contents of the four, where 17 isn't given
+module _ (c : tie.After-pdo-count) where
+  abbrev found-at : tie.After-from-type4
+  found-at = c .before .before .before .before .before
+
+  abbrev categories-at : List (List ℕ)
+  categories-at = categories (dump found-at)
+
+  whole : notRecords categories-at ≡ false
+  whole = records (c .before .before .before .before) (c .before .before .before .if2 .left)
+
+  usages-at : now (c .before .before .content .result) ≡ contentFor 40 categories-at
+  usages-at = content-is 40 categories-at _ (found found-at .fmmus-from) (c .before .before .content .ensures)
+
+  managers-at : now (c .before .content2 .result) ≡ contentFor 41 categories-at
+  managers-at = content-is 41 categories-at _ (found found-at .managers-from) (c .before .content2 .ensures)
+
+  count-at : c .pdo-count .result ≡ length (pdosIn categories-at)
+  count-at = c .pdo-count .ensures ∙ ap length (pdos-are (found found-at) whole)
+
+-- 4
+rule : (c : tie.After-rule-broken) {b : Bool} → c .rule-broken .result ≡ b → Broken (head (found-at (c .before))) (dump (found-at (c .before))) (room (found-at (c .before))) ≡ b
+rule c e =
+    let p = c .before in
+    sym (λ i. ruleBroken (head (found-at p) .flags) (map managerFor (partsOf managerLong (managers-at p i))) (map usageFor (usages-at p i)) (count-at p i))
+    ∙ sym (c .rule-broken .ensures)
+    ∙ e
+
+-- what it says of the counts, where it isn't given
+counts : (c : tie.After-rule-broken) → c .rule-broken .result ≡ false
+    → (c .before .pdo-count .result ≤ 255) × (length (now (c .before .before .content2 .result)) / 8 ≤ 16) × (length (now (c .before .before .before .content .result)) ≤ 16)
+counts c e =
+    let p = c .before in
+    let cs = categories-at p in
+    let k = keeps-rule (head (found-at p) .flags) (map managerFor (managersFor cs)) (usagesFor cs) (length (pdosIn cs)) (rule c e) in
+    let m = managers-many (contentFor 41 cs) in
+    let n = ap length (managers-at p) in
+    let u = length-map (contentFor 40 cs) usageFor in
+    let v = ap length (usages-at p) in
+    (omega (arith, count-at p), omega arith, omega arith)
+
+-- so the data has a sheet: at every call the sizes and the dump's bytes are in the range of their types
+kept : (c : tie.After-from-type4) → Broken (head c) (dump c) (room c) ≡ false → Keeps (dumpData (head c) (categories (dump c)))
+kept c b =
+    let s = c .before .before .before .before .before .before in
+    dump-keeps (head c) (dump c) (search needs) (search needs) (record { below = λ k. s .before .shared-slice-known .given k .fits }) b
+
+-- 5
+controls : (c : tie.After-some-control-unnamed) {b : Bool} → c .some-control-unnamed .result ≡ b → someUnnamed (categories-at (c .before .before .before)) ≡ b
+controls c e =
+    sym (ap (λ (l : List ℕ). someOf (λ r. unnamed (controlIn r)) (partsOf managerLong l)) (managers-at (c .before .before .before)))
+    ∙ sym (c .some-control-unnamed .ensures)
+    ∙ e
+
+unended-requires : tie.Need-unended-requires
+unended-requires c κs = tt
+
+refused-requires : tie.Need-refused-requires
+refused-requires c κs = tt
+
+returns : tie.Need-returns
+returns c =
+    let u = c .before .before in
+    let a = u .before .before .before .args in
+    reads-16 (a .head) (now (a .dump)) (now (a .room)) (c .refused .ensures) (sym (u .unended .ensures) ∙ c .before .if1 .taken)
+
+from-type-requires : tie.Need-from-type-requires
+from-type-requires c κs = tt
+
+from-type-requires-2 : tie.Need-from-type-requires-2
+from-type-requires-2 c κs = tt
+
+from-type-requires-3 : tie.Need-from-type-requires-3
+from-type-requires-3 c κs = tt
+
+from-type-requires-4 : tie.Need-from-type-requires-4
+from-type-requires-4 c κs = tt
+
+not-records-requires : tie.Need-not-records-requires
+not-records-requires c κs = tt
+
+refused-requires-2 : tie.Need-refused-requires-2
+refused-requires-2 c κs = tt
+
+returns-2 : tie.Need-returns-2
+returns-2 c =
+    let n = c .before .before in
+    let f = n .before in
+    reads-17 (head f) (dump f) (room f) (c .refused2 .ensures) (ended f) (records n (c .before .if2 .taken))
+
+content-requires : tie.Need-content-requires
+content-requires c κs = tt
+
+content-requires-2 : tie.Need-content-requires-2
+content-requires-2 c κs = tt
+
+pdo-count-requires : tie.Need-pdo-count-requires
+pdo-count-requires c κs = tt
+
+rule-broken-requires : tie.Need-rule-broken-requires
+rule-broken-requires c κs = tt
+
+refused-requires-3 : tie.Need-refused-requires-3
+refused-requires-3 c κs = tt
+
+returns-3 : tie.Need-returns-3
+returns-3 c =
+    let r = c .before .before in
+    let p = r .before in
+    let f = found-at p in
+    reads-4 (head f) (dump f) (room f) (c .refused3 .ensures) (ended f) (whole p) (rule r (c .before .if3 .taken))
+
+some-control-unnamed-requires : tie.Need-some-control-unnamed-requires
+some-control-unnamed-requires c κs = tt
+
+refused-requires-4 : tie.Need-refused-requires-4
+refused-requires-4 c κs = tt
+
+returns-4 : tie.Need-returns-4
+returns-4 c =
+    let u = c .before .before in
+    let e = u .before in
+    let p = e .before .before in
+    let f = found-at p in
+    reads-5 (head f) (dump f) (room f) (c .refused4 .ensures) (ended f) (whole p) (rule (e .before) (e .if3 .left)) (controls u (c .before .if4 .taken))
+
+mul-if5 : tie.Need-mul-if5
+mul-if5 c = let k = counts (c .before .before .before) (c .before .before .if3 .left) in omega arith
+
+refused-requires-5 : tie.Need-refused-requires-5
+refused-requires-5 c κs = tt
+
+returns-5 : tie.Need-returns-5
+returns-5 c =
+    let u = c .before .before .before in
+    let e = u .before in
+    let p = e .before .before in
+    let f = found-at p in
+    reads-12 (head f) (dump f) (room f) (c .refused5 .ensures) (ended f) (whole p) (rule (e .before) (e .if3 .left)) (controls u (c .before .before .if4 .left))
+    (short-is (head f) (dump f) (room f) (count-at p) ∙ lt-ltb (length (room f)) (7 * p .pdo-count .result) (c .before .if5 .taken))
+
+put-records-requires : tie.Need-put-records-requires
+put-records-requires c κs = search needs
+
+cast-device-of : tie.Need-cast-device-of
+cast-device-of c =
+    let e = c .before .before .before .before .before .before .before in
+    let k = counts (e .before) (e .if3 .left) in
+    record { fits = omega arith }
+
+device-of-requires : tie.Need-device-of-requires
+device-of-requires c κs =
+    let e = c .before .before .before .before .before .before .before in
+    let k = counts (e .before) (e .if3 .left) in
+    (k .1, k .2)
+
+same-length : tie.Need-same-length
+same-length c = search needs
+
+returns-6 : tie.Need-returns-6
+returns-6 c =
+    let put = c .before .before .before in
+    let last = put .before .before in
+    let u = last .before .before in
+    let e = u .before in
+    let p = e .before .before in
+    let f = found-at p in
+    let fits = short-is (head f) (dump f) (room f) (count-at p) ∙ le-ltb (length (room f)) (7 * p .pdo-count .result) (omega (arith, last .if5 .left)) in
+    let b = rule (e .before) (e .if3 .left) in
+    let stored = put .put-records .ensures ∙ ap (λ (ps : List Pdo). over (flat (map pdoBytes ps)) (room f)) (pdos-are (found f) (whole p)) in
+    let held = c .device-of .ensures ∙ (λ i. deviceWith (head f) (map managerFor (partsOf managerLong (managers-at p i))) (map usageFor (usages-at p i)) (count-at p i)) in
+    reads-data (head f) (dump f) (room f) (ended f) (whole p) b (controls u (last .before .if4 .left)) fits (kept f b) held stored
+
+pub read-spec : {M : Type 1} → statement M
+read-spec =
+    tie.close
+    (tie.spec
+    unended-requires
+    refused-requires
+    returns
+    from-type-requires
+    from-type-requires-2
+    from-type-requires-3
+    from-type-requires-4
+    not-records-requires
+    refused-requires-2
+    returns-2
+    content-requires
+    content-requires-2
+    pdo-count-requires
+    rule-broken-requires
+    refused-requires-3
+    returns-3
+    some-control-unnamed-requires
+    refused-requires-4
+    returns-4
+    mul-if5
+    refused-requires-5
+    returns-5
+    put-records-requires
+    cast-device-of
+    device-of-requires
+    same-length
+    returns-6)

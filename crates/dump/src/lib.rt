@@ -1,0 +1,452 @@
+// A device's own EEPROM dump: the category area of ETG2010, read as device data of the EEPROM path.
+ghost use mathlib.Core.Path.{_≡_};
+ghost use mathlib.Core.Bool.{_||_};
+ghost use mathlib.Core.List.{map, _++_};
+ghost use Prim.Native.Nat.{_+_, _*_, _-_, _/_, _≤_, _<_};
+ghost use lib.ListN.{length, drop, replicate};
+ghost use lib.Dec.{ltb};
+ghost use Rattle.wire.specs.Number.{littleAt};
+ghost use Rattle.wire.specs.Lists.{someOf};
+ghost use Rattle.wire.specs.Room.{over};
+ghost use Rattle.area.specs.Area.{flat, storedAt};
+ghost use Rattle.channel_bytes.specs.Bytes.{unnamed};
+ghost use Rattle.sheet.specs.Sheet.{noManager};
+ghost use Rattle.writer.specs.Form.{pdoBytes};
+ghost use Rattle.dump.specs.Parts as Parts;
+ghost use Rattle.dump.specs.Parts.{partsOf, restOf};
+ghost use Rattle.dump.specs.Categories.{categoryLong, categories};
+ghost use Rattle.dump.specs.Categories as Categories;
+ghost use Rattle.dump.specs.Looked.{otherLong, fromType, frontContent, another, notRecordsFrom, pdosFrom};
+ghost use Rattle.dump.specs.Records.{usageFor, managerLong, controlIn, managerFor, pdoLong, bitsIn, pdoFor, pdosFor, some};
+ghost use Rattle.dump.specs.Dump.{ruleBroken, deviceWith, ReadsDump, WritesSheet};
+use channel_bytes::Control;
+use pdi::ByteLen;
+use sheet::Answer;
+use sheet::Device;
+use sheet::SheetRead;
+use sheet::SyncManager;
+use wire::Written;
+
+// What a sheet's head says and a category area doesn't: the flags, as in its byte 3, and the mailboxes' sizes.
+pub struct Head {
+    pub flags: u8,
+    pub receive_size: ByteLen,
+    pub send_size: ByteLen,
+}
+
+// The types of the categories that device data is made of, and the type that is the end mark.
+const FMMU: u16 = 40;
+
+const SYNC_MANAGER: u16 = 41;
+
+const TX_PDO: u16 = 50;
+
+const RX_PDO: u16 = 51;
+
+const END_MARK: u16 = 0xffff;
+
+// What a sheet calls the PDOs of a TxPDO category, and of an RxPDO category.
+const INPUT: u8 = 1;
+
+const OUTPUT: u8 = 2;
+
+// The number in the first two bytes, the low one first; past the end there is 0.
+fn word(bytes: &[u8]) -> u16
+    ensures { λ r. ⌜ r ≡ littleAt (now (bytes .entry)) 0 2 ⌝ }
+{
+    wire::le16(wire::byte_at(bytes, 0), wire::byte_at(bytes, 1))
+}
+
+// n bytes at the front, where there are so many; else 0.
+fn whole(n: usize, bytes: &[u8]) -> usize
+    ensures { λ r. ⌜ r ≡ Parts.whole n (now (bytes .entry)) ⌝ }
+{
+    if bytes.len() < n {
+        return 0;
+    }
+    n
+}
+
+// How long the category at the front is; 0 where none stands there.
+fn category_long(rest: &[u8]) -> usize
+    ensures { λ r. ⌜ r ≡ categoryLong (now (rest .entry)) ⌝ }
+{
+    if word(rest) == END_MARK {
+        return 0;
+    }
+    let words = word(wire::behind(rest, 2)) as usize;
+    whole(4 + 2 * words, rest)
+}
+
+// The same, but 0 also where it is of the type that is looked for.
+fn other_long(rest: &[u8], kind: u16) -> usize
+    ensures { λ r. ⌜ r ≡ otherLong kind (now (rest .entry)) ⌝ }
+{
+    if word(rest) == kind {
+        return 0;
+    }
+    category_long(rest)
+}
+
+// Where the first category of a type begins; where there is none, where the categories end.
+fn place_of(dump: &[u8], kind: u16) -> usize
+    ensures { λ r. ⌜ drop r (now (dump .entry)) ≡ restOf (otherLong kind) (now (dump .entry)) ⌝ }
+{
+    let mut at = 0;
+    let mut long = other_long(dump, kind);
+    while 0 < long {
+        at += long;
+        long = other_long(wire::behind(dump, at), kind);
+    }
+    at
+}
+
+// 16: whether a category runs past the dump, or there is no end mark.
+fn unended(dump: &[u8]) -> bool
+    ensures { λ r. ⌜ r ≡ Categories.unended (now (dump .entry)) ⌝ }
+{
+    word(wire::behind(dump, place_of(dump, END_MARK))) != END_MARK
+}
+
+// The dump from the first category of a type on.
+fn from_type(dump: &[u8], kind: u16) -> &[u8]
+    ensures { λ r. ⌜ categories (now r) ≡ fromType kind (categories (now (dump .entry))) ⌝ }
+{
+    wire::behind(dump, place_of(dump, kind))
+}
+
+// The content of the category at the front; where none stands there, nothing.
+fn content(rest: &[u8]) -> &[u8]
+    ensures { λ r. ⌜ now r ≡ frontContent (categories (now (rest .entry))) ⌝ }
+{
+    wire::behind(wire::front(rest, category_long(rest)), 4)
+}
+
+// Whether one of a type stands behind the category at the front.
+fn follows(rest: &[u8], kind: u16) -> bool
+    ensures { λ r. ⌜ r ≡ another kind (categories (now (rest .entry))) ⌝ }
+{
+    let next = wire::behind(rest, category_long(rest));
+    0 < category_long(from_type(next, kind))
+}
+
+// Whether a second category of a type stands there, given the dump from the first of each on.
+fn second(fmmus: &[u8], managers: &[u8], inputs: &[u8], outputs: &[u8]) -> bool
+    ensures { λ r. ⌜ r ≡ another 40 (categories (now (fmmus .entry))) || (another 41 (categories (now (managers .entry))) || (another 50 (categories (now (inputs .entry))) || another 51 (categories (now (outputs .entry))))) ⌝ }
+{
+    if follows(fmmus, FMMU) {
+        return true;
+    }
+    if follows(managers, SYNC_MANAGER) {
+        return true;
+    }
+    if follows(inputs, TX_PDO) {
+        return true;
+    }
+    follows(outputs, RX_PDO)
+}
+
+// A sync manager, from its record at the front.
+fn manager(rest: &[u8]) -> SyncManager
+    ensures { λ r. ⌜ r ≡ managerFor (now (rest .entry)) ⌝ }
+{
+    SyncManager {
+        start_addr: word(rest),
+        control: Control::named(wire::byte_at(rest, 4)),
+        enable: wire::flag(wire::byte_at(rest, 6), 0),
+        usage_type: wire::byte_at(rest, 7),
+    }
+}
+
+// Whether a sync manager's usage has no name.
+fn some_manager_unnamed(records: &[u8]) -> bool
+    ensures { λ r. ⌜ r ≡ someOf (λ m. ltb 4 (m .«usage_type»)) (map managerFor (partsOf managerLong (now (records .entry)))) ⌝ }
+{
+    let n = records.len() / 8;
+    let mut k = 0;
+    while k < n {
+        if 4 < records[8 * k + 7] {
+            return true;
+        }
+        k += 1;
+    }
+    false
+}
+
+// 5: whether a control has no name.
+fn some_control_unnamed(records: &[u8]) -> bool
+    ensures { λ r. ⌜ r ≡ someOf (λ m. unnamed (controlIn m)) (partsOf managerLong (now (records .entry))) ⌝ }
+{
+    let n = records.len() / 8;
+    let mut k = 0;
+    while k < n {
+        if Control::unnamed(records[8 * k + 4]) {
+            return true;
+        }
+        k += 1;
+    }
+    false
+}
+
+// The sync managers.
+fn managers_of(records: &[u8]) -> [SyncManager; 16]
+    requires { ⌜ length (now records) / 8 ≤ 16 ⌝ }
+    ensures { λ r. ⌜ r ≡ map managerFor (partsOf managerLong (now (records .entry))) ++ replicate (16 - length (now (records .entry)) / 8) noManager ⌝ }
+{
+    let n = records.len() / 8;
+    let mut list = [sheet::NO_MANAGER; 16];
+    let mut k = 0;
+    while k < n {
+        list[k] = manager(wire::behind(records, 8 * k));
+        k += 1;
+    }
+    list
+}
+
+// An FMMU's usage: 0xFF is unused.
+fn usage(byte: u8) -> u8
+    ensures { λ r. ⌜ r ≡ usageFor byte ⌝ }
+{
+    if byte == 0xff {
+        return 0;
+    }
+    byte
+}
+
+// Whether an FMMU's usage has no name.
+fn some_usage_unnamed(bytes: &[u8]) -> bool
+    ensures { λ r. ⌜ r ≡ someOf (ltb 3) (map usageFor (now (bytes .entry))) ⌝ }
+{
+    let mut k = 0;
+    while k < bytes.len() {
+        if 3 < usage(bytes[k]) {
+            return true;
+        }
+        k += 1;
+    }
+    false
+}
+
+// The FMMU usages.
+fn usages_of(bytes: &[u8]) -> [u8; 16]
+    requires { ⌜ length (now bytes) ≤ 16 ⌝ }
+    ensures { λ r. ⌜ r ≡ map usageFor (now (bytes .entry)) ++ replicate (16 - length (now (bytes .entry))) 0 ⌝ }
+{
+    let mut list = [0u8; 16];
+    let mut k = 0;
+    while k < bytes.len() {
+        list[k] = usage(bytes[k]);
+        k += 1;
+    }
+    list
+}
+
+// How long the PDO record at the front is; 0 where none stands there.
+fn pdo_long(rest: &[u8]) -> usize
+    ensures { λ r. ⌜ r ≡ pdoLong (now (rest .entry)) ⌝ }
+{
+    whole(8 + 8 * wire::wide(wire::byte_at(rest, 2)), rest)
+}
+
+// PDO records from the front on: how many stand there, and where the last one ends.
+struct Records {
+    count: usize,
+    end: usize,
+}
+
+fn pdo_records(bytes: &[u8]) -> Records
+    ensures { λ r. ⌜ (r .count ≡ length (partsOf pdoLong (now (bytes .entry)))) × (drop (r .end) (now (bytes .entry)) ≡ restOf pdoLong (now (bytes .entry))) × (r .count ≤ r .end) × (r .end ≤ length (now (bytes .entry))) ⌝ }
+{
+    let mut count = 0;
+    let mut end = 0;
+    let mut long = pdo_long(bytes);
+    while 0 < long {
+        end += long;
+        count += 1;
+        long = pdo_long(wire::behind(bytes, end));
+    }
+    Records { count, end }
+}
+
+// A PDO's bits: its entries' together.
+fn bits(rest: &[u8]) -> u16
+    ensures { λ r. ⌜ r ≡ bitsIn (now (rest .entry)) ⌝ }
+{
+    let entries = wire::wide(wire::byte_at(rest, 2));
+    let mut sum = 0;
+    let mut k = 0;
+    while k < entries {
+        sum += wire::byte_at(rest, 8 + 8 * k + 5) as u16;
+        k += 1;
+    }
+    sum
+}
+
+// A PDO as a sheet has it, from its record at the front.
+fn pdo_bytes(rest: &[u8], kind: u8) -> [u8; 7]
+    requires { ⌜ 0 < kind ⌝ }
+    ensures { λ r. ⌜ r ≡ pdoBytes (pdoFor kind (now (rest .entry))) ⌝ }
+{
+    let index = wire::be16_bytes(word(rest));
+    let bits = wire::be16_bytes(bits(rest));
+    [
+        kind,
+        wire::byte_at(rest, 3),
+        index[0],
+        index[1],
+        2,
+        bits[0],
+        bits[1],
+    ]
+}
+
+// Stores PDOs as a sheet has them, from a place on, and answers where they end.
+fn put_pdos(bytes: &[u8], kind: u8, room: &mut [u8], to: usize) -> usize
+    requires { ⌜ (0 < kind) × (to + 7 * length (partsOf pdoLong (now bytes)) ≤ length (now room)) ⌝ }
+    ensures { λ r. ⌜ (r ≡ to + 7 * length (partsOf pdoLong (now (bytes .entry)))) × (now (room .exit) ≡ storedAt to (flat (map pdoBytes (pdosFor kind (now (bytes .entry))))) (now (room .entry))) ⌝ }
+{
+    let mut at = 0;
+    let mut place = to;
+    let mut long = pdo_long(bytes);
+    while 0 < long {
+        let rest = wire::behind(bytes, at);
+        area::store(&pdo_bytes(rest, kind), room, place);
+        at += long;
+        place += 7;
+        long = pdo_long(wire::behind(bytes, at));
+    }
+    place
+}
+
+// Whether PDO records don't end with the bytes.
+fn pdos_cut(bytes: &[u8]) -> bool
+    ensures { λ r. ⌜ r ≡ some (restOf pdoLong (now (bytes .entry))) ⌝ }
+{
+    let all = pdo_records(bytes);
+    all.end < bytes.len()
+}
+
+// 17: whether a category isn't whole records, or there is a second one of a type, given the dump from the first of each on.
+fn not_records(fmmus: &[u8], managers: &[u8], inputs: &[u8], outputs: &[u8]) -> bool
+    ensures { λ r. ⌜ r ≡ notRecordsFrom (categories (now (fmmus .entry))) (categories (now (managers .entry))) (categories (now (inputs .entry))) (categories (now (outputs .entry))) ⌝ }
+{
+    if second(fmmus, managers, inputs, outputs) {
+        return true;
+    }
+    let records = content(managers);
+    if records.len() % 8 != 0 {
+        return true;
+    }
+    if pdos_cut(content(inputs)) {
+        return true;
+    }
+    pdos_cut(content(outputs))
+}
+
+// How many PDOs there are, given the dump from the first category of each type on.
+fn pdo_count(inputs: &[u8], outputs: &[u8]) -> usize
+    ensures { λ r. ⌜ r ≡ length (pdosFrom (categories (now (inputs .entry))) (categories (now (outputs .entry)))) ⌝ }
+{
+    let tx = pdo_records(content(inputs));
+    let rx = pdo_records(content(outputs));
+    tx.count + rx.count
+}
+
+// Stores the PDOs of two categories, the one's behind the other's, from the front of the room on.
+fn put_both(first: &[u8], kind: u8, last: &[u8], other: u8, room: &mut [u8])
+    requires { ⌜ (0 < kind) × (0 < other) × (7 * (length (partsOf pdoLong (now first)) + length (partsOf pdoLong (now last))) ≤ length (now room)) ⌝ }
+    ensures { λ r. ⌜ now (room .exit) ≡ over (flat (map pdoBytes (pdosFor kind (now (first .entry)) ++ pdosFor other (now (last .entry))))) (now (room .entry)) ⌝ }
+{
+    let next = put_pdos(first, kind, room, 0);
+    put_pdos(last, other, room, next);
+}
+
+// Stores the PDOs as a sheet has them, in dump order: the inputs' category first where the outputs' stands behind it.
+fn put_records(inputs: &[u8], outputs: &[u8], room: &mut [u8])
+    requires { ⌜ 7 * length (pdosFrom (categories (now inputs)) (categories (now outputs))) ≤ length (now room) ⌝ }
+    ensures { λ r. ⌜ now (room .exit) ≡ over (flat (map pdoBytes (pdosFrom (categories (now (inputs .entry))) (categories (now (outputs .entry)))))) (now (room .entry)) ⌝ }
+{
+    let tx = content(inputs);
+    let rx = content(outputs);
+    if follows(inputs, RX_PDO) {
+        put_both(tx, INPUT, rx, OUTPUT, room);
+        return;
+    }
+    put_both(rx, OUTPUT, tx, INPUT, room);
+}
+
+// 4: whether another rule of the sheet is broken.
+fn rule_broken(flags: u8, records: &[u8], usages: &[u8], p: usize) -> bool
+    ensures { λ r. ⌜ r ≡ ruleBroken flags (map managerFor (partsOf managerLong (now (records .entry)))) (map usageFor (now (usages .entry))) p ⌝ }
+{
+    if 7 < flags {
+        return true;
+    }
+    if 16 < records.len() / 8 {
+        return true;
+    }
+    if 16 < usages.len() {
+        return true;
+    }
+    if 255 < p {
+        return true;
+    }
+    if some_manager_unnamed(records) {
+        return true;
+    }
+    some_usage_unnamed(usages)
+}
+
+// The record of what a dump holds.
+fn device_of(head: Head, records: &[u8], usages: &[u8], p: u8) -> Device
+    requires { ⌜ (length (now records) / 8 ≤ 16) × (length (now usages) ≤ 16) ⌝ }
+    ensures { λ r. ⌜ r ≡ deviceWith head (map managerFor (partsOf managerLong (now (records .entry)))) (map usageFor (now (usages .entry))) p ⌝ }
+{
+    Device {
+        has_mailbox: wire::flag(head.flags, 0),
+        coe_protocol: wire::flag(head.flags, 1),
+        complete_access: wire::flag(head.flags, 2),
+        receive_size: ByteLen(head.receive_size.0),
+        send_size: ByteLen(head.send_size.0),
+        managers: managers_of(records),
+        n: records.len() / 8,
+        usages: usages_of(usages),
+        f: usages.len(),
+        pdos: 0,
+        p,
+    }
+}
+
+// Reads a dump: device data, with what the caller gives, its PDO records written into the room from its front on. 16: a category runs past the dump,
+// or there is no end mark; 17: a category isn't whole records, or is a second one of its type; 4 and 5: as of a sheet; 12: the room is too short.
+pub fn read(dump: &[u8], head: Head, room: &mut [u8]) -> SheetRead
+    ensures { λ r. ⌜ ReadsDump head (now (dump .entry)) (now (room .entry)) r (now (room .exit)) ⌝ }
+{
+    if unended(dump) {
+        return sheet::refused(16);
+    }
+    let fmmus = from_type(dump, FMMU);
+    let managers = from_type(dump, SYNC_MANAGER);
+    let inputs = from_type(dump, TX_PDO);
+    let outputs = from_type(dump, RX_PDO);
+    if not_records(fmmus, managers, inputs, outputs) {
+        return sheet::refused(17);
+    }
+    let usages = content(fmmus);
+    let records = content(managers);
+    let p = pdo_count(inputs, outputs);
+    if rule_broken(head.flags, records, usages, p) {
+        return sheet::refused(4);
+    }
+    if some_control_unnamed(records) {
+        return sheet::refused(5);
+    }
+    if room.len() < 7 * p {
+        return sheet::refused(12);
+    }
+    put_records(inputs, outputs, room);
+    SheetRead {
+        answer: Answer::Accepted,
+        device: device_of(head, records, usages, p as u8),
+    }
+}
