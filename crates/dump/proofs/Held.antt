@@ -28,11 +28,11 @@ use Rattle.writer.proofs.Stands.{stands-behind}
 use Rattle.writer.proofs.Pdos.{pdos-read, pdos-fit}
 use Rattle.writer.proofs.Bytes.{all-bytes, pdo-bytes}
 use Rattle.writer.proofs.Lent.{same-end, fit-end}
-use Rattle.writer.proofs.Conditions.{keeps-data}
+use Rattle.writer.proofs.Conditions.{StartInRange, keeps-data}
 use Rattle.dump.specs.declared.Head.{Head}
 use Rattle.dump.specs.Records.{managerFor, pdosIn}
-use Rattle.dump.specs.Dump.{managersFor, usagesFor, dumpData, recordsOf, deviceWith}
-use Rattle.dump.proofs.Ranges.{each-append, behind-bytes, StartInRange}
+use Rattle.dump.specs.Dump.{managersFor, usagesFor, dumpData, pdoRecords, deviceWith}
+use Rattle.dump.proofs.Ranges.{each-append, behind-bytes}
 
 -- a list filled up to sixteen has sixteen, and what holds of each and of what fills it, holds of all
 module _ {A : Type 0} (l : List A) (z : A) where
@@ -55,7 +55,7 @@ front-records {s} r rest p e fit =
     ap (λ (n : ℕ). take n s) end ∙ ap (take (length r)) e ∙ take-append-seam r rest
 
 -- the data of categories that has a sheet, its record, and a room that its PDO records have been written into
-module _ (h : Head) (cs : List (List ℕ)) (k : Keeps (dumpData h cs)) (room : List ℕ) (fits : length (recordsOf (dumpData h cs)) ≤ length room) where
+module _ (h : Head) (cs : List (List ℕ)) (k : Keeps (dumpData h cs)) (room : List ℕ) (fits : length (pdoRecords (dumpData h cs)) ≤ length room) where
   abbrev x : Data
   x = dumpData h cs
 
@@ -72,14 +72,14 @@ module _ (h : Head) (cs : List (List ℕ)) (k : Keeps (dumpData h cs)) (room : L
   d = deviceWith h ms us (length ps)
 
   abbrev s : List ℕ
-  s = over (recordsOf x) room
+  s = over (pdoRecords x) room
 
   abbrev rest : List ℕ
-  rest = drop (length (recordsOf x)) room
+  rest = drop (length (pdoRecords x)) room
 
   -- there is room for the records, so they stand at its front
-  there : s ≡ recordsOf x ++ rest
-  there = over-front (recordsOf x) room fits
+  there : s ≡ pdoRecords x ++ rest
+  there = over-front (pdoRecords x) room fits
 
   -- record and room hold the data: no place of the lists that isn't used is read
   pub data-back : dataOf d s ≡ x
@@ -94,16 +94,20 @@ module _ (h : Head) (cs : List (List ℕ)) (k : Keeps (dumpData h cs)) (room : L
   whole : pdosFit (Writing.recordsOf d s) (length ps) 0 ≡ true
   unfolding dumpData
   whole =
-      let fit = pdos-fit ps 0 (k .pdos) (stands-behind [] (recordsOf x)) (zero-add (length (recordsOf x))) in
-      ap (λ (l : List ℕ). pdosFit l (length ps) 0) (front-records (recordsOf x) rest (length ps) there fit) ∙ fit
+      let fit = pdos-fit ps 0 (k .pdos) (stands-behind [] (pdoRecords x)) (zero-add (length (pdoRecords x))) in
+      ap (λ (l : List ℕ). pdosFit l (length ps) 0) (front-records (pdoRecords x) rest (length ps) there fit) ∙ fit
 
   module _ (room-bytes : Bytes room) where
-    -- in range, as what has a sheet is, and what fills the lists
+    -- bytes were written over bytes
+    room-holds : Bytes s
+    unfolding dumpData
+    room-holds = subst Bytes (sym there) (append-bytes (all-bytes KeepsPdo pdoBytes pdo-bytes ps (k .pdos)) (behind-bytes (length (pdoRecords x)) room room-bytes))
+
+    -- the record and the room are in range, as what has a sheet is, and what fills the lists
     pub device-range : InRange d s
     unfolding dumpData
     device-range =
         let starts = each-both KeepsManager KeepsManager StartInRange (λ m a b. a .start) ms (k .managers) (k .managers) in
-        let written = all-bytes KeepsPdo pdoBytes pdo-bytes ps (k .pdos) in
         record {
           receive = k .receive;
           send = k .send;
@@ -111,7 +115,7 @@ module _ (h : Head) (cs : List (List ℕ)) (k : Keeps (dumpData h cs)) (room : L
           starts = filled-each ms noManager StartInRange (16 - length ms) starts (omega arith);
           usages = filled-length us 0 (k .few-usages);
           count = k .few-pdos;
-          bytes = subst Bytes (sym there) (append-bytes written (behind-bytes (length (recordsOf x)) room room-bytes));
+          bytes = room-holds;
         }
 
     -- data that has a sheet is refused neither with 2 nor with 4

@@ -1,7 +1,7 @@
 -- Device data that a dump gives, where no rule of a sheet is broken: it has a sheet, which is at most 1,892 bytes and reads as that data.
 -- Assumes nothing.
 use mathlib.Core.Path.{_≡_, refl, sym, _∙_, ap}
-use mathlib.Core.Bool.{false}
+use mathlib.Core.Bool.{Bool, false, _||_}
 use mathlib.Core.List.{List, [], _∷_, _++_, map, append-assoc}
 use Prim.Native.Nat.{ℕ, zero, suc, _+_, _*_, _≤_, _<_}
 use native.Mathlib.Omega.{arith}
@@ -22,21 +22,22 @@ use Rattle.writer.proofs.Keeps.{KeepsManager, Keeps}
 use Rattle.writer.proofs.Parts.{managersBytes, pdosBytes, sheet-length}
 use Rattle.writer.proofs.Back.{kept-reads}
 use Rattle.writer.proofs.Rules.{unnamedUse}
+use Rattle.writer.proofs.Conditions.{StartInRange}
 use Rattle.dump.specs.declared.Head.{Head}
 use Rattle.dump.specs.Categories.{typeOf, categories, contentOf}
 use Rattle.dump.specs.Records.{managerFor, kindFor, pdosFor, pdosIn}
-use Rattle.dump.specs.Dump.{managersFor, usagesFor, dumpData, ruleBroken, recordsOf}
+use Rattle.dump.specs.Dump.{managersFor, usagesFor, dumpData, ruleBroken, pdoRecords}
 use Rattle.dump.proofs.Pdos.{pdos-count, pdos-long}
-use Rattle.dump.proofs.Ranges.{StartInRange, categories-bytes, starts-in-range, pdos-keep}
+use Rattle.dump.proofs.Ranges.{categories-bytes, starts-in-range, pdos-keep}
 
--- the bytes of PDOs after one another are their bytes after one another
+-- the bytes of two lists of PDOs, the second's behind the first's: a sheet has them one by one
 pub pdos-append : (ps qs : List Pdo) → pdosBytes (ps ++ qs) ≡ pdosBytes ps ++ pdosBytes qs
 unfolding flat
 pdos-append [] qs = refl
 pdos-append (p ∷ ps) qs = ap (λ (l : List ℕ). pdoBytes p ++ l) (pdos-append ps qs) ∙ sym (append-assoc (pdoBytes p) (pdosBytes ps) (pdosBytes qs))
 
 -- each PDO of a dump has seven bytes in a sheet, as its kind isn't 0
-pub records-long : (h : Head) (cs : List (List ℕ)) → length (recordsOf (dumpData h cs)) ≡ 7 * length (dumpData h cs .pdos)
+pub records-long : (h : Head) (cs : List (List ℕ)) → length (pdoRecords (dumpData h cs)) ≡ 7 * length (dumpData h cs .pdos)
 unfolding dumpData pdosIn flat
 records-long h [] = refl
 records-long h (c ∷ cs) =
@@ -49,11 +50,11 @@ records-long h (c ∷ cs) =
     seven (suc k) l = pdos-long (suc k) l (omega arith) ∙ ap (λ (n : ℕ). 7 * n) (sym (pdos-count (suc k) l (omega arith)))
 
 -- a sheet is as long as its parts: its head, five bytes of each sync manager, the usages, the PDO records
-sheet-long : (x : Data) → length (sheetOf x) ≡ 11 + 5 * length (x .managers) + length (x .usages) + length (recordsOf x)
+sheet-long : (x : Data) → length (sheetOf x) ≡ 11 + 5 * length (x .managers) + length (x .usages) + length (pdoRecords x)
 unfolding bodyBytes
 sheet-long x =
-    let a = length-append (managersBytes (x .managers)) (x .usages ++ recordsOf x) in
-    let b = length-append (x .usages) (recordsOf x) in
+    let a = length-append (managersBytes (x .managers)) (x .usages ++ pdoRecords x) in
+    let b = length-append (x .usages) (pdoRecords x) in
     omega (arith, sheet-length x, managers-long (x .managers))
 
 -- a sync manager's usage has a name
@@ -70,17 +71,22 @@ pub record KeepsRule (ms : List SyncManager) (us : List ℕ) (p : ℕ) : Type 0 
 
 pub keeps-rule : (flags : ℕ) (ms : List SyncManager) (us : List ℕ) (p : ℕ) → ruleBroken flags ms us p ≡ false → KeepsRule ms us p
 keeps-rule flags ms us p e =
-    let n = or-none (ltb 16 (length ms)) _ (or-none (ltb 7 flags) _ e .1) in
-    let f = or-none (ltb 16 (length us)) _ (n .1) in
-    let c = or-none (ltb 255 p) _ (f .1) in
-    let u = or-none (someOf unnamedUse ms) _ (c .1) in
+    let o = rules-apart (ltb 7 flags) (ltb 16 (length ms)) (ltb 16 (length us)) (ltb 255 p) (someOf unnamedUse ms) (someOf (ltb 3) us) e in
     record {
-      few-managers = ltb-false 16 (length ms) (n .0);
-      few-usages = ltb-false 16 (length us) (f .0);
-      few-pdos = ltb-false 255 p (c .0);
-      managers = none-of unnamedUse UseNamed (λ m. ltb-false 4 (m .«usage_type»)) ms (u .0);
-      usages = none-of (ltb 3) (λ (u : ℕ). u ≤ 3) (ltb-false 3) us (u .1);
+      few-managers = ltb-false 16 (length ms) (o .0);
+      few-usages = ltb-false 16 (length us) (o .1);
+      few-pdos = ltb-false 255 p (o .2);
+      managers = none-of unnamedUse UseNamed (λ m. ltb-false 4 (m .«usage_type»)) ms (o .3);
+      usages = none-of (ltb 3) (λ (u : ℕ). u ≤ 3) (ltb-false 3) us (o .4);
     }
+  where
+    rules-apart : (a b c d e f : Bool) → a || (b || (c || (d || (e || f)))) ≡ false → (b ≡ false) × (c ≡ false) × (d ≡ false) × (e ≡ false) × (f ≡ false)
+    rules-apart a b c d e f h =
+        let n = or-none b (c || (d || (e || f))) (or-none a (b || (c || (d || (e || f)))) h .1) in
+        let u = or-none c (d || (e || f)) (n .1) in
+        let p = or-none d (e || f) (u .1) in
+        let q = or-none e f (p .1) in
+        (n .0, u .0, p .0, q .0, q .1)
 
 -- the data of a dump, where its bytes and the caller's sizes are in range and no rule is broken
 module _ (h : Head) (dump : List ℕ) (receive : h .«receive_size» .0 < 65536) (send : h .«send_size» .0 < 65536) (bytes : Bytes dump)
@@ -99,22 +105,24 @@ module _ (h : Head) (dump : List ℕ) (receive : h .«receive_size» .0 < 65536)
   unfolding dumpData
   sheet-short = omega (arith, kept, sheet-long x, records-long h (categories dump))
 
+  -- each sync manager has a sheet: bytes bound its start address, the rules its usage
+  managers-keep : Each KeepsManager ms
+  managers-keep =
+      each-both StartInRange UseNamed KeepsManager (λ m a b. record { start = a; usage = b }) ms (starts-in-range (categories dump) (categories-bytes dump bytes)) (kept .managers)
+
   -- it has a sheet: bytes bound its numbers, the rules its counts and usages
   pub dump-keeps : Keeps x
   unfolding dumpData
   dump-keeps =
-      let k = kept in
-      let all = categories-bytes dump bytes in
-      let named = each-both StartInRange UseNamed KeepsManager (λ m a b. record { start = a; usage = b }) ms (starts-in-range (categories dump) all) (k .managers) in
       record {
         receive = receive;
         send = send;
-        few-managers = k .few-managers;
-        managers = named;
-        few-usages = k .few-usages;
-        usages = k .usages;
-        few-pdos = omega arith;
-        pdos = pdos-keep (categories dump) all;
+        few-managers = kept .few-managers;
+        managers = managers-keep;
+        few-usages = kept .few-usages;
+        usages = kept .usages;
+        few-pdos = omega (arith, kept);
+        pdos = pdos-keep (categories dump) (categories-bytes dump bytes);
         short = omega (arith, sheet-short, sheet-length x);
       }
 

@@ -11,3 +11,4 @@ pub mod Ranges
 pub mod Kept
 pub mod Held
 pub mod Reading
+pub mod Sheeting

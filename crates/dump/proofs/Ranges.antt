@@ -6,16 +6,16 @@ use mathlib.Core.List.{List, [], _∷_, _++_, map}
 use Prim.Native.Nat.{ℕ, zero, suc, _+_, _*_, _≤_, _<_}
 use native.Mathlib.Numerals.{add-one}
 use native.Mathlib.Omega.{arith}
-use lib.ListN.{length, getD, take, drop}
+use lib.ListN.{length, getD, drop}
 use lib.Seq.{take-length}
 use lib.Dec.{eqb}
 use borrow.Author.Tests.{eqb-false}
 use Rattle.wire.specs.Image.{Bytes}
 use Rattle.wire.specs.Lists.{listOf, sum, Each}
 use Rattle.wire.proofs.Bytes.{little-fits, no-bytes, part-bytes}
-use Rattle.sheet.specs.declared.SyncManager.{SyncManager}
 use Rattle.writer.proofs.Keeps.{KeepsPdo}
-use Rattle.dump.specs.Parts.{Cut, uncut, before, cutIn, partsOf}
+use Rattle.writer.proofs.Conditions.{StartInRange}
+use Rattle.dump.specs.Parts.{Cut, cutIn, partsOf}
 use Rattle.dump.specs.Categories.{typeOf, categoryLong, categories, contentOf, contentFor}
 use Rattle.dump.specs.Records.{managerLong, managerFor, pdoLong, bitsIn, pdoFor, kindFor, pdosFor, pdosIn}
 use Rattle.dump.specs.Dump.{managersFor}
@@ -60,15 +60,12 @@ content-bytes : (t : ℕ) (cs : List (List ℕ)) → Each Bytes cs → Bytes (co
 content-bytes t [] e = no-bytes
 content-bytes t (c ∷ cs) e = cond-has Bytes (eqb (typeOf c) t) (λ z. behind-bytes 4 c (e .0)) (λ z. content-bytes t cs (e .1))
 
--- a start address has two bytes
-abbrev pub StartInRange : SyncManager → Type 0
-StartInRange m = m .«start_addr» < 65536
-
+-- a start address is two bytes of its record
 pub starts-in-range : (cs : List (List ℕ)) → Each Bytes cs → Each StartInRange (map managerFor (managersFor cs))
 starts-in-range cs e =
     each-map Bytes StartInRange managerFor (λ r b. little-fits 2 0 b) (managersFor cs) (parts-bytes managerLong (contentFor 41 cs) (content-bytes 41 cs e))
 
--- a PDO's bits are at most 255 times 255
+-- a PDO has at most 255 entries of at most 255 bits, so its bits have two bytes
 sum-of-bytes : (f : ℕ → ℕ) → ((k : ℕ) → f k < 256) → (n : ℕ) → sum (listOf f n) ≤ 255 * n
 unfolding listOf
 sum-of-bytes f h zero = omega arith

@@ -22,7 +22,7 @@ use Rattle.writer.proofs.Keeps.{Keeps}
 use Rattle.dump.specs.declared.Head.{Head}
 use Rattle.dump.specs.Categories.{categories, contentFor, unended}
 use Rattle.dump.specs.Records.{managerFor, pdosIn, notWhole, second, notRecords}
-use Rattle.dump.specs.Dump.{managersFor, usagesFor, dumpData, ruleBroken, someUnnamed, recordsOf, readDump, deviceWith, deviceAfter, recordsAfter, ReadsDump}
+use Rattle.dump.specs.Dump.{managersFor, usagesFor, dumpData, ruleBroken, someUnnamed, pdoRecords, readDump, deviceWith, deviceAfter, recordsAfter, ReadsDump}
 use Rattle.dump.specs.Looked.{fromType, frontContent, notRecordsFrom, pdosFrom}
 use Rattle.dump.proofs.Looked.{front-is, single, records-looked, pdos-looked}
 use Rattle.dump.proofs.Kept.{records-long}
@@ -59,7 +59,7 @@ module _ (h : Head) (dump room : List ℕ) where
   Broken = ruleBroken (h .flags) (map managerFor (managersFor cs)) (usagesFor cs) (length (pdosIn cs))
 
   abbrev pub Short : Bool
-  Short = ltb (length room) (length (recordsOf x))
+  Short = ltb (length room) (length (pdoRecords x))
 
   -- the refusals in their order
   module _ {r : SheetRead} {n : ℕ} (e : r ≡ sheetReadOf (refused n)) where
@@ -107,5 +107,5 @@ module _ (h : Head) (dump room : List ℕ) where
   unfolding readDump dumpData
   reads-data a b c d f k p q =
       let o : readDump h dump room ≡ accepted x = rw (a, b, c, d, f) in
-      let s : dataOf _ _ ≡ x = ap₂ dataOf p q ∙ data-back h cs k room (ltb-false (length room) (length (recordsOf x)) f) in
+      let s : dataOf _ _ ≡ x = ap₂ dataOf p q ∙ data-back h cs k room (ltb-false (length room) (length (pdoRecords x)) f) in
       record { says = ap accepted s ∙ sym o; holds = p ∙ ap (deviceAfter h) (sym o); leaves = q ∙ ap (λ (o : Outcome Data). recordsAfter o room) (sym o) }

@@ -65,14 +65,14 @@ dumpRefusals h dump =
     ∷ []
 
 -- the PDO records in the sheet's own encoding
-abbrev pub recordsOf : Data → List ℕ
-recordsOf x = flat (map pdoBytes (x .pdos))
+abbrev pub pdoRecords : Data → List ℕ
+pdoRecords x = flat (map pdoBytes (x .pdos))
 
 -- every dump has exactly one answer
 unfoldable pub readDump : Head → List ℕ → List ℕ → Outcome Data
 readDump h dump room =
     first (dumpRefusals h dump)
-    (decide (when 12 (ltb (length room) (length (recordsOf (dumpData h (categories dump))))) ∷ []) (dumpData h (categories dump)))
+    (decide (when 12 (ltb (length room) (length (pdoRecords (dumpData h (categories dump))))) ∷ []) (dumpData h (categories dump)))
 
 -- the same in the form that code holds it, p PDO records standing from place 0 of the room on; places that are not used hold nothing
 abbrev pub deviceWith : Head → List SyncManager → List ℕ → (p : ℕ) → Device
@@ -98,7 +98,7 @@ deviceAfter h (accepted x) = deviceWith h (x .managers) (x .usages) (length (x .
 
 abbrev pub recordsAfter : Outcome Data → List ℕ → List ℕ
 recordsAfter (refused n) room = room
-recordsAfter (accepted x) room = over (recordsOf x) room
+recordsAfter (accepted x) room = over (pdoRecords x) room
 
 -- the promise of reading: its answer, the record, and what the room holds then
 pub record ReadsDump (h : Head) (dump room : List ℕ) (r : SheetRead) (after : List ℕ) : Type 0 where

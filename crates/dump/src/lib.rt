@@ -450,3 +450,18 @@ pub fn read(dump: &[u8], head: Head, room: &mut [u8]) -> SheetRead
         device: device_of(head, records, usages, p as u8),
     }
 }
+// Writes a dump's sheet into the room, whole or not at all, and answers its length; 1,892 bytes are always enough. It is refused as reading is, with
+// 12 where the room is too short for the sheet.
+pub fn write_sheet(dump: &[u8], head: Head, room: &mut [u8]) -> Written
+    ensures { λ r. ⌜ WritesSheet head (now (dump .entry)) (now (room .entry)) r (now (room .exit)) ⌝ }
+{
+    // 255 PDOs are the most, of 7 bytes each
+    let mut records = [0u8; 1785];
+    let got = read(dump, head, &mut records);
+    let answer = got.answer;
+    let device = got.device;
+    match answer {
+        Answer::Refused(number) => Written::Refused(number),
+        Answer::Accepted => writer::write(device, &records, room),
+    }
+}
