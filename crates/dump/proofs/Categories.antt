@@ -8,7 +8,7 @@ use native.Mathlib.Omega.{arith}
 use lib.ListN.{length, getD, take, drop, length-drop}
 use lib.Seq.{getD-take, getD-drop, drop-drop}
 use lib.Dec.{eqb, ltb, leb}
-use borrow.Author.Tests.{eq-eqb, ne-eqb, eqb-true, eqb-false, lt-ltb, le-ltb}
+use borrow.Author.Tests.{eqb-true, eqb-false, leb-true, lt-ltb}
 use Rattle.wire.specs.Number.{littleAt}
 use Rattle.wire.proofs.Lists.{cond-same}
 use Rattle.dump.specs.Parts.{whole, partsOf, restOf}
@@ -20,7 +20,7 @@ use Rattle.dump.proofs.Parts.{whole-fits, parts-none, parts-on, rest-no
 pub length-word : (l : List ℕ) → littleAt (drop 2 l) 0 2 ≡ littleAt l 2 2
 length-word l = ap₂ (λ (x y : ℕ). littleAt (x ∷ y ∷ []) 0 2) (getD-drop 2 l 0 0) (getD-drop 2 l 1 0)
 
--- a category and the next are within the dump, and it has at least its type and its length
+-- a category is within the dump
 pub category-fits : (l : List ℕ) → categoryLong l ≤ length l
 category-fits l = go (marked l)
   where
@@ -35,13 +35,19 @@ other-fits t l = go (eqb (typeOf l) t)
     go true = omega arith
     go false = category-fits l
 
-category-least : (l : List ℕ) → 0 < categoryLong l → 4 ≤ categoryLong l
-category-least l = go (marked l) (leb (4 + 2 * littleAt l 2 2) (length l))
+-- where a category stands, it is no mark, and its words are there
+pub record Stands (l : List ℕ) : Type 0 where
+  pub unmarked : marked l ≡ false
+  pub long : categoryLong l ≡ 4 + 2 * littleAt l 2 2
+  pub within : 4 + 2 * littleAt l 2 2 ≤ length l
+
+pub category-stands : (l : List ℕ) → 0 < categoryLong l → Stands l
+category-stands l = go (marked l) (leb (4 + 2 * littleAt l 2 2) (length l)) refl refl
   where
-    go : (b c : Bool) → 0 < cond b 0 (cond c (4 + 2 * littleAt l 2 2) 0) → 4 ≤ cond b 0 (cond c (4 + 2 * littleAt l 2 2) 0)
-    go true c h = absurd (omega arith)
-    go false true h = omega arith
-    go false false h = absurd (omega arith)
+    go : (b c : Bool) → marked l ≡ b → leb (4 + 2 * littleAt l 2 2) (length l) ≡ c → 0 < cond b 0 (cond c (4 + 2 * littleAt l 2 2) 0) → Stands l
+    go true c e f h = absurd (omega arith)
+    go false true e f h = record { unmarked = e; long = rw (e, f); within = leb-true (4 + 2 * littleAt l 2 2) (length l) f }
+    go false false e f h = absurd (omega arith)
 
 -- the mark is no category, so looking for it steps over every category
 other-end : (l : List ℕ) → otherLong 65535 l ≡ categoryLong l
@@ -81,7 +87,7 @@ category-on l h = parts-on categoryLong category-fits l h
 type-alone : (l : List ℕ) → 0 < categoryLong l → typeOf (take (categoryLong l) l) ≡ typeOf l
 type-alone l h =
     let n = categoryLong l in
-    let m = category-least l h in
+    let m = category-stands l h .long in
     ap₂ (λ (x y : ℕ). littleAt (x ∷ y ∷ []) 0 2) (getD-take n l 0 0 (omega arith)) (getD-take n l 1 0 (omega arith))
 
 -- from the first of a type on: none stands there, this one is it, or it stands behind this one

@@ -12,3 +12,8 @@ pub mod Kept
 pub mod Held
 pub mod Reading
 pub mod Sheeting
+pub mod Stepped
+pub mod Ended
+pub mod Contracts
+pub mod Unique
+pub mod Theorems

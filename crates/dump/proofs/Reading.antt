@@ -1,7 +1,7 @@
 -- What `read` answers, by what its tests found.
 -- Assumes nothing.
-use mathlib.Core.Path.{_≡_, sym, _∙_, ap, ap₂}
-use mathlib.Core.Bool.{Bool, true, false}
+use mathlib.Core.Path.{_≡_, refl, sym, _∙_, ap, ap₂}
+use mathlib.Core.Bool.{Bool, true, false, cond}
 use mathlib.Core.List.{List, map}
 use Prim.Native.Nat.{ℕ, _*_}
 use lib.ListN.{length}
@@ -11,6 +11,7 @@ use Rattle.wire.specs.Lists.{someOf}
 use Rattle.wire.specs.Outcome.{Outcome, refused, accepted}
 use Rattle.wire.specs.Room.{over}
 use Rattle.wire.proofs.Lists.{or-none}
+use Rattle.wire.proofs.Order.{never}
 use Rattle.area.specs.Area.{flat}
 use Rattle.writer.specs.Form.{pdoBytes}
 use Rattle.sheet.specs.declared.Answer.the-variants.{Accepted}
@@ -93,6 +94,30 @@ module _ (h : Head) (dump room : List ℕ) where
       → ReadsDump h dump room r room
   unfolding readDump
   reads-12 e a b c d f = refuses e (rw (a, b, c, d, f))
+
+  -- accepted: that is the data, and none of the refusals holds
+  pub record Accepts (y : Data) : Type 0 where
+    pub is : y ≡ x
+    pub ended : unended dump ≡ false
+    pub whole : notRecords cs ≡ false
+    pub rule : Broken ≡ false
+    pub named : someUnnamed cs ≡ false
+    pub fits : Short ≡ false
+
+  pub accepts : {y : Data} → readDump h dump room ≡ accepted y → Accepts y
+  unfolding readDump
+  accepts {y} e = go (unended dump) (notRecords cs) Broken (someUnnamed cs) Short refl refl refl refl refl e
+    where
+      go :
+          (a b c d s : Bool) → unended dump ≡ a → notRecords cs ≡ b → Broken ≡ c → someUnnamed cs ≡ d → Short ≡ s
+          → cond a (refused 16) (cond b (refused 17) (cond c (refused 4) (cond d (refused 5) (cond s (refused 12) (accepted x))))) ≡ accepted y
+          → Accepts y
+      go true b c d s p q r t u z = absurd (never z)
+      go false true c d s p q r t u z = absurd (never z)
+      go false false true d s p q r t u z = absurd (never z)
+      go false false false true s p q r t u z = absurd (never z)
+      go false false false false true p q r t u z = absurd (never z)
+      go false false false false false p q r t u z = record { is = cc; ended = p; whole = q; rule = r; named = t; fits = u }
 
   -- the room is too short by what the PDOs take
   pub short-is : {p : ℕ} → p ≡ length (pdosIn cs) → Short ≡ ltb (length room) (7 * p)

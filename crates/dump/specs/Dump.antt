@@ -100,11 +100,15 @@ abbrev pub recordsAfter : Outcome Data → List ℕ → List ℕ
 recordsAfter (refused n) room = room
 recordsAfter (accepted x) room = over (pdoRecords x) room
 
--- the promise of reading: its answer, the record, and what the room holds then
-pub record ReadsDump (h : Head) (dump room : List ℕ) (r : SheetRead) (after : List ℕ) : Type 0 where
-  pub says : answerOf (r .answer) (dataOf (r .device) after) ≡ readDump h dump room
-  pub holds : r .device ≡ deviceAfter h (readDump h dump room)
-  pub leaves : after ≡ recordsAfter (readDump h dump room) room
+-- the promise of a call with this outcome: its answer, the record, and what the room holds then
+pub record Gives (h : Head) (outcome : Outcome Data) (room : List ℕ) (r : SheetRead) (after : List ℕ) : Type 0 where
+  pub says : answerOf (r .answer) (dataOf (r .device) after) ≡ outcome
+  pub holds : r .device ≡ deviceAfter h outcome
+  pub leaves : after ≡ recordsAfter outcome room
+
+-- the promise of reading
+abbrev pub ReadsDump : Head → List ℕ → List ℕ → SheetRead → List ℕ → Type 0
+ReadsDump h dump room r after = Gives h (readDump h dump room) room r after
 
 -- the sheet of a dump, written into room by the rule for texts
 unfoldable pub sheeting : Head → List ℕ → List ℕ → Outcome ℕ

@@ -3,4 +3,5 @@ pub mod Parts
 pub mod Categories
 pub mod Records
 pub mod Dump
+pub mod Calls
 pub mod Looked

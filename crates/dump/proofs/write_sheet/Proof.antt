@@ -4,7 +4,8 @@ use Prim.Native.Nat.{ℕ, _<_}
 use denote.Ref.{now}
 use lib.ListN.{replicate, length-replicate}
 use borrow.Author.Needs.{needs}
-use Rattle.dump.proofs.Sheeting.{zeros, sheet-refused, sheet-written}
+use Rattle.wire.specs.Image.{Bytes}
+use Rattle.dump.proofs.Sheeting.{zeros, accepted-data, writes-text, sheet-refused, sheet-written}
 use Rattle.dump.proofs.write_sheet.Statement.{statement}
 use Rattle.dump.proofs.write_sheet.Tie as tie
 
@@ -43,12 +44,16 @@ same-length c = search needs
 returns-2 : tie.Need-returns-2
 returns-2 c =
     let w = c .before .before in
-    let t = w .before .before in
-    let r = c .before .before .before .before .before .before .before .before .before in
+    let t = w .before .before .before in
+    let r = t .before .before .before .before in
     let s = r .before .before in
     let a = s .before .before .args in
-    sheet-written (a .head) (now (a .dump)) (replicate 1785 0) (now (a .room)) (length-replicate {A = ℕ} 1785 0) (sizes r .0) (sizes r .1)
-    (record { below = λ k. s .before .shared-slice-known .given k .fits }) (zeros 1785) (r .read .ensures) (t .before .enum-told .given .1) (w .write .ensures)
+    let own = replicate {A = ℕ} 1785 0 in
+    let bytes : Bytes (now (a .dump)) = record { below = λ k. s .before .shared-slice-known .given k .fits } in
+    let e = t .enum-told .given .1 in
+    sheet-written (a .head) (now (a .dump)) own (now (a .room))
+    (accepted-data (a .head) (now (a .dump)) own (sizes r .0) (sizes r .1) bytes (zeros 1785) (r .read .ensures) e)
+    (writes-text (a .head) (now (a .dump)) own (sizes r .0) (sizes r .1) bytes (zeros 1785) (r .read .ensures) e (w .write .ensures))
 
 pub write-sheet-spec : {M : Type 1} → statement M
 write-sheet-spec =
