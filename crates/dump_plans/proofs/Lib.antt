@@ -1,0 +1,2 @@
+-- The theorem of specs/Plans.
+pub mod Planned

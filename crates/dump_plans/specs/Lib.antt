@@ -1,0 +1,2 @@
+-- Planning a dump (document 02, 5/13).
+pub mod Plans
