@@ -5,15 +5,14 @@ use mathlib.Core.Bool.{Bool, true, false, cond}
 use mathlib.Core.List.{List, [], _∷_}
 use Prim.Native.Nat.{ℕ, zero, suc, _+_, _*_, _≤_, _<_}
 use native.Mathlib.Omega.{arith}
-use lib.ListN.{length, getD, take, drop, length-drop}
+use lib.ListN.{length, take, drop, length-drop}
 use lib.Seq.{getD-take, getD-drop, drop-drop}
 use lib.Dec.{eqb, ltb, leb}
 use borrow.Author.Tests.{eqb-true, eqb-false, leb-true, lt-ltb}
 use Rattle.wire.specs.Number.{littleAt}
-use Rattle.wire.proofs.Lists.{cond-same}
-use Rattle.dump.specs.Parts.{whole, partsOf, restOf}
-use Rattle.dump.specs.Categories.{typeOf, marked, categoryLong, categories, contentOf, howMany, unended}
-use Rattle.dump.specs.Looked.{otherLong, fromType, frontContent, another}
+use Rattle.dump.specs.Parts.{whole, restOf}
+use Rattle.dump.specs.Categories.{typeOf, marked, categoryLong, categories, howMany}
+use Rattle.dump.specs.Looked.{otherLong, fromType, frontContent}
 use Rattle.dump.proofs.Parts.{whole-fits, parts-none, parts-on, rest-none, rest-on}
 
 -- the length word stands behind the type

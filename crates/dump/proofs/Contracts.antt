@@ -1,5 +1,5 @@
 -- The calls of specs/Calls are calls of the function: arguments, answer and room at exit that keep its own contract, as it is generated from the
--- source (`Post`), make the record that the theorems are about. That sizes and bytes are in range holds at every call, by their types. That
+-- source (`Post`), make the record that the theorems are about. That sizes and bytes are in range holds at every call (`in-range`, beside the proof of `read`). That
 -- `ReadsAs` is what `sheet::read` promises is said in sheet/proofs/Contracts, and what `writer::write` promises in writer/proofs/Contracts. So a changed
 -- `ensures` breaks this file, or one of those.
 -- Assumes nothing.

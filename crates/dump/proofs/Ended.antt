@@ -1,7 +1,7 @@
 -- Bytes behind a dump that has its end mark: its categories are the same, and so is its end.
 -- Assumes nothing.
 use mathlib.Core.Path.{_≡_, refl, sym, _∙_, ap, ap₂}
-use mathlib.Core.Bool.{Bool, true, false, not, cond}
+use mathlib.Core.Bool.{Bool, true, false, not}
 use mathlib.Core.List.{List, _∷_, [], _++_}
 use Prim.Native.Nat.{ℕ, zero, suc, _+_, _*_, _≤_, _<_}
 use native.Mathlib.Omega.{arith}
@@ -14,7 +14,7 @@ use Rattle.wire.specs.Number.{littleAt}
 use Rattle.dump.specs.Parts.{restOf}
 use Rattle.dump.specs.Categories.{typeOf, marked, categoryLong, categories, unended}
 use Rattle.dump.proofs.Parts.{rest-none, rest-on}
-use Rattle.dump.proofs.Categories.{category-fits, no-category, category-on, Stands, category-stands}
+use Rattle.dump.proofs.Categories.{category-fits, no-category, category-on, category-stands}
 use Rattle.dump.proofs.Ranges.{behind-bytes}
 
 module _ (more : List ℕ) where

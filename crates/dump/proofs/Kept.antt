@@ -2,7 +2,7 @@
 -- Assumes nothing.
 use mathlib.Core.Path.{_≡_, refl, sym, _∙_, ap}
 use mathlib.Core.Bool.{Bool, false, _||_}
-use mathlib.Core.List.{List, [], _∷_, _++_, map, append-assoc}
+use mathlib.Core.List.{List, [], _∷_, _++_, map}
 use Prim.Native.Nat.{ℕ, zero, suc, _+_, _*_, _≤_, _<_}
 use native.Mathlib.Omega.{arith}
 use lib.ListN.{length, length-append}
@@ -14,9 +14,9 @@ use Rattle.wire.specs.Outcome.{accepted}
 use Rattle.wire.proofs.Lists.{or-none, none-of, each-both}
 use Rattle.area.specs.Area.{flat}
 use Rattle.sheet.specs.declared.SyncManager.{SyncManager}
-use Rattle.sheet.specs.Device.{Pdo, Data}
+use Rattle.sheet.specs.Device.{Data}
 use Rattle.sheet.specs.Sheet.{readSheet}
-use Rattle.writer.specs.Form.{pdoBytes, bodyBytes, sheetOf}
+use Rattle.writer.specs.Form.{bodyBytes, sheetOf}
 use Rattle.writer.proofs.Stored.{managers-long}
 use Rattle.writer.proofs.Keeps.{KeepsManager, Keeps}
 use Rattle.writer.proofs.Parts.{managersBytes, pdosBytes, sheet-length}
@@ -27,14 +27,8 @@ use Rattle.dump.specs.declared.Head.{Head}
 use Rattle.dump.specs.Categories.{typeOf, categories, contentOf}
 use Rattle.dump.specs.Records.{managerFor, kindFor, pdosFor, pdosIn}
 use Rattle.dump.specs.Dump.{managersFor, usagesFor, dumpData, ruleBroken, pdoRecords}
-use Rattle.dump.proofs.Pdos.{pdos-count, pdos-long}
+use Rattle.dump.proofs.Pdos.{pdos-append, pdos-count, pdos-long}
 use Rattle.dump.proofs.Ranges.{categories-bytes, starts-in-range, pdos-keep}
-
--- the bytes of two lists of PDOs, the second's behind the first's: a sheet has them one by one
-pub pdos-append : (ps qs : List Pdo) → pdosBytes (ps ++ qs) ≡ pdosBytes ps ++ pdosBytes qs
-unfolding flat
-pdos-append [] qs = refl
-pdos-append (p ∷ ps) qs = ap (λ (l : List ℕ). pdoBytes p ++ l) (pdos-append ps qs) ∙ sym (append-assoc (pdoBytes p) (pdosBytes ps) (pdosBytes qs))
 
 -- each PDO of a dump has seven bytes in a sheet, as its kind isn't 0
 pub records-long : (h : Head) (cs : List (List ℕ)) → length (pdoRecords (dumpData h cs)) ≡ 7 * length (dumpData h cs .pdos)

@@ -75,12 +75,13 @@ module _ (l : List ℕ) where
   manager-nth k h =
       List·getD-map managerFor (partsOf managerLong l) k [] ∙ ap managerFor (manager-at k h) ∙ manager-front (drop (8 * k) l)
 
-  mapped-count : length (map managerFor (partsOf managerLong l)) ≡ length l / 8
-  mapped-count = length-map (partsOf managerLong l) managerFor ∙ managers-count
+  -- how many there are
+  pub managers-many : length (map managerFor (partsOf managerLong l)) ≡ length l / 8
+  managers-many = length-map (partsOf managerLong l) managerFor ∙ managers-count
 
   pub managers-numbered : map managerFor (partsOf managerLong l) ≡ listOf nth-manager (length l / 8)
   managers-numbered =
-      list-numbered (map managerFor (partsOf managerLong l)) (managerFor []) (length l / 8) mapped-count nth-manager manager-nth
+      list-numbered (map managerFor (partsOf managerLong l)) (managerFor []) (length l / 8) managers-many nth-manager manager-nth
 
   -- a usage that has no name, and a control that has none
   abbrev pub usage-unnamed-at : ℕ → Bool
@@ -91,7 +92,7 @@ module _ (l : List ℕ) where
 
   pub some-usage-numbered : someOf (λ m. ltb 4 (m .«usage_type»)) (map managerFor (partsOf managerLong l)) ≡ someBelow usage-unnamed-at (length l / 8)
   some-usage-numbered =
-      some-numbered (map managerFor (partsOf managerLong l)) (managerFor []) (length l / 8) mapped-count (λ m. ltb 4 (m .«usage_type»)) usage-unnamed-at
+      some-numbered (map managerFor (partsOf managerLong l)) (managerFor []) (length l / 8) managers-many (λ m. ltb 4 (m .«usage_type»)) usage-unnamed-at
       (λ k h. ap (λ (m : SyncManager). ltb 4 (m .«usage_type»)) (manager-nth k h) ∙ ap (ltb 4) (getD-drop (8 * k) l 7 0))
 
   pub some-control-numbered : someOf (λ r. unnamed (controlIn r)) (partsOf managerLong l) ≡ someBelow control-unnamed-at (length l / 8)
@@ -105,7 +106,3 @@ managers-cut {l} {m} e n = let r = managers-rest m in let z = ap length e in lt-
 
 pub managers-whole : {l m : List ℕ} → l ≡ m → length l % 8 ≡ 0 → some (restOf managerLong m) ≡ false
 managers-whole {l} {m} e n = let r = managers-rest m in let z = ap length e in le-ltb 0 (length (restOf managerLong m)) (omega arith)
-
--- how many sync managers there are
-pub managers-many : (l : List ℕ) → length (map managerFor (partsOf managerLong l)) ≡ length l / 8
-managers-many l = length-map (partsOf managerLong l) managerFor ∙ managers-count l

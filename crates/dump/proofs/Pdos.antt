@@ -2,7 +2,7 @@
 -- Assumes nothing.
 use mathlib.Core.Path.{_≡_, refl, sym, _∙_, ap, ap₂}
 use mathlib.Core.Bool.{Bool, true, false, cond}
-use mathlib.Core.List.{List, [], _∷_, _++_, map}
+use mathlib.Core.List.{List, [], _∷_, _++_, map, append-assoc}
 use Prim.Native.Nat.{ℕ, _+_, _*_, _≤_, _<_}
 use native.Mathlib.Numerals.{add-one}
 use native.Mathlib.Omega.{arith}
@@ -17,6 +17,7 @@ use Rattle.area.specs.Area.{flat, storedAt}
 use Rattle.area.proofs.Entry.{length-stored}
 use Rattle.sheet.specs.Device.{Pdo}
 use Rattle.writer.specs.Form.{counted, pdoBytes}
+use Rattle.writer.proofs.Parts.{pdosBytes}
 use Rattle.writer.proofs.Stored.{stored-nothing, stored-next}
 use Rattle.dump.specs.Parts.{partsOf}
 use Rattle.dump.specs.Records.{pdoLong, bitsIn, pdoFor, pdosFor}
@@ -54,6 +55,12 @@ module _ (kind : ℕ) (l : List ℕ) where
       is : (b : Bool) → 0 < cond b (8 + 8 * getD l 2 0) 0 → cond b (8 + 8 * getD l 2 0) 0 ≡ 8 + 8 * getD l 2 0
       is true h = refl
       is false h = absurd (omega arith)
+
+-- the bytes of two lists of PDOs, the second's behind the first's: a sheet has them one by one
+pub pdos-append : (ps qs : List Pdo) → pdosBytes (ps ++ qs) ≡ pdosBytes ps ++ pdosBytes qs
+unfolding flat
+pdos-append [] qs = refl
+pdos-append (p ∷ ps) qs = ap (λ (l : List ℕ). pdoBytes p ++ l) (pdos-append ps qs) ∙ sym (append-assoc (pdoBytes p) (pdosBytes ps) (pdosBytes qs))
 
 -- in a sheet each is seven bytes, where its kind isn't 0
 pub pdo-bytes-are : (kind : ℕ) (r : List ℕ) → 0 < kind → pdoBytes (pdoFor kind r) ≡ kind ∷ getD r 3 0 ∷ (bigOf 2 (littleAt r 0 2) ++ (2 ∷ bigOf 2 (bitsIn r)))

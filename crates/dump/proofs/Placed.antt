@@ -1,30 +1,20 @@
 -- The PDOs of both types in dump order: how many there are, and how they stand in the room, one category's behind the other's.
 -- Assumes nothing.
-use mathlib.Core.Path.{_≡_, refl, sym, _∙_, ap, ap₂}
+use mathlib.Core.Path.{_≡_, sym, _∙_, ap, ap₂}
 use mathlib.Core.Bool.{Bool, true, false, cond}
-use mathlib.Core.List.{List, [], _∷_, _++_, map, append-assoc}
+use mathlib.Core.List.{List, _++_}
 use Prim.Native.Nat.{ℕ, _+_, _≤_}
 use native.Mathlib.Omega.{arith}
 use lib.ListN.{length, length-append}
 use Rattle.wire.specs.Room.{over}
-use Rattle.area.specs.Area.{flat, storedAt}
+use Rattle.area.specs.Area.{storedAt}
 use Rattle.sheet.specs.Device.{Pdo}
-use Rattle.writer.specs.Form.{pdoBytes}
+use Rattle.writer.proofs.Parts.{pdosBytes}
 use Rattle.writer.proofs.Stored.{stored-next, stored-front}
 use Rattle.dump.specs.Parts.{partsOf}
 use Rattle.dump.specs.Records.{pdoLong, pdosFor}
 use Rattle.dump.specs.Looked.{frontContent, another, pdosFrom}
-use Rattle.dump.proofs.Pdos.{pdos-count}
-
--- the bytes of PDOs
-abbrev pub pdosBytes : List Pdo → List ℕ
-pdosBytes ps = flat (map pdoBytes ps)
-
--- of those behind others
-pub bytes-behind : (ps qs : List Pdo) → pdosBytes (ps ++ qs) ≡ pdosBytes ps ++ pdosBytes qs
-unfolding flat
-bytes-behind [] qs = refl
-bytes-behind (p ∷ ps) qs = ap (λ (l : List ℕ). pdoBytes p ++ l) (bytes-behind ps qs) ∙ sym (append-assoc (pdoBytes p) (pdosBytes ps) (pdosBytes qs))
+use Rattle.dump.proofs.Pdos.{pdos-append, pdos-count}
 
 module _ (ps qs : List Pdo) where
   -- in either order there are as many
@@ -40,7 +30,7 @@ module _ (ps qs : List Pdo) where
       f
       ∙ stored-next 0 (pdosBytes ps) (pdosBytes qs) room (omega arith) e (omega arith)
       ∙ stored-front (pdosBytes ps ++ pdosBytes qs) room (omega arith)
-      ∙ ap (λ (x : List ℕ). over x room) (sym (bytes-behind ps qs))
+      ∙ ap (λ (x : List ℕ). over x room) (sym (pdos-append ps qs))
 
 pub pdos-counted : (is os : List (List ℕ)) → length (pdosFrom is os) ≡ length (partsOf pdoLong (frontContent is)) + length (partsOf pdoLong (frontContent os))
 unfolding pdosFrom

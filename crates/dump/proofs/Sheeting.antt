@@ -22,7 +22,6 @@ use Rattle.sheet.specs.Device.{Data, dataOf}
 use Rattle.sheet.specs.Sheet.{answerOf}
 use Rattle.writer.specs.Form.{sheetOf}
 use Rattle.writer.specs.Writing.{writing, Writes}
-use Rattle.writer.proofs.Keeps.{Keeps}
 use Rattle.dump.specs.declared.Head.{Head}
 use Rattle.dump.specs.Categories.{categories, unended}
 use Rattle.dump.specs.Records.{managerFor, pdosIn, notRecords}

@@ -1,10 +1,10 @@
 -- `dump::device_of`: each field as the head or the records have it.
 -- Assumes nothing.
-use mathlib.Core.Path.{_≡_, sym, _∙_, ap}
-use mathlib.Core.List.{List, _++_, map}
+use mathlib.Core.Path.{sym, _∙_, ap}
+use mathlib.Core.List.{_++_, map}
 use Prim.Native.Nat.{ℕ, _-_}
 use denote.Ref.{now}
-use lib.ListN.{length, replicate, length-map}
+use lib.ListN.{replicate, length-map}
 use borrow.Author.Needs.{needs}
 use Rattle.sheet.specs.Sheet.{noManager}
 use Rattle.dump.specs.Parts.{partsOf}

@@ -13,7 +13,8 @@ use Rattle.sheet.specs.Device.{Pdo}
 use Rattle.dump.specs.Parts.{partsOf}
 use Rattle.dump.specs.Categories.{categories}
 use Rattle.dump.specs.Records.{pdoLong}
-use Rattle.dump.proofs.Placed.{pdosBytes, pdos-counted, in-order}
+use Rattle.writer.proofs.Parts.{pdosBytes}
+use Rattle.dump.proofs.Placed.{pdos-counted, in-order}
 use Rattle.dump.proofs.put_records.Statement.{statement}
 use Rattle.dump.proofs.put_records.Tie as tie
 

@@ -1,6 +1,6 @@
 -- `dump::read`: the test that led to each refusal says that it is the first that holds; else the records are put, and the record holds the data.
 -- Assumes nothing.
-use mathlib.Core.Path.{_≡_, sym, _∙_, ap, ap₂}
+use mathlib.Core.Path.{_≡_, sym, _∙_, ap}
 use mathlib.Core.Bool.{Bool, false}
 use mathlib.Core.List.{List, map}
 use Prim.Native.Nat.{ℕ, _*_, _/_, _≤_}
@@ -21,11 +21,22 @@ use Rattle.dump.specs.Categories.{categories, contentFor, unended}
 use Rattle.dump.specs.Parts.{partsOf}
 use Rattle.dump.specs.Records.{usageFor, managerLong, controlIn, managerFor, pdosIn, notRecords}
 use Rattle.dump.specs.Dump.{managersFor, usagesFor, dumpData, ruleBroken, someUnnamed, deviceWith}
+use Rattle.dump.specs.Calls.{InRange}
 use Rattle.dump.proofs.Managers.{managers-many}
 use Rattle.dump.proofs.Kept.{keeps-rule, dump-keeps}
 use Rattle.dump.proofs.Reading.{Found, content-is, not-records-is, pdos-are, Broken, short-is, reads-16, reads-17, reads-4, reads-5, reads-12, reads-data}
 use Rattle.dump.proofs.read.Statement.{statement}
 use Rattle.dump.proofs.read.Tie as tie
+
+-- at every call the sizes and the lent bytes are in the range of their types
+pub in-range : (c : tie.After-slice-known) → InRange (c .before .before .args .head) (now (c .before .before .args .dump)) (now (c .before .before .args .room))
+in-range c =
+    record {
+      receive = search needs;
+      send = search needs;
+      bytes = record { below = λ k. c .before .shared-slice-known .given k .fits };
+      room-bytes = record { below = λ k. c .slice-known .given k .fits };
+    }
 
 -- the call, and what is found of its dump
 module _ (c : tie.After-from-type4) where
@@ -95,11 +106,9 @@ counts c e =
     let v = ap length (usages-at p) in
     (omega (arith, count-at p), omega arith, omega arith)
 
--- so the data has a sheet: at every call the sizes and the dump's bytes are in the range of their types
+-- so the data has a sheet
 kept : (c : tie.After-from-type4) → Broken (head c) (dump c) (room c) ≡ false → Keeps (dumpData (head c) (categories (dump c)))
-kept c b =
-    let s = c .before .before .before .before .before .before in
-    dump-keeps (head c) (dump c) (search needs) (search needs) (record { below = λ k. s .before .shared-slice-known .given k .fits }) b
+kept c b = let r = in-range (c .before .before .before .before .before .before) in dump-keeps (head c) (dump c) (r .receive) (r .send) (r .bytes) b
 
 -- 5
 controls : (c : tie.After-some-control-unnamed) {b : Bool} → c .some-control-unnamed .result ≡ b → someUnnamed (categories-at (c .before .before .before)) ≡ b
