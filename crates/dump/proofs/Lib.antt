@@ -17,3 +17,4 @@ pub mod Ended
 pub mod Contracts
 pub mod Unique
 pub mod Theorems
+pub mod Examples

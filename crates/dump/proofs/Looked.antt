@@ -14,7 +14,7 @@ use Rattle.wire.proofs.Lists.{or-none, or-false}
 use Rattle.sheet.specs.Device.{Pdo}
 use Rattle.dump.specs.Parts.{cutIn, restOf}
 use Rattle.dump.specs.Categories.{typeOf, contentOf, contentFor, howMany}
-use Rattle.dump.specs.Records.{managerLong, pdoLong, kindFor, pdosFor, pdosIn, some, notWhole, second, notRecords}
+use Rattle.dump.specs.Records.{managerLong, pdoLong, kindFor, pdosFor, pdosIn, nonempty, notWhole, second, notRecords}
 use Rattle.dump.specs.Looked.{fromType, frontContent, another, notRecordsFrom, pdosFrom}
 
 module _ (t : ℕ) where
@@ -91,10 +91,10 @@ some-alike f g e (x ∷ l) = ap₂ _||_ (e x) (some-alike f g e l)
 
 -- what isn't whole, by type; nothing is whole
 abbrev managersCut : List ℕ → Bool
-managersCut l = some (restOf managerLong l)
+managersCut l = nonempty (restOf managerLong l)
 
 abbrev pdosCut : List ℕ → Bool
-pdosCut l = some (restOf pdoLong l)
+pdosCut l = nonempty (restOf pdoLong l)
 
 managers-empty : managersCut [] ≡ false
 unfolding cutIn

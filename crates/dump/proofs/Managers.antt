@@ -16,7 +16,7 @@ use Rattle.wire.specs.Field.{flagAt}
 use Rattle.channel_bytes.specs.Bytes.{controlAt, unnamed}
 use Rattle.sheet.specs.declared.SyncManager.{SyncManager}
 use Rattle.dump.specs.Parts.{partsOf, restOf}
-use Rattle.dump.specs.Records.{managerLong, controlIn, managerFor, some}
+use Rattle.dump.specs.Records.{managerLong, controlIn, managerFor, nonempty}
 use Rattle.dump.proofs.Parts.{whole-fits, Walk, walk-start, walk-here, walk-turn, walk-end}
 use Rattle.dump.proofs.Numbered.{list-numbered, some-numbered}
 
@@ -101,8 +101,8 @@ module _ (l : List ℕ) where
       (λ k h. ap (λ (r : List ℕ). unnamed (controlIn r)) (manager-at k h) ∙ ap unnamed (getD-take 8 (drop (8 * k) l) 4 0 (omega arith) ∙ getD-drop (8 * k) l 4 0))
 
 -- whether something stands behind the last record, by the remainder
-pub managers-cut : {l m : List ℕ} → l ≡ m → (length l % 8 ≡ 0 → ⊥) → some (restOf managerLong m) ≡ true
+pub managers-cut : {l m : List ℕ} → l ≡ m → (length l % 8 ≡ 0 → ⊥) → nonempty (restOf managerLong m) ≡ true
 managers-cut {l} {m} e n = let r = managers-rest m in let z = ap length e in lt-ltb 0 (length (restOf managerLong m)) (omega (arith, n))
 
-pub managers-whole : {l m : List ℕ} → l ≡ m → length l % 8 ≡ 0 → some (restOf managerLong m) ≡ false
+pub managers-whole : {l m : List ℕ} → l ≡ m → length l % 8 ≡ 0 → nonempty (restOf managerLong m) ≡ false
 managers-whole {l} {m} e n = let r = managers-rest m in let z = ap length e in le-ltb 0 (length (restOf managerLong m)) (omega arith)

@@ -7,7 +7,7 @@ use lib.ListN.{drop}
 use lib.Dec.{eqb, ltb}
 use Rattle.dump.specs.Categories.{typeOf, categoryLong, contentOf, howMany}
 use Rattle.dump.specs.Parts.{restOf}
-use Rattle.dump.specs.Records.{managerLong, pdoLong, pdosFor, some}
+use Rattle.dump.specs.Records.{managerLong, pdoLong, pdosFor, nonempty}
 use Rattle.sheet.specs.Device.{Pdo}
 
 -- how long the category at the front is; 0 where none stands there, or it is of the type that is looked for
@@ -32,8 +32,8 @@ another t cs = ltb 0 (howMany t (drop 1 cs))
 unfoldable pub notRecordsFrom : (fmmus managers inputs outputs : List (List ℕ)) → Bool
 notRecordsFrom fmmus managers inputs outputs =
     (another 40 fmmus || (another 41 managers || (another 50 inputs || another 51 outputs)))
-    || (some (restOf managerLong (frontContent managers))
-    || (some (restOf pdoLong (frontContent inputs)) || some (restOf pdoLong (frontContent outputs))))
+    || (nonempty (restOf managerLong (frontContent managers))
+    || (nonempty (restOf pdoLong (frontContent inputs)) || nonempty (restOf pdoLong (frontContent outputs))))
 
 -- the PDOs, by the same: those of the inputs' category come first where the outputs' stands behind it
 unfoldable pub pdosFrom : (inputs outputs : List (List ℕ)) → List Pdo

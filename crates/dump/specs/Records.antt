@@ -53,13 +53,13 @@ pdosIn [] = []
 pdosIn (c ∷ cs) = pdosFor (kindFor (typeOf c)) (contentOf c) ++ pdosIn cs
 
 -- 17: a category that isn't whole records: something stands behind the last
-abbrev pub some : List ℕ → Bool
-some l = ltb 0 (length l)
+abbrev pub nonempty : List ℕ → Bool
+nonempty l = ltb 0 (length l)
 
 abbrev pub notWhole : List ℕ → Bool
 notWhole c =
-    cond (eqb (typeOf c) 41) (some (restOf managerLong (contentOf c)))
-    (cond (eqb (kindFor (typeOf c)) 0) false (some (restOf pdoLong (contentOf c))))
+    cond (eqb (typeOf c) 41) (nonempty (restOf managerLong (contentOf c)))
+    (cond (eqb (kindFor (typeOf c)) 0) false (nonempty (restOf pdoLong (contentOf c))))
 
 -- or a second one of these four types
 abbrev pub second : List (List ℕ) → Bool

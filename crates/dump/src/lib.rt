@@ -17,7 +17,7 @@ ghost use Rattle.dump.specs.Parts.{partsOf, restOf};
 ghost use Rattle.dump.specs.Categories.{categoryLong, categories};
 ghost use Rattle.dump.specs.Categories as Categories;
 ghost use Rattle.dump.specs.Looked.{otherLong, fromType, frontContent, another, notRecordsFrom, pdosFrom};
-ghost use Rattle.dump.specs.Records.{usageFor, managerLong, controlIn, managerFor, pdoLong, bitsIn, pdoFor, pdosFor, some};
+ghost use Rattle.dump.specs.Records.{usageFor, managerLong, controlIn, managerFor, pdoLong, bitsIn, pdoFor, pdosFor, nonempty};
 ghost use Rattle.dump.specs.Dump.{ruleBroken, deviceWith, ReadsDump, WritesSheet};
 use channel_bytes::Control;
 use pdi::ByteLen;
@@ -320,7 +320,7 @@ fn put_pdos(bytes: &[u8], kind: u8, room: &mut [u8], to: usize) -> usize
 
 // Whether PDO records don't end with the bytes.
 fn pdos_cut(bytes: &[u8]) -> bool
-    ensures { λ r. ⌜ r ≡ some (restOf pdoLong (now (bytes .entry))) ⌝ }
+    ensures { λ r. ⌜ r ≡ nonempty (restOf pdoLong (now (bytes .entry))) ⌝ }
 {
     let all = pdo_records(bytes);
     all.end < bytes.len()

@@ -58,7 +58,7 @@ pub written-is : (o : Outcome ℕ) → writtenOf (written-back o) ≡ o
 written-is (refused n) = refl
 written-is (accepted n) = refl
 
-bytes-of : (l : List ℕ) → Each (λ (b : ℕ). b < 256) l → Bytes l
+pub bytes-of : (l : List ℕ) → Each (λ (b : ℕ). b < 256) l → Bytes l
 bytes-of [] h = no-bytes
 bytes-of (b ∷ l) h = cons-bytes (h .0) (bytes-of l (h .1))
 

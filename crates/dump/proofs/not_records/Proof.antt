@@ -6,7 +6,7 @@ use mathlib.Core.List.{List}
 use Prim.Native.Nat.{ℕ}
 use borrow.Author.Needs.{needs}
 use Rattle.dump.specs.Parts.{restOf}
-use Rattle.dump.specs.Records.{pdoLong, some}
+use Rattle.dump.specs.Records.{pdoLong, nonempty}
 use Rattle.dump.specs.Looked.{notRecordsFrom}
 use Rattle.dump.proofs.Managers.{managers-cut, managers-whole}
 use Rattle.dump.proofs.not_records.Statement.{statement}
@@ -14,7 +14,7 @@ use Rattle.dump.proofs.not_records.Tie as tie
 
 -- whether PDO records are whole is asked of a category's content
 abbrev pdosCut : List ℕ → Bool
-pdosCut l = some (restOf pdoLong l)
+pdosCut l = nonempty (restOf pdoLong l)
 
 second-requires : tie.Need-second-requires
 second-requires c κs = search needs

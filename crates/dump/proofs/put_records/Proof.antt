@@ -1,22 +1,50 @@
 -- `dump::put_records`: which category is put first is asked as dump order says.
 -- Assumes nothing.
-use mathlib.Core.Path.{sym, _∙_, ap}
-use mathlib.Core.Bool.{true, false}
-use mathlib.Core.List.{List}
-use Prim.Native.Nat.{ℕ}
+use mathlib.Core.Path.{_≡_, sym, _∙_, ap}
+use mathlib.Core.Bool.{Bool, true, false, cond}
+use mathlib.Core.List.{List, _++_}
+use Prim.Native.Nat.{ℕ, _+_, _*_, _≤_}
 use native.Mathlib.Omega.{arith}
 use denote.Ref.{now}
 use lib.ListN.{length}
 use borrow.Author.Needs.{needs}
 use Rattle.wire.specs.Room.{over}
 use Rattle.sheet.specs.Device.{Pdo}
+use Rattle.writer.proofs.Parts.{pdosBytes}
 use Rattle.dump.specs.Parts.{partsOf}
 use Rattle.dump.specs.Categories.{categories}
-use Rattle.dump.specs.Records.{pdoLong}
-use Rattle.writer.proofs.Parts.{pdosBytes}
+use Rattle.dump.specs.Records.{pdoLong, pdosFor}
+use Rattle.dump.specs.Looked.{pdosFrom}
 use Rattle.dump.proofs.Placed.{pdos-counted, in-order}
 use Rattle.dump.proofs.put_records.Statement.{statement}
 use Rattle.dump.proofs.put_records.Tie as tie
+
+-- once the order is asked: there is room for both categories' records, and the one order or the other is dump order
+module _ (c : tie.After-follows) where
+  abbrev inputs : List (List ℕ)
+  inputs = categories (now (c .before .before .before .before .before .before .args .inputs))
+
+  abbrev outputs : List (List ℕ)
+  outputs = categories (now (c .before .before .before .before .before .before .args .outputs))
+
+  abbrev room : List ℕ
+  room = now (c .before .before .before .before .before .before .args .room)
+
+  abbrev tx : List ℕ
+  tx = now (c .before .before .content .result)
+
+  abbrev rx : List ℕ
+  rx = now (c .before .content2 .result)
+
+  enough : 7 * (length (partsOf pdoLong tx) + length (partsOf pdoLong rx)) ≤ length room
+  enough =
+      let i = ap (λ (l : List ℕ). length (partsOf pdoLong l)) (c .before .before .content .ensures) in
+      let o = ap (λ (l : List ℕ). length (partsOf pdoLong l)) (c .before .content2 .ensures) in
+      omega (arith, c .before .before .before .before .before .before .pre, pdos-counted inputs outputs)
+
+  stored : (b : Bool) → c .follows .result ≡ b → over (pdosBytes (cond b (pdosFor 1 tx ++ pdosFor 2 rx) (pdosFor 2 rx ++ pdosFor 1 tx))) room ≡ over (pdosBytes (pdosFrom inputs outputs)) room
+  stored b e =
+      ap (λ (ps : List Pdo). over (pdosBytes ps) room) (in-order inputs outputs b (sym (c .follows .ensures) ∙ e) (c .before .before .content .ensures) (c .before .content2 .ensures))
 
 content-requires : tie.Need-content-requires
 content-requires c κs = search needs
@@ -28,52 +56,22 @@ follows-requires : tie.Need-follows-requires
 follows-requires c κs = search needs
 
 put-both-requires : tie.Need-put-both-requires
-put-both-requires c κs =
-    let rx = c .before .before .before in
-    let tx = rx .before in
-    let s = tx .before .before .before .before in
-    let n = pdos-counted (categories (now (s .args .inputs))) (categories (now (s .args .outputs))) in
-    let i = ap (λ (l : List ℕ). length (partsOf pdoLong l)) (tx .content .ensures) in
-    let o = ap (λ (l : List ℕ). length (partsOf pdoLong l)) (rx .content2 .ensures) in
-    (omega arith, omega arith, omega (arith, s .pre))
+put-both-requires c κs = (omega arith, omega arith, enough (c .before .before))
 
 same-length : tie.Need-same-length
 same-length c = search needs
 
 returns : tie.Need-returns
-returns c =
-    let b = c .before .before in
-    let t = b .before .before in
-    let rx = t .before .before in
-    let tx = rx .before in
-    let a = tx .before .before .before .before .args in
-    let e = sym (t .before .follows .ensures) ∙ t .if1 .taken in
-    let is = in-order (categories (now (a .inputs))) (categories (now (a .outputs))) true e (tx .content .ensures) (rx .content2 .ensures) in
-    b .put-both .ensures ∙ ap (λ (ps : List Pdo). over (pdosBytes ps) (now (a .room))) is
+returns c = let b = c .before .before in let t = b .before .before in b .put-both .ensures ∙ stored (t .before) true (t .if1 .taken)
 
 put-both-requires-2 : tie.Need-put-both-requires-2
-put-both-requires-2 c κs =
-    let rx = c .before .before .before in
-    let tx = rx .before in
-    let s = tx .before .before .before .before in
-    let n = pdos-counted (categories (now (s .args .inputs))) (categories (now (s .args .outputs))) in
-    let i = ap (λ (l : List ℕ). length (partsOf pdoLong l)) (tx .content .ensures) in
-    let o = ap (λ (l : List ℕ). length (partsOf pdoLong l)) (rx .content2 .ensures) in
-    (omega arith, omega arith, omega (arith, s .pre))
+put-both-requires-2 c κs = (omega arith, omega arith, omega (arith, enough (c .before .before)))
 
 same-length-2 : tie.Need-same-length-2
 same-length-2 c = search needs
 
 returns-2 : tie.Need-returns-2
-returns-2 c =
-    let b = c .before .before in
-    let t = b .before .before in
-    let rx = t .before .before in
-    let tx = rx .before in
-    let a = tx .before .before .before .before .args in
-    let e = sym (t .before .follows .ensures) ∙ t .if1 .left in
-    let is = in-order (categories (now (a .inputs))) (categories (now (a .outputs))) false e (tx .content .ensures) (rx .content2 .ensures) in
-    b .put-both2 .ensures ∙ ap (λ (ps : List Pdo). over (pdosBytes ps) (now (a .room))) is
+returns-2 c = let b = c .before .before in let t = b .before .before in b .put-both2 .ensures ∙ stored (t .before) false (t .if1 .left)
 
 pub put-records-spec : {M : Type 1} → statement M
 put-records-spec =
