@@ -52,7 +52,8 @@ fn usages(list: [u8; 16], f: usize) {
     }
 }
 
-fn device(d: Device) {
+// Device data, as far as it counts.
+pub fn device(d: Device) {
     let list = d.managers;
     let codes = d.usages;
     say::line([

@@ -1,6 +1,7 @@
 // Answers requests for every entry point of the library: docs/PROBE.md says how a request looks, and what is answered.
 mod arrivals;
 mod bays;
+mod dumps;
 mod numbers;
 mod parts;
 mod records;
@@ -76,6 +77,8 @@ fn answer(letter: u8, request: &[u8], c: u32, times: u32) {
         b't' => arrivals::calls(request),
         b'w' => writing::again(request),
         b'v' => writing::given(request),
+        b'D' => dumps::read(request),
+        b'E' => dumps::write(request),
         b'm' => bays::mailboxes(request),
         b'p' => bays::pass(request, bays::by_default(request)),
         b'K' => bays::pass(request, bays::keeping(request)),

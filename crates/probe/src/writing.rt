@@ -11,18 +11,26 @@ use sheet::SyncManager;
 use sync_manager_channel::Control;
 use wire::Written;
 
-// What writing answered, and how many bytes behind what was written aren't as they were.
-fn tell(answer: Written, room: &[u8]) {
+// What stands in the room up to a length, and how many bytes behind that aren't as they were.
+pub fn tell_room(room: &[u8], length: usize) {
+    say::then_bytes(wire::front(room, length));
+    say::item(arrivals::wrong(room, length, room));
+}
+
+// A refusal, and how many bytes of the whole room aren't as they were.
+pub fn tell_refused(number: u8, room: &[u8]) {
+    say::refuse(number);
+    say::item(arrivals::wrong(room, 0, room));
+}
+
+// What writing answered, and the room.
+pub fn tell(answer: Written, room: &[u8]) {
     match answer {
         Written::Len(length) => {
             say::put_item(length as u64);
-            say::then_bytes(wire::front(room, length));
-            say::item(arrivals::wrong(room, length, room));
+            tell_room(room, length);
         }
-        Written::Refused(number) => {
-            say::refuse(number);
-            say::item(arrivals::wrong(room, 0, room));
-        }
+        Written::Refused(number) => tell_refused(number, room),
     }
 }
 

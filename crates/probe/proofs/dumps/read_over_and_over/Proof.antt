@@ -1,0 +1,53 @@
+-- `dumps::read_over_and_over`: ends after as many turns as are asked; a turn leaves the room's length.
+-- Assumes nothing.
+use mathlib.Core.Path.{_≡_}
+use lib.ListN.{length}
+use borrow.Author.Needs.{needs}
+use native.Mathlib.Omega.{arith}
+use Rattle.probe.proofs.dumps.read_over_and_over.Statement.{statement}
+use Rattle.probe.proofs.dumps.read_over_and_over.Tie as tie
+
+abbrev Inv-loop : tie.InvT-loop
+Inv-loop dump head room₀ times last₀ left₀ room last left = length room ≡ length room₀
+
+abbrev μ-loop : tie.MeasureT-loop
+μ-loop dump head room₀ times last₀ left₀ room last left = left
+
+read-requires : tie.Need-read-requires Inv-loop μ-loop
+read-requires c κs = search needs
+
+loop-holds : tie.Need-loop-holds Inv-loop μ-loop
+loop-holds c = search needs
+
+read-requires-2 : tie.Need-read-requires-2 Inv-loop μ-loop
+read-requires-2 c κs = search needs
+
+sub-left : tie.Need-sub-left Inv-loop μ-loop
+sub-left c = omega arith
+
+loop-less : tie.Need-loop-less Inv-loop μ-loop
+loop-less c = omega arith
+
+loop-again : tie.Need-loop-again Inv-loop μ-loop
+loop-again c = search needs
+
+same-length : tie.Need-same-length Inv-loop μ-loop
+same-length c = search needs
+
+returns : tie.Need-returns Inv-loop μ-loop
+returns c = tt
+
+pub read-over-and-over-spec : {M : Type 1} → statement M
+read-over-and-over-spec =
+    tie.close
+    (tie.spec
+    Inv-loop
+    μ-loop
+    read-requires
+    loop-holds
+    read-requires-2
+    sub-left
+    loop-less
+    loop-again
+    same-length
+    returns)
