@@ -8,16 +8,12 @@ use native.Mathlib.Omega.{arith}
 use lib.ListN.{length, take, drop, length-drop}
 use lib.Seq.{getD-take, getD-drop, drop-drop}
 use lib.Dec.{eqb, ltb, leb}
-use borrow.Author.Tests.{eqb-true, eqb-false, leb-true, lt-ltb}
+use borrow.Author.Tests.{eqb-true, eqb-false, leb-true, lt-leb, lt-ltb}
 use Rattle.wire.specs.Number.{littleAt}
 use Rattle.dump.specs.Parts.{whole, restOf}
 use Rattle.dump.specs.Categories.{typeOf, marked, categoryLong, categories, howMany}
 use Rattle.dump.specs.Looked.{otherLong, fromType, frontContent}
 use Rattle.dump.proofs.Parts.{whole-fits, parts-none, parts-on, rest-none, rest-on}
-
--- the length word stands behind the type
-pub length-word : (l : List ℕ) → littleAt (drop 2 l) 0 2 ≡ littleAt l 2 2
-length-word l = ap₂ (λ (x y : ℕ). littleAt (x ∷ y ∷ []) 0 2) (getD-drop 2 l 0 0) (getD-drop 2 l 1 0)
 
 -- a category is within the dump
 pub category-fits : (l : List ℕ) → categoryLong l ≤ length l
@@ -48,8 +44,17 @@ category-stands l = go (marked l) (leb (4 + 2 * littleAt l 2 2) (length l)) refl
     go false true e f h = record { unmarked = e; long = rw (e, f); within = leb-true (4 + 2 * littleAt l 2 2) (length l) f }
     go false false e f h = absurd (omega arith)
 
+-- fewer than four bytes hold none
+pub none-short : (t : ℕ) (l : List ℕ) → length l < 4 → otherLong t l ≡ 0
+none-short t l h = rw (lt-leb (4 + 2 * littleAt l 2 2) (length l) (omega arith)) (go (eqb (typeOf l) t) (marked l))
+  where
+    go : (b c : Bool) → cond {A = ℕ} b 0 (cond c 0 0) ≡ 0
+    go true c = refl
+    go false true = refl
+    go false false = refl
+
 -- the mark is no category, so looking for it steps over every category
-other-end : (l : List ℕ) → otherLong 65535 l ≡ categoryLong l
+pub other-end : (l : List ℕ) → otherLong 65535 l ≡ categoryLong l
 other-end l = go (marked l)
   where
     go : (b : Bool) → cond b 0 (cond b 0 (whole (4 + 2 * littleAt l 2 2) l)) ≡ cond b 0 (whole (4 + 2 * littleAt l 2 2) l)

@@ -67,25 +67,29 @@ fn whole(n: usize, bytes: &[u8]) -> usize
     n
 }
 
-// How long the category at the front is; 0 where none stands there.
-fn category_long(rest: &[u8]) -> usize
-    ensures { λ r. ⌜ r ≡ categoryLong (now (rest .entry)) ⌝ }
-{
-    if word(rest) == END_MARK {
-        return 0;
-    }
-    let words = word(wire::behind(rest, 2)) as usize;
-    whole(4 + 2 * words, rest)
-}
-
-// The same, but 0 also where it is of the type that is looked for.
+// How long the category at the front is; 0 where none stands there, or it is of the type that is looked for.
 fn other_long(rest: &[u8], kind: u16) -> usize
     ensures { λ r. ⌜ r ≡ otherLong kind (now (rest .entry)) ⌝ }
 {
-    if word(rest) == kind {
+    if rest.len() < 4 {
         return 0;
     }
-    category_long(rest)
+    let here = wire::le16(rest[0], rest[1]);
+    if here == kind {
+        return 0;
+    }
+    if here == END_MARK {
+        return 0;
+    }
+    let words = wire::le16(rest[2], rest[3]) as usize;
+    whole(4 + 2 * words, rest)
+}
+
+// How long it is, of whatever type: the end mark is no category.
+fn category_long(rest: &[u8]) -> usize
+    ensures { λ r. ⌜ r ≡ categoryLong (now (rest .entry)) ⌝ }
+{
+    other_long(rest, END_MARK)
 }
 
 // Where the first category of a type begins; where there is none, where the categories end.

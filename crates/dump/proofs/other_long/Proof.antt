@@ -1,30 +1,87 @@
--- `dump::other_long`: one of the type counts as none.
+-- `dump::other_long`: fewer than four bytes are no category, and neither is one of the type or the mark; else its words are there or not.
 -- Assumes nothing.
-use mathlib.Core.Path.{_≡_, _∙_, sym}
+use mathlib.Core.Path.{_≡_, sym, _∙_, ap}
+use Prim.Native.Nat.{ℕ, _+_, _*_}
 use denote.Ref.{now}
 use borrow.Author.Needs.{needs}
 use borrow.Author.Tests.{eq-eqb, ne-eqb}
+use Rattle.dump.specs.Parts.{whole}
 use Rattle.dump.specs.Categories.{typeOf}
+use Rattle.dump.proofs.Categories.{none-short}
 use Rattle.dump.proofs.other_long.Statement.{statement}
 use Rattle.dump.proofs.other_long.Tie as tie
 
-word-requires : tie.Need-word-requires
-word-requires c κs = search needs
-
 returns : tie.Need-returns
-returns c =
-    let a = c .before .before .before .args in
-    let e : typeOf (now (a .rest)) ≡ a .kind = sym (c .before .word .ensures) ∙ c .if1 .taken in
-    rw (eq-eqb (typeOf (now (a .rest))) (a .kind) e)
+returns c = let a = c .before .before .args in sym (none-short (a .kind) (now (a .rest)) (c .if1 .taken))
 
-category-long-requires : tie.Need-category-long-requires
-category-long-requires c κs = search needs
+shared-slice-read-le16 : tie.Need-shared-slice-read-le16
+shared-slice-read-le16 c = search needs
+
+shared-slice-read-le16-2 : tie.Need-shared-slice-read-le16-2
+shared-slice-read-le16-2 c = search needs
+
+le16-requires : tie.Need-le16-requires
+le16-requires c κs = search needs
 
 returns-2 : tie.Need-returns-2
 returns-2 c =
-    let a = c .before .before .before .before .args in
-    let w = c .before .before .word .ensures in
-    rw (ne-eqb (typeOf (now (a .rest))) (a .kind) (λ e. c .before .if1 .left (w ∙ e))) (c .category-long .ensures)
+    let t = c .before in
+    let a = t .before .before .before .before .before .args in
+    rw (eq-eqb (typeOf (now (a .rest))) (a .kind) (sym (t .le16 .ensures) ∙ c .if2 .taken))
+
+returns-3 : tie.Need-returns-3
+returns-3 c =
+    let t = c .before .before in
+    let a = t .before .before .before .before .before .args in
+    let l = now (a .rest) in
+    rw (ne-eqb (typeOf l) (a .kind) (λ e. c .before .if2 .left (t .le16 .ensures ∙ e)), eq-eqb (typeOf l) 65535 (sym (t .le16 .ensures) ∙ c .if3 .taken))
+
+shared-slice-read-le16-3 : tie.Need-shared-slice-read-le16-3
+shared-slice-read-le16-3 c = search needs
+
+shared-slice-read-le16-4 : tie.Need-shared-slice-read-le16-4
+shared-slice-read-le16-4 c = search needs
+
+le16-requires-2 : tie.Need-le16-requires-2
+le16-requires-2 c κs = search needs
+
+cast-words : tie.Need-cast-words
+cast-words c = search needs
+
+mul-whole : tie.Need-mul-whole
+mul-whole c = search needs
+
+add-whole : tie.Need-add-whole
+add-whole c = search needs
+
+whole-requires : tie.Need-whole-requires
+whole-requires c κs = search needs
+
+returns-4 : tie.Need-returns-4
+returns-4 c =
+    let w = c .before in
+    let e = w .before .before .before in
+    let t = e .before .before in
+    let a = t .before .before .before .before .before .args in
+    let l = now (a .rest) in
+    rw (ne-eqb (typeOf l) (a .kind) (λ z. e .before .if2 .left (t .le16 .ensures ∙ z)), ne-eqb (typeOf l) 65535 (λ z. e .if3 .left (t .le16 .ensures ∙ z)))
+    (c .whole .ensures ∙ ap (λ (k : ℕ). whole (4 + 2 * k) l) (w .le162 .ensures))
 
 pub other-long-spec : {M : Type 1} → statement M
-other-long-spec = tie.close (tie.spec word-requires returns category-long-requires returns-2)
+other-long-spec =
+    tie.close
+    (tie.spec
+    returns
+    shared-slice-read-le16
+    shared-slice-read-le16-2
+    le16-requires
+    returns-2
+    returns-3
+    shared-slice-read-le16-3
+    shared-slice-read-le16-4
+    le16-requires-2
+    cast-words
+    mul-whole
+    add-whole
+    whole-requires
+    returns-4)
