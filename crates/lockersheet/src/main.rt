@@ -1,5 +1,7 @@
 // Makes a bay's sheet from its dump: the dump on standard input, what it doesn't say as arguments, the sheet on standard output.
+ghost use mathlib.Core.Path.{_≡_};
 ghost use Prim.Native.Nat.{_≤_};
+ghost use Rattle.lockersheet.specs.Decimal.{numberIn};
 use dump::Head;
 use libc::STDERR_FILENO;
 use libc::STDIN_FILENO;
@@ -20,6 +22,7 @@ const NO_NUMBER: Number = Number {
 
 // The decimal number that is all of a text, if it is at most `most`.
 fn decimal(text: &[u8], most: u16) -> Number
+    ensures { λ r. ⌜ r ≡ numberIn most (now (text .entry)) ⌝ }
     ensures { λ r. ⌜ r .value ≤ most ⌝ }
 {
     if text.len() == 0 {
@@ -62,7 +65,7 @@ fn complain(text: &[u8]) {
 
 fn usage() {
     complain(
-        b"usage: lockersheet FLAGS RECEIVE SEND <DUMP >SHEET; give three decimal numbers, flags up to 255 and sizes up to 65,535, or none\n",
+        b"usage: lockersheet FLAGS RECEIVE SEND <DUMP >SHEET; give three decimal numbers, flags up to 255 and sizes up to 65535, or none\n",
     );
 }
 

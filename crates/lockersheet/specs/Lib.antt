@@ -1,0 +1,2 @@
+-- What the contracts of `lockersheet` cite.
+pub mod Decimal
