@@ -116,9 +116,9 @@ def crate_text():
     return folder
 
 
-def c_program(name, *flags):
+def c_program(name, *flags, source="plan.c"):
     program = TARGET / name
-    run(CC, *C_FLAGS, *flags, "-o", program, HERE / "plan.c")
+    run(CC, *C_FLAGS, *flags, "-o", program, HERE / source)
     return program
 
 
@@ -177,6 +177,11 @@ def written_again(data):
 
 def c_writer():
     return c_program("write", "-DWRITE")
+
+
+def c_dumps():
+    """The C program that reads dumps; it takes the request that the probe is asked."""
+    return c_program("dump", source="dump.c")
 
 
 def c_used():

@@ -4,9 +4,7 @@
    room in portions of so many bytes (document 02, 1/13), and read at the end. Where WRITE isn't 0, nothing is planned either: the
    sheet is read once, and its device data is written as a sheet over and over (document 02, 2/13). A data pass is the default's: it
    clears old entries first (document 02, 3/13). Where USED isn't 0, each plan starts from an FMMU area that stands in the input. */
-#include <stdbool.h>
-#include <stdint.h>
-#include <stdio.h>
+#include "device.h"
 #include <string.h>
 
 #ifndef PORTION
@@ -20,19 +18,12 @@
 #endif
 
 enum {
-    MANAGERS = 16,
-    ENTRIES = 16,
-    MOST_PDOS = 255,
     MOST_RECORDS = 256,
     MOST_FOLLOWING = 16384,
     MOST_BITS = 65528,
     MOST_LENGTH = 65535,
 };
-enum { MAILBOX = 1, COE = 2, COMPLETE_ACCESS = 4 };
-enum { MAILBOX_WRITE = 1, MAILBOX_READ = 2, DATA_WRITE = 3, DATA_READ = 4 };
-enum { OUTPUTS = 1, INPUTS = 2 };
 enum { READ_BIT = 1, WRITE_BIT = 2, BOTH_BITS = 3 };
-enum { COE_PDO = 0, EEPROM_READ = 1, EEPROM_WRITE = 2 };
 
 struct manager {
     uint16_t start;
@@ -95,11 +86,6 @@ struct segment {
 
 /* ---- the sheet */
 
-static uint16_t pair(const uint8_t *at)
-{
-    return (uint16_t)(at[0] << 8 | at[1]);
-}
-
 static bool has_usage(const struct device *device, uint8_t usage)
 {
     for (unsigned k = 0; k < device->n; k++)
@@ -136,13 +122,12 @@ static int read_sheet(const uint8_t *sheet, size_t length, struct device *device
         manager->usage = at[4];
         if (manager->usage > DATA_READ)
             return 4;
-        /* modes 1 and 3 and directions 2 and 3 have no name */
-        if (manager->control & 0x09)
+        if (manager->control & UNNAMED)
             unnamed = true;
     }
     for (unsigned k = 0; k < device->f; k++) {
         device->usages[k] = *at++;
-        if (device->usages[k] > 3)
+        if (device->usages[k] > STATUS)
             return 4;
     }
     for (unsigned k = 0; k < device->p; k++) {
@@ -356,13 +341,6 @@ static int data_pass(const struct device *device, bool write, uint32_t *offset, 
 
 /* ---- the answer */
 
-static void say_bytes(const uint8_t *bytes, size_t count)
-{
-    putchar(' ');
-    for (size_t k = 0; k < count; k++)
-        printf("%02x", bytes[k]);
-}
-
 static void say_mailbox(const struct mailbox *mailbox)
 {
     if (mailbox->exists)
@@ -465,28 +443,6 @@ static void arrive(bool last)
 
 /* ---- the sheet written again */
 
-enum mode { NORMAL_MODE = 0, MAILBOX_MODE = 2 };
-enum direction { MASTER_READ = 0, MASTER_WRITE = 1 };
-
-struct manager_data {
-    uint16_t start;
-    enum mode mode;
-    enum direction direction;
-    bool ecat_event, dls_user_event, watchdog;
-    bool enable;
-    uint8_t usage;
-};
-
-struct device_data {
-    bool mailbox, coe, complete_access;
-    uint16_t receive, send;
-    size_t n, f;
-    struct manager_data managers[MANAGERS];
-    uint8_t usages[ENTRIES];
-    size_t pdos; /* where their records stand in the lent bytes */
-    uint8_t p;
-};
-
 /* How long p PDO records are, by their counts, of which one past the bytes is 0; and whether they break a rule. */
 static size_t pdos_length(const uint8_t *records, size_t length, unsigned p, bool *broken)
 {
@@ -510,23 +466,15 @@ static bool has_unnamed(const struct device_data *data)
         if (data->managers[k].usage > DATA_READ)
             return true;
     for (size_t k = 0; k < data->f; k++)
-        if (data->usages[k] > 3)
+        if (data->usages[k] > STATUS)
             return true;
     return false;
-}
-
-static uint8_t *put_pair(uint8_t *at, unsigned value)
-{
-    *at++ = value >> 8 & 0xff;
-    *at++ = value & 0xff;
-    return at;
 }
 
 static uint8_t *put_manager(uint8_t *at, const struct manager_data *manager)
 {
     at = put_pair(at, manager->start);
-    *at++ = (uint8_t)(manager->mode | manager->direction << 2 | manager->ecat_event << 4 | manager->dls_user_event << 5 |
-                      manager->watchdog << 6);
+    *at++ = control_of(manager);
     *at++ = manager->enable;
     *at++ = manager->usage;
     return at;
@@ -585,16 +533,7 @@ static int read_data(void)
     memcpy(data.usages, device.usages, sizeof data.usages);
     for (unsigned k = 0; k < device.n; k++) {
         const struct manager *manager = &device.managers[k];
-        data.managers[k] = (struct manager_data){
-            .start = manager->start,
-            .mode = manager->control & 2 ? MAILBOX_MODE : NORMAL_MODE,
-            .direction = manager->control & 4 ? MASTER_WRITE : MASTER_READ,
-            .ecat_event = manager->control & 0x10,
-            .dls_user_event = manager->control & 0x20,
-            .watchdog = manager->control & 0x40,
-            .enable = manager->enable,
-            .usage = manager->usage,
-        };
+        data.managers[k] = manager_of(manager->start, manager->control, manager->enable, manager->usage);
     }
     return 0;
 }

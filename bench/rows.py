@@ -1,5 +1,6 @@
-"""The sheets and tables that bench/count counts, each chosen so that a plan of it is accepted unless its name says not."""
+"""The sheets, tables and dumps that bench/count counts, each chosen so that it is accepted unless its name says not."""
 
+from pathlib import Path
 from typing import NamedTuple
 
 MAILBOX_WRITE, MAILBOX_READ, OUTPUTS, INPUTS = 1, 2, 3, 4
@@ -122,3 +123,90 @@ IN_PORTIONS = Row("the longest sheet in portions", coe(16 * KIB, MANY))
 # sheets that are written again, the last of them the longest; no bit of theirs is one that writing sets to 0
 WRITTEN = [SMALL[0], SMALL[2], SMALL[3], EEPROM[1], BY_LENGTH[2]]
 ROWS = SMALL + BY_LENGTH + BY_PDOS + EEPROM + TABLES + REFUSED
+
+
+# ---- dumps of the category area
+
+FMMU, SYNC_MANAGER, TX_PDO, RX_PDO, UNKNOWN = 40, 41, 50, 51, 10
+END_MARK = b"\xff\xff"
+MOST_PDO_BYTES = 7 * 255
+
+
+class Dump(NamedTuple):
+    name: str
+    data: bytes
+    flags: int = NO_MAILBOX
+    receive: int = 0
+    send: int = 0
+    room: int = MOST_PDO_BYTES
+
+    def input(self, times):
+        """What both programs read: a request of the probe's letter D, to read it so many times."""
+        head = b"D" + bytes([self.flags]) + self.room.to_bytes(2, "big") + times.to_bytes(4, "big")
+        head += self.receive.to_bytes(2, "big") + self.send.to_bytes(2, "big") + bytes(8)
+        return head + len(self.data).to_bytes(2, "big") + bytes(6) + self.data
+
+
+def little(value):
+    return value.to_bytes(2, "little")
+
+
+def category(kind, content=b""):
+    return little(kind) + little(len(content) // 2) + content
+
+
+def manager_record(place, usage, control):
+    """Start, length, control, status, enable, type."""
+    return little(0x1000 + 0x100 * place) + bytes([0, 0, control, 0, 1, usage])
+
+
+def pdo_record(index, manager, lengths):
+    """A head, then an entry for each bit length."""
+    entries = (bytes([0, 0x60, 1, 0, 5, length, 0, 0]) for length in lengths)
+    return little(index) + bytes([len(lengths), manager, 0, 0, 0, 0]) + b"".join(entries)
+
+
+def dump(inputs, outputs, unknown=b""):
+    """A dump of two usages, four sync managers and PDOs of these bit lengths.
+
+    Unknown categories stand between the two of PDOs, where the library goes over them most often.
+    """
+    records = [manager_record(k, usage, CONTROL[usage]) for k, usage in enumerate(managers(4))]
+    tx = [pdo_record(0x1A00 + k, 3, lengths) for k, lengths in enumerate(inputs)]
+    rx = [pdo_record(0x1600 + k, 2, lengths) for k, lengths in enumerate(outputs)]
+    data = category(FMMU, bytes([1, 2])) + category(SYNC_MANAGER, b"".join(records))
+    return data + category(TX_PDO, b"".join(tx)) + unknown + category(RX_PDO, b"".join(rx)) + END_MARK
+
+
+def sample_dump(name):
+    """A dump of samples/, with what the options in its first line say."""
+    lines = (Path(__file__).resolve().parent.parent / "samples" / f"{name}.hex").read_text().splitlines()
+    words = lines[0].split()
+    options = {word: int(words[words.index(f"--{word}") + 1]) for word in ("flags", "receive", "send")}
+    return Dump(f"samples/{name}.hex", bytes.fromhex(" ".join(line.partition("#")[0] for line in lines)), **options)
+
+
+def pdos_dump(count):
+    """PDOs of one entry each, half of them inputs."""
+    lengths = [[1 + k % 200] for k in range(count)]
+    return Dump(f"{count} PDOs of 1 entry", dump(lengths[count // 2 :], lengths[: count // 2]))
+
+
+def entries_dump(count):
+    return Dump(f"1 PDO of {count} entries", dump([[1 + k % 200 for k in range(count)]], []))
+
+
+def unknown_dump(count, size):
+    """Categories of so many bytes that are stepped over."""
+    unknown = category(UNKNOWN, bytes(size)) * count
+    return Dump(f"{count:,} unknown of {size:,} bytes", dump([[8]], [[8]], unknown))
+
+
+# each but the first at half its size, too
+DUMPS = [
+    sample_dump("bay-dump"),
+    *map(pdos_dump, (127, 255)),
+    *map(entries_dump, (127, 255)),
+    *(unknown_dump(count, 0) for count in (500, 1_000)),
+    *(unknown_dump(1, size) for size in (10_000, 20_000)),
+]
