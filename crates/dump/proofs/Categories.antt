@@ -6,7 +6,7 @@ use mathlib.Core.List.{List, [], _∷_}
 use Prim.Native.Nat.{ℕ, zero, suc, _+_, _*_, _≤_, _<_}
 use native.Mathlib.Omega.{arith}
 use lib.ListN.{length, take, drop, length-drop}
-use lib.Seq.{getD-take, getD-drop, drop-drop}
+use lib.Seq.{getD-take, drop-drop}
 use lib.Dec.{eqb, ltb, leb}
 use borrow.Author.Tests.{eqb-true, eqb-false, leb-true, lt-leb, lt-ltb}
 use Rattle.wire.specs.Number.{littleAt}
@@ -61,9 +61,6 @@ other-end l = go (marked l)
     go true = refl
     go false = refl
 
-pub rest-end : (dump : List ℕ) → restOf (otherLong 65535) dump ≡ restOf categoryLong dump
-rest-end dump = λ i. restOf (λ l. other-end l i) dump
-
 -- a walk over the categories before the first of a type: a turn, and the end
 module _ (t : ℕ) (dump : List ℕ) (at : ℕ) {long : ℕ} (e : long ≡ otherLong t (drop at dump)) where
   pub other-place : at ≤ length dump → at + long ≤ length dump
@@ -88,7 +85,7 @@ unfolding categories
 category-on l h = parts-on categoryLong category-fits l h
 
 -- its type, as part of the dump or alone
-type-alone : (l : List ℕ) → 0 < categoryLong l → typeOf (take (categoryLong l) l) ≡ typeOf l
+pub type-alone : (l : List ℕ) → 0 < categoryLong l → typeOf (take (categoryLong l) l) ≡ typeOf l
 type-alone l h =
     let n = categoryLong l in
     let m = category-stands l h .long in

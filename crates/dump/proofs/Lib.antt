@@ -2,6 +2,7 @@
 pub mod Parts
 pub mod Categories
 pub mod Looked
+pub mod Noted
 pub mod Numbered
 pub mod Managers
 pub mod Usages

@@ -15,7 +15,8 @@ use Rattle.sheet.specs.Device.{Pdo}
 use Rattle.dump.specs.Parts.{cutIn, restOf}
 use Rattle.dump.specs.Categories.{typeOf, contentOf, contentFor, howMany}
 use Rattle.dump.specs.Records.{managerLong, pdoLong, kindFor, pdosFor, pdosIn, nonempty, notWhole, second, notRecords}
-use Rattle.dump.specs.Looked.{fromType, frontContent, another, notRecordsFrom, pdosFrom}
+use Rattle.dump.proofs.Categories.{found-some}
+use Rattle.dump.specs.Looked.{fromType, frontContent, another, knownIn, moreThan, notRecordsFrom, pdosFrom}
 
 module _ (t : ℕ) where
   -- of the first of a type: its content
@@ -26,22 +27,6 @@ module _ (t : ℕ) where
       go : (b : Bool) → frontContent (fromType t cs) ≡ contentFor t cs → frontContent (cond b (c ∷ cs) (fromType t cs)) ≡ cond b (contentOf c) (contentFor t cs)
       go true h = refl
       go false h = h
-
-  -- another follows exactly if there are two
-  pub another-is : (cs : List (List ℕ)) → another t (fromType t cs) ≡ ltb 1 (howMany t cs)
-  another-is [] = refl
-  another-is (c ∷ cs) = go (eqb (typeOf c) t) (another-is cs)
-    where
-      more : (n : ℕ) → ltb 0 n ≡ ltb 1 (1 + n)
-      more n = both (ltb 0 n) refl
-        where
-          both : (b : Bool) → ltb 0 n ≡ b → ltb 0 n ≡ ltb 1 (1 + n)
-          both true e = e ∙ sym (lt-ltb 1 (1 + n) (omega (arith, ltb-true 0 n e)))
-          both false e = e ∙ sym (le-ltb 1 (1 + n) (omega (arith, ltb-false 0 n e)))
-
-      go : (b : Bool) → another t (fromType t cs) ≡ ltb 1 (howMany t cs) → another t (cond b (c ∷ cs) (fromType t cs)) ≡ ltb 1 (cond b 1 0 + howMany t cs)
-      go true h = more (howMany t cs)
-      go false h = h ∙ ap (ltb 1) (let z : howMany t cs ≡ 0 + howMany t cs = omega arith in z)
 
   -- where there is none, there is no content
   none-for : (cs : List (List ℕ)) → howMany t cs ≡ 0 → contentFor t cs ≡ []
@@ -133,6 +118,41 @@ module _ (c : List ℕ) where
       go false false true a b = refl
       go false false false a b = refl
 
+-- of four counts one is above 1 exactly if their sum is above the number of those above 0
+abbrev one : Bool → ℕ
+one b = cond b 1 0
+
+one-more : (n x y : ℕ) {r : Bool} → x ≤ y → ltb x y ≡ r → (one (ltb 0 n) + x ≤ n + y) × (ltb (one (ltb 0 n) + x) (n + y) ≡ ltb 1 n || r)
+one-more n x y {r} h e = go (ltb 0 n) (ltb 1 n) (ltb x y) refl refl refl
+  where
+    go : (p q z : Bool) → ltb 0 n ≡ p → ltb 1 n ≡ q → ltb x y ≡ z → (one p + x ≤ n + y) × (ltb (one p + x) (n + y) ≡ q || r)
+    go true true z a b c = let k = ltb-true 1 n b in (omega arith, lt-ltb (1 + x) (n + y) (omega arith))
+    go true false true a b c =
+        let k = ltb-true 0 n a in
+        let m = ltb-false 1 n b in
+        let l = ltb-true x y c in
+        (omega arith, lt-ltb (1 + x) (n + y) (omega arith) ∙ sym c ∙ e)
+    go true false false a b c =
+        let k = ltb-true 0 n a in
+        let m = ltb-false 1 n b in
+        let l = ltb-false x y c in
+        (omega arith, le-ltb (1 + x) (n + y) (omega arith) ∙ sym c ∙ e)
+    go false true z a b c = let k = ltb-false 0 n a in let m = ltb-true 1 n b in absurd (omega arith)
+    go false false true a b c = let k = ltb-false 0 n a in let l = ltb-true x y c in (omega arith, lt-ltb (0 + x) (n + y) (omega arith) ∙ sym c ∙ e)
+    go false false false a b c = let k = ltb-false 0 n a in let l = ltb-false x y c in (omega arith, le-ltb (0 + x) (n + y) (omega arith) ∙ sym c ∙ e)
+
+some-twice :
+    (a b c d : ℕ) → ltb (one (ltb 0 a) + one (ltb 0 b) + one (ltb 0 c) + one (ltb 0 d)) (a + (b + (c + d))) ≡ ltb 1 a || (ltb 1 b || (ltb 1 c || (ltb 1 d || false)))
+some-twice a b c d =
+    let s = one-more d 0 0 (omega arith) refl in
+    let r = one-more c _ _ (s .0) (s .1) in
+    let q = one-more b _ _ (r .0) (r .1) in
+    let p = one-more a _ _ (q .0) (q .1) in
+    ap₂ ltb
+    (let z : one (ltb 0 a) + one (ltb 0 b) + one (ltb 0 c) + one (ltb 0 d) ≡ one (ltb 0 a) + (one (ltb 0 b) + (one (ltb 0 c) + (one (ltb 0 d) + 0))) = omega arith in z)
+    (let z : a + (b + (c + d)) ≡ a + (b + (c + (d + 0))) = omega arith in z)
+    ∙ p .1
+
 -- 17: where there are not two of a type, the first of each say whether all are whole
 module _ (cs : List (List ℕ)) where
   abbrev firstsCut : Bool
@@ -164,14 +184,17 @@ module _ (cs : List (List ℕ)) where
         outputs = ltb-false 1 (howMany 51 cs) (d .0);
       }
 
-  pub records-looked : notRecordsFrom (fromType 40 cs) (fromType 41 cs) (fromType 50 cs) (fromType 51 cs) ≡ notRecords cs
+  -- as many types as there are, and more of their categories exactly if one has two
+  types-counted : moreThan (fromType 40 cs) (fromType 41 cs) (fromType 50 cs) (fromType 51 cs) (knownIn cs) ≡ second cs
+  types-counted =
+      (λ i. ltb (one (found-some 40 cs i) + one (found-some 41 cs i) + one (found-some 50 cs i) + one (found-some 51 cs i)) (knownIn cs))
+      ∙ some-twice (howMany 40 cs) (howMany 41 cs) (howMany 50 cs) (howMany 51 cs)
+
+  pub records-looked : notRecordsFrom (knownIn cs) (fromType 40 cs) (fromType 41 cs) (fromType 50 cs) (fromType 51 cs) ≡ notRecords cs
   unfolding notRecordsFrom notRecords
   records-looked =
-      ap₂ _||_ two (ap₂ _||_ (ap managersCut (front-is 41 cs)) (ap₂ _||_ (ap pdosCut (front-is 50 cs)) (ap pdosCut (front-is 51 cs)))) ∙ go (second cs) refl
+      ap₂ _||_ types-counted (ap₂ _||_ (ap managersCut (front-is 41 cs)) (ap₂ _||_ (ap pdosCut (front-is 50 cs)) (ap pdosCut (front-is 51 cs)))) ∙ go (second cs) refl
     where
-      two : another 40 (fromType 40 cs) || (another 41 (fromType 41 cs) || (another 50 (fromType 50 cs) || another 51 (fromType 51 cs))) ≡ second cs
-      two = ap₂ _||_ (another-is 40 cs) (ap₂ _||_ (another-is 41 cs) (ap₂ _||_ (another-is 50 cs) (another-is 51 cs ∙ sym (or-false (ltb 1 (howMany 51 cs))))))
-
       go : (b : Bool) → second cs ≡ b → second cs || firstsCut ≡ someOf notWhole cs || second cs
       go true e = rw e (always (someOf notWhole cs))
         where

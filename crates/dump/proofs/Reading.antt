@@ -24,7 +24,7 @@ use Rattle.dump.specs.declared.Head.{Head}
 use Rattle.dump.specs.Categories.{categories, contentFor, unended}
 use Rattle.dump.specs.Records.{managerFor, pdosIn, notWhole, second, notRecords}
 use Rattle.dump.specs.Dump.{managersFor, usagesFor, dumpData, ruleBroken, someUnnamed, pdoRecords, readDump, deviceWith, deviceAfter, recordsAfter, ReadsDump}
-use Rattle.dump.specs.Looked.{fromType, frontContent, notRecordsFrom, pdosFrom}
+use Rattle.dump.specs.Looked.{fromType, frontContent, knownIn, notRecordsFrom, pdosFrom}
 use Rattle.dump.proofs.Looked.{front-is, single, records-looked, pdos-looked}
 use Rattle.dump.proofs.Kept.{records-long}
 use Rattle.dump.proofs.Held.{data-back}
@@ -41,8 +41,8 @@ pub content-is : (t : ℕ) (cs : List (List ℕ)) (from : List ℕ) {l : List �
 content-is t cs from e q = q ∙ ap frontContent e ∙ front-is t cs
 
 module _ {cs : List (List ℕ)} {f m i o : List ℕ} (e : Found cs f m i o) where
-  pub not-records-is : notRecordsFrom (categories f) (categories m) (categories i) (categories o) ≡ notRecords cs
-  not-records-is = (λ k. notRecordsFrom (e .fmmus-from k) (e .managers-from k) (e .inputs-from k) (e .outputs-from k)) ∙ records-looked cs
+  pub not-records-is : {known : ℕ} → known ≡ knownIn cs → notRecordsFrom known (categories f) (categories m) (categories i) (categories o) ≡ notRecords cs
+  not-records-is n = (λ k. notRecordsFrom (n k) (e .fmmus-from k) (e .managers-from k) (e .inputs-from k) (e .outputs-from k)) ∙ records-looked cs
 
   pub pdos-are : notRecords cs ≡ false → pdosFrom (categories i) (categories o) ≡ pdosIn cs
   unfolding notRecords

@@ -2,11 +2,13 @@
 -- Assumes nothing.
 use mathlib.Core.Bool.{Bool, cond, _||_}
 use mathlib.Core.List.{List, [], _∷_, _++_}
-use Prim.Native.Nat.{ℕ}
-use lib.ListN.{drop}
+use mathlib.Core.Path.{_≡_}
+use Prim.Native.Nat.{ℕ, _+_}
+use lib.ListN.{length, drop}
 use lib.Dec.{eqb, ltb}
-use Rattle.dump.specs.Categories.{typeOf, categoryLong, contentOf, howMany}
+use Rattle.dump.specs.Categories.{typeOf, categoryLong, categories, contentOf, howMany}
 use Rattle.dump.specs.Parts.{restOf}
+use Rattle.dump.specs.declared.Found.{Found}
 use Rattle.dump.specs.Records.{managerLong, pdoLong, pdosFor, nonempty}
 use Rattle.sheet.specs.Device.{Pdo}
 
@@ -28,10 +30,41 @@ frontContent (c ∷ cs) = contentOf c
 abbrev pub another : ℕ → List (List ℕ) → Bool
 another t cs = ltb 0 (howMany t (drop 1 cs))
 
--- 17, by the categories from the first of each of the four types on
-unfoldable pub notRecordsFrom : (fmmus managers inputs outputs : List (List ℕ)) → Bool
-notRecordsFrom fmmus managers inputs outputs =
-    (another 40 fmmus || (another 41 managers || (another 50 inputs || another 51 outputs)))
+-- no category begins there
+abbrev pub nowhere : ℕ
+nowhere = 18446744073709551615
+
+-- the first place that is noted counts
+abbrev pub firstOf : ℕ → ℕ → Bool → ℕ
+firstOf noted at here = cond here (cond (eqb noted nowhere) at noted) noted
+
+-- one of the four types, and how many categories are of these
+abbrev pub knownType : ℕ → ℕ
+knownType t = cond (eqb t 40) 1 0 + (cond (eqb t 41) 1 0 + (cond (eqb t 50) 1 0 + cond (eqb t 51) 1 0))
+
+abbrev pub knownIn : List (List ℕ) → ℕ
+knownIn cs = howMany 40 cs + (howMany 41 cs + (howMany 50 cs + howMany 51 cs))
+
+-- what one walk finds of a dump
+pub record Finds (dump : List ℕ) (r : Found) : Type 0 where
+  pub fmmus : categories (drop (r .fmmus) dump) ≡ fromType 40 (categories dump)
+  pub managers : categories (drop (r .managers) dump) ≡ fromType 41 (categories dump)
+  pub inputs : categories (drop (r .inputs) dump) ≡ fromType 50 (categories dump)
+  pub outputs : categories (drop (r .outputs) dump) ≡ fromType 51 (categories dump)
+  pub known : r .known ≡ knownIn (categories dump)
+  pub end : drop (r .end) dump ≡ restOf categoryLong dump
+
+-- more are of the four types than there are types
+abbrev pub standing : List (List ℕ) → ℕ
+standing cs = cond (ltb 0 (length cs)) 1 0
+
+abbrev pub moreThan : (fmmus managers inputs outputs : List (List ℕ)) → ℕ → Bool
+moreThan fmmus managers inputs outputs known = ltb (standing fmmus + standing managers + standing inputs + standing outputs) known
+
+-- 17, by the categories from the first of each of the four types on, and how many are of these
+unfoldable pub notRecordsFrom : (known : ℕ) → (fmmus managers inputs outputs : List (List ℕ)) → Bool
+notRecordsFrom known fmmus managers inputs outputs =
+    moreThan fmmus managers inputs outputs known
     || (nonempty (restOf managerLong (frontContent managers))
     || (nonempty (restOf pdoLong (frontContent inputs)) || nonempty (restOf pdoLong (frontContent outputs))))
 

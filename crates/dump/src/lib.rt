@@ -1,6 +1,5 @@
 // A device's own EEPROM dump: the category area of ETG2010, read as device data of the EEPROM path.
 ghost use mathlib.Core.Path.{_≡_};
-ghost use mathlib.Core.Bool.{_||_};
 ghost use mathlib.Core.List.{map, _++_};
 ghost use Prim.Native.Nat.{_+_, _*_, _-_, _/_, _≤_, _<_};
 ghost use lib.ListN.{length, drop, replicate};
@@ -16,7 +15,7 @@ ghost use Rattle.dump.specs.Parts as Parts;
 ghost use Rattle.dump.specs.Parts.{partsOf, restOf};
 ghost use Rattle.dump.specs.Categories.{categoryLong, categories};
 ghost use Rattle.dump.specs.Categories as Categories;
-ghost use Rattle.dump.specs.Looked.{otherLong, fromType, frontContent, another, notRecordsFrom, pdosFrom};
+ghost use Rattle.dump.specs.Looked.{otherLong, fromType, frontContent, another, firstOf, knownType, Finds, standing, moreThan, notRecordsFrom, pdosFrom};
 ghost use Rattle.dump.specs.Records.{usageFor, managerLong, controlIn, managerFor, pdoLong, bitsIn, pdoFor, pdosFor, nonempty};
 ghost use Rattle.dump.specs.Dump.{ruleBroken, deviceWith, ReadsDump, WritesSheet};
 use channel_bytes::Control;
@@ -105,11 +104,11 @@ fn place_of(dump: &[u8], kind: u16) -> usize
     at
 }
 
-// 16: whether a category runs past the dump, or there is no end mark.
-fn unended(dump: &[u8]) -> bool
-    ensures { λ r. ⌜ r ≡ Categories.unended (now (dump .entry)) ⌝ }
+// Whether the end mark stands at the front.
+fn marked(rest: &[u8]) -> bool
+    ensures { λ r. ⌜ r ≡ Categories.marked (now (rest .entry)) ⌝ }
 {
-    word(wire::behind(dump, place_of(dump, END_MARK))) != END_MARK
+    word(rest) == END_MARK
 }
 
 // The dump from the first category of a type on.
@@ -134,20 +133,97 @@ fn follows(rest: &[u8], kind: u16) -> bool
     0 < category_long(from_type(next, kind))
 }
 
-// Whether a second category of a type stands there, given the dump from the first of each on.
-fn second(fmmus: &[u8], managers: &[u8], inputs: &[u8], outputs: &[u8]) -> bool
-    ensures { λ r. ⌜ r ≡ another 40 (categories (now (fmmus .entry))) || (another 41 (categories (now (managers .entry))) || (another 50 (categories (now (inputs .entry))) || another 51 (categories (now (outputs .entry))))) ⌝ }
+// No category begins there.
+const NOWHERE: usize = usize::MAX;
+
+// What a walk over a dump finds: where the first category of each of the four types begins, how many are of these types, and where all of them end.
+struct Found {
+    fmmus: usize,
+    managers: usize,
+    inputs: usize,
+    outputs: usize,
+    known: usize,
+    end: usize,
+}
+
+// The first place counts.
+fn first(noted: usize, at: usize, here: bool) -> usize
+    ensures { λ r. ⌜ r ≡ firstOf noted at here ⌝ }
 {
-    if follows(fmmus, FMMU) {
-        return true;
+    if !here {
+        return noted;
     }
-    if follows(managers, SYNC_MANAGER) {
-        return true;
+    if noted == NOWHERE {
+        return at;
     }
-    if follows(inputs, TX_PDO) {
-        return true;
+    noted
+}
+
+// 1 for each of the four types.
+fn is_known(kind: u16) -> usize
+    ensures { λ r. ⌜ (r ≡ knownType kind) × (r ≤ 1) ⌝ }
+{
+    if kind == FMMU {
+        return 1;
     }
-    follows(outputs, RX_PDO)
+    if kind == SYNC_MANAGER {
+        return 1;
+    }
+    if kind == TX_PDO {
+        return 1;
+    }
+    if kind == RX_PDO {
+        return 1;
+    }
+    0
+}
+
+// Walks over all categories once.
+fn find(dump: &[u8]) -> Found
+    ensures { λ r. ⌜ Finds (now (dump .entry)) r ⌝ }
+{
+    let mut fmmus = NOWHERE;
+    let mut managers = NOWHERE;
+    let mut inputs = NOWHERE;
+    let mut outputs = NOWHERE;
+    let mut known = 0;
+    let mut end = 0;
+    let mut long = category_long(dump);
+    while 0 < long {
+        let kind = word(wire::behind(dump, end));
+        fmmus = first(fmmus, end, kind == FMMU);
+        managers = first(managers, end, kind == SYNC_MANAGER);
+        inputs = first(inputs, end, kind == TX_PDO);
+        outputs = first(outputs, end, kind == RX_PDO);
+        known += is_known(kind);
+        end += long;
+        long = category_long(wire::behind(dump, end));
+    }
+    Found {
+        fmmus,
+        managers,
+        inputs,
+        outputs,
+        known,
+        end,
+    }
+}
+
+// 1 where a category stands at the front.
+fn stands(rest: &[u8]) -> usize
+    ensures { λ r. ⌜ (r ≡ standing (categories (now (rest .entry)))) × (r ≤ 1) ⌝ }
+{
+    if category_long(rest) == 0 {
+        return 0;
+    }
+    1
+}
+
+// Whether a second category of a type stands there: more are of the four types than there are types.
+fn second(known: usize, fmmus: &[u8], managers: &[u8], inputs: &[u8], outputs: &[u8]) -> bool
+    ensures { λ r. ⌜ r ≡ moreThan (categories (now (fmmus .entry))) (categories (now (managers .entry))) (categories (now (inputs .entry))) (categories (now (outputs .entry))) known ⌝ }
+{
+    stands(fmmus) + stands(managers) + stands(inputs) + stands(outputs) < known
 }
 
 // A sync manager, from its record at the front.
@@ -331,10 +407,10 @@ fn pdos_cut(bytes: &[u8]) -> bool
 }
 
 // 17: whether a category isn't whole records, or there is a second one of a type, given the dump from the first of each on.
-fn not_records(fmmus: &[u8], managers: &[u8], inputs: &[u8], outputs: &[u8]) -> bool
-    ensures { λ r. ⌜ r ≡ notRecordsFrom (categories (now (fmmus .entry))) (categories (now (managers .entry))) (categories (now (inputs .entry))) (categories (now (outputs .entry))) ⌝ }
+fn not_records(known: usize, fmmus: &[u8], managers: &[u8], inputs: &[u8], outputs: &[u8]) -> bool
+    ensures { λ r. ⌜ r ≡ notRecordsFrom known (categories (now (fmmus .entry))) (categories (now (managers .entry))) (categories (now (inputs .entry))) (categories (now (outputs .entry))) ⌝ }
 {
-    if second(fmmus, managers, inputs, outputs) {
+    if second(known, fmmus, managers, inputs, outputs) {
         return true;
     }
     let records = content(managers);
@@ -426,14 +502,15 @@ fn device_of(head: Head, records: &[u8], usages: &[u8], p: u8) -> Device
 pub fn read(dump: &[u8], head: Head, room: &mut [u8]) -> SheetRead
     ensures { λ r. ⌜ ReadsDump head (now (dump .entry)) (now (room .entry)) r (now (room .exit)) ⌝ }
 {
-    if unended(dump) {
+    let found = find(dump);
+    if !marked(wire::behind(dump, found.end)) {
         return sheet::refused(16);
     }
-    let fmmus = from_type(dump, FMMU);
-    let managers = from_type(dump, SYNC_MANAGER);
-    let inputs = from_type(dump, TX_PDO);
-    let outputs = from_type(dump, RX_PDO);
-    if not_records(fmmus, managers, inputs, outputs) {
+    let fmmus = wire::behind(dump, found.fmmus);
+    let managers = wire::behind(dump, found.managers);
+    let inputs = wire::behind(dump, found.inputs);
+    let outputs = wire::behind(dump, found.outputs);
+    if not_records(found.known, fmmus, managers, inputs, outputs) {
         return sheet::refused(17);
     }
     let usages = content(fmmus);
@@ -454,6 +531,7 @@ pub fn read(dump: &[u8], head: Head, room: &mut [u8]) -> SheetRead
         device: device_of(head, records, usages, p as u8),
     }
 }
+
 // Writes a dump's sheet into the room, whole or not at all, and answers its length; 1,892 bytes are always enough. It is refused as reading is, with
 // 12 where the room is too short for the sheet.
 pub fn write_sheet(dump: &[u8], head: Head, room: &mut [u8]) -> Written

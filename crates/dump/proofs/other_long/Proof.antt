@@ -1,6 +1,6 @@
 -- `dump::other_long`: fewer than four bytes are no category, and neither is one of the type or the mark; else its words are there or not.
 -- Assumes nothing.
-use mathlib.Core.Path.{_≡_, sym, _∙_, ap}
+use mathlib.Core.Path.{sym, _∙_, ap}
 use Prim.Native.Nat.{ℕ, _+_, _*_}
 use denote.Ref.{now}
 use borrow.Author.Needs.{needs}

@@ -1,13 +1,13 @@
 -- `dump::read`: the test that led to each refusal says that it is the first that holds; else the records are put, and the record holds the data.
 -- Assumes nothing.
 use mathlib.Core.Path.{_≡_, sym, _∙_, ap}
-use mathlib.Core.Bool.{Bool, false}
+use mathlib.Core.Bool.{Bool, false, not}
 use mathlib.Core.List.{List, map}
 use Prim.Native.Nat.{ℕ, _*_, _/_, _≤_}
 use native.Mathlib.Omega.{arith}
 use denote.Ref.{now}
 use lib.ListN.{length, length-map}
-use borrow.Author.Tests.{lt-ltb, le-ltb}
+use borrow.Author.Tests.{lt-ltb, le-ltb, not-true, not-false}
 use borrow.Author.Needs.{needs}
 use Rattle.wire.specs.Lists.{someOf}
 use Rattle.wire.specs.Room.{over}
@@ -17,7 +17,7 @@ use Rattle.sheet.specs.Device.{Pdo}
 use Rattle.writer.specs.Form.{pdoBytes}
 use Rattle.writer.proofs.Keeps.{Keeps}
 use Rattle.dump.specs.declared.Head.{Head}
-use Rattle.dump.specs.Categories.{categories, contentFor, unended}
+use Rattle.dump.specs.Categories.{marked, categories, contentFor, unended}
 use Rattle.dump.specs.Parts.{partsOf}
 use Rattle.dump.specs.Records.{usageFor, managerLong, controlIn, managerFor, pdosIn, notRecords}
 use Rattle.dump.specs.Dump.{managersFor, usagesFor, dumpData, ruleBroken, someUnnamed, deviceWith}
@@ -38,36 +38,46 @@ in-range c =
       room-bytes = record { below = λ k. c .slice-known .given k .fits };
     }
 
+-- 16
+end-marked : (c : tie.After-marked) {b : Bool} → c .marked .result ≡ b → unended (now (c .before .before .before .before .before .args .dump)) ≡ not b
+unfolding unended
+end-marked c e =
+    let f = c .before .before in
+    ap not (sym (c .marked .ensures ∙ ap marked (c .before .behind .ensures ∙ f .find .ensures .end)) ∙ e)
+
 -- the call, and what is found of its dump
-module _ (c : tie.After-from-type4) where
+module _ (c : tie.After-behind5) where
   abbrev head : Head
-  head = c .before .before .before .before .before .before .before .before .args .head
+  head = c .before .before .before .before .before .before .before .before .before .before .args .head
 
   abbrev dump : List ℕ
-  dump = now (c .before .before .before .before .before .before .before .before .args .dump)
+  dump = now (c .before .before .before .before .before .before .before .before .before .before .args .dump)
 
   abbrev room : List ℕ
-  room = now (c .before .before .before .before .before .before .before .before .args .room)
+  room = now (c .before .before .before .before .before .before .before .before .before .before .args .room)
 
   ended : unended dump ≡ false
-  ended = let e = c .before .before .before .before in sym (e .before .unended .ensures) ∙ e .if1 .left
+  ended = let m = c .before .before .before .before .before in end-marked m (not-false (m .marked .result) (c .before .before .before .before .if1 .left))
 
-  found : Found (categories dump) (now (c .before .before .before .from-type .result)) (now (c .before .before .from-type2 .result)) (now (c .before .from-type3 .result)) (now (c .from-type4 .result))
+  found : Found (categories dump) (now (c .before .before .before .behind2 .result)) (now (c .before .before .behind3 .result)) (now (c .before .behind4 .result)) (now (c .behind5 .result))
   found =
+      let f = c .before .before .before .before .before .before .before .find .ensures in
       record {
-        fmmus-from = c .before .before .before .from-type .ensures;
-        managers-from = c .before .before .from-type2 .ensures;
-        inputs-from = c .before .from-type3 .ensures;
-        outputs-from = c .from-type4 .ensures;
+        fmmus-from = ap categories (c .before .before .before .behind2 .ensures) ∙ f .fmmus;
+        managers-from = ap categories (c .before .before .behind3 .ensures) ∙ f .managers;
+        inputs-from = ap categories (c .before .behind4 .ensures) ∙ f .inputs;
+        outputs-from = ap categories (c .behind5 .ensures) ∙ f .outputs;
       }
 
 -- 17
 records : (c : tie.After-not-records) {b : Bool} → c .not-records .result ≡ b → notRecords (categories (dump (c .before))) ≡ b
-records c e = sym (not-records-is (found (c .before))) ∙ sym (c .not-records .ensures) ∙ e
+records c e =
+    let f = c .before .before .before .before .before .before .before .before .find .ensures in
+    sym (not-records-is (found (c .before)) (f .known)) ∙ sym (c .not-records .ensures) ∙ e
 
 -- the contents of the four, where 17 isn't given
 module _ (c : tie.After-pdo-count) where
-  abbrev found-at : tie.After-from-type4
+  abbrev found-at : tie.After-behind5
   found-at = c .before .before .before .before .before
 
   abbrev categories-at : List (List ℕ)
@@ -107,8 +117,8 @@ counts c e =
     (omega (arith, count-at p), omega arith, omega arith)
 
 -- so the data has a sheet
-kept : (c : tie.After-from-type4) → Broken (head c) (dump c) (room c) ≡ false → Keeps (dumpData (head c) (categories (dump c)))
-kept c b = let r = in-range (c .before .before .before .before .before .before) in dump-keeps (head c) (dump c) (r .receive) (r .send) (r .bytes) b
+kept : (c : tie.After-behind5) → Broken (head c) (dump c) (room c) ≡ false → Keeps (dumpData (head c) (categories (dump c)))
+kept c b = let r = in-range (c .before .before .before .before .before .before .before .before) in dump-keeps (head c) (dump c) (r .receive) (r .send) (r .bytes) b
 
 -- 5
 controls : (c : tie.After-some-control-unnamed) {b : Bool} → c .some-control-unnamed .result ≡ b → someUnnamed (categories-at (c .before .before .before)) ≡ b
@@ -117,29 +127,35 @@ controls c e =
     ∙ sym (c .some-control-unnamed .ensures)
     ∙ e
 
-unended-requires : tie.Need-unended-requires
-unended-requires c κs = tt
+find-requires : tie.Need-find-requires
+find-requires c κs = tt
+
+behind-requires : tie.Need-behind-requires
+behind-requires c κs = tt
+
+marked-requires : tie.Need-marked-requires
+marked-requires c κs = tt
 
 refused-requires : tie.Need-refused-requires
 refused-requires c κs = tt
 
 returns : tie.Need-returns
 returns c =
-    let u = c .before .before in
-    let a = u .before .before .before .args in
-    reads-16 (a .head) (now (a .dump)) (now (a .room)) (c .refused .ensures) (sym (u .unended .ensures) ∙ c .before .if1 .taken)
+    let m = c .before .before in
+    let a = m .before .before .before .before .before .args in
+    reads-16 (a .head) (now (a .dump)) (now (a .room)) (c .refused .ensures) (end-marked m (not-true (m .marked .result) (c .before .if1 .taken)))
 
-from-type-requires : tie.Need-from-type-requires
-from-type-requires c κs = tt
+behind-requires-2 : tie.Need-behind-requires-2
+behind-requires-2 c κs = tt
 
-from-type-requires-2 : tie.Need-from-type-requires-2
-from-type-requires-2 c κs = tt
+behind-requires-3 : tie.Need-behind-requires-3
+behind-requires-3 c κs = tt
 
-from-type-requires-3 : tie.Need-from-type-requires-3
-from-type-requires-3 c κs = tt
+behind-requires-4 : tie.Need-behind-requires-4
+behind-requires-4 c κs = tt
 
-from-type-requires-4 : tie.Need-from-type-requires-4
-from-type-requires-4 c κs = tt
+behind-requires-5 : tie.Need-behind-requires-5
+behind-requires-5 c κs = tt
 
 not-records-requires : tie.Need-not-records-requires
 not-records-requires c κs = tt
@@ -240,13 +256,15 @@ pub read-spec : {M : Type 1} → statement M
 read-spec =
     tie.close
     (tie.spec
-    unended-requires
+    find-requires
+    behind-requires
+    marked-requires
     refused-requires
     returns
-    from-type-requires
-    from-type-requires-2
-    from-type-requires-3
-    from-type-requires-4
+    behind-requires-2
+    behind-requires-3
+    behind-requires-4
+    behind-requires-5
     not-records-requires
     refused-requires-2
     returns-2
