@@ -1,11 +1,11 @@
 -- The theorems aren't empty: dumps that are read, computed, each refusal, and a call that keeps the promise.
 -- Assumes nothing.
 use mathlib.Core.Path.{_≡_, refl}
-use mathlib.Core.Bool.{false}
+use mathlib.Core.Bool.{true, false}
 use mathlib.Core.List.{List, [], _∷_, _++_}
 use Prim.Native.Nat.{ℕ, _<_}
 use native.Mathlib.Omega.{arith}
-use lib.ListN.{replicate}
+use lib.ListN.{take, drop, replicate}
 use lib.Dec.{ltb}
 use borrow.Author.Tests.{ltb-false}
 use Rattle.wire.specs.Image.{Bytes}
@@ -24,7 +24,7 @@ use Rattle.dump.specs.Parts.{cutIn}
 use Rattle.dump.specs.Categories.{categories, unended}
 use Rattle.dump.specs.Records.{pdosIn, notRecords}
 use Rattle.dump.specs.Dump.{dumpData, readDump, deviceAfter, recordsAfter}
-use Rattle.dump.specs.Calls.{Call}
+use Rattle.dump.specs.Calls.{Call, Category, Between, Behind}
 
 abbrev pub headWith : (flags : ℕ) → Head
 headWith flags = record { flags = flags; «receive_size» = record { 0 = 0 }; «send_size» = record { 0 = 0 } }
@@ -65,10 +65,51 @@ pub bay-sheet :
 unfolding sheetOf bodyBytes flat controlAt controlByte
 bay-sheet = refl
 
--- the smallest dump is the end mark
-pub mark-alone : (h : Head) → readDump h (255 ∷ 255 ∷ []) [] ≡ readDump h (255 ∷ 255 ∷ 0 ∷ []) []
+-- no number is above 255, so all are bytes
+all-bytes : (l : List ℕ) → someOf (ltb 255) l ≡ false → Bytes l
+all-bytes l e = bytes-of l (none-of (ltb 255) (λ (b : ℕ). b < 256) (λ b z. let h = ltb-false 255 b z in omega arith) l e)
+
+-- the smallest dump is the end mark: it is accepted, and gives nothing but what the caller gave
+pub mark-alone :
+    readDump (headWith 1) (255 ∷ 255 ∷ []) []
+    ≡ accepted (record { mailbox = true; coeProtocol = false; complete = false; receive = 0; send = 0; managers = []; usages = []; pdos = [] })
 unfolding readDump unended notRecords dumpData categories cutIn pdosIn flat
-mark-alone h = refl
+mark-alone = refl
+
+-- the bay's strings stand between others, and can be left out
+abbrev strings : Category
+strings = record { typeWord = 10; words = 1; content = 1 ∷ 0 ∷ []; no-mark = omega arith; fits = omega arith; even = refl }
+
+abbrev others : List Category
+others =
+    record { typeWord = 40; words = 1; content = 255 ∷ 2 ∷ []; no-mark = omega arith; fits = omega arith; even = refl }
+    ∷ record { typeWord = 41; words = 4; content = 128 ∷ 17 ∷ 3 ∷ 0 ∷ 32 ∷ 0 ∷ 1 ∷ 4 ∷ []; no-mark = omega arith; fits = omega arith; even = refl }
+    ∷ record {
+      typeWord = 51;
+      words = 8;
+      content = 0 ∷ 22 ∷ 1 ∷ 2 ∷ 0 ∷ 0 ∷ 0 ∷ 0 ∷ 0 ∷ 112 ∷ 1 ∷ 0 ∷ 6 ∷ 16 ∷ 0 ∷ 0 ∷ [];
+      no-mark = omega arith;
+      fits = omega arith;
+      even = refl;
+    }
+    ∷ []
+
+pub strings-between : Between (take 38 (bay 32) ++ drop 44 (bay 32)) (bay 32)
+unfolding flat
+strings-between =
+    record {
+      front = others;
+      category = strings;
+      back = drop 44 (bay 32);
+      unknown = record { no-fmmu = λ e. omega arith; no-manager = λ e. omega arith; no-inputs = λ e. omega arith; no-outputs = λ e. omega arith };
+      without = refl;
+      with = refl;
+    }
+
+-- and so can the byte behind its mark
+pub byte-behind : Behind (take 74 (bay 32)) (bay 32)
+unfolding unended categories cutIn
+byte-behind = record { bytes = all-bytes (take 74 (bay 32)) refl; ended = refl; more = 7 ∷ []; longer = refl }
 
 -- each refusal: no byte; a SyncM of one word, with the mark and without it; flag bit 3; a control of mode 3; a room one byte short
 pub refusals :
@@ -80,10 +121,6 @@ pub refusals :
     × (readDump (headWith 0) (bay 32) (replicate 13 9) ≡ refused 12)
 unfolding readDump unended notRecords dumpData categories cutIn pdosIn listOf flat unnamed
 refusals = (refl, refl, refl, refl, refl, refl)
-
--- no number is above 255, so all are bytes
-all-bytes : (l : List ℕ) → someOf (ltb 255) l ≡ false → Bytes l
-all-bytes l e = bytes-of l (none-of (ltb 255) (λ (b : ℕ). b < 256) (λ b z. let h = ltb-false 255 b z in omega arith) l e)
 
 -- a call that reads the bay into a room of 16 bytes: two of them stay
 pub call : Call

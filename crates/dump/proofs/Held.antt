@@ -31,7 +31,7 @@ use Rattle.writer.proofs.Lent.{same-end, fit-end}
 use Rattle.writer.proofs.Conditions.{StartInRange, keeps-data}
 use Rattle.dump.specs.declared.Head.{Head}
 use Rattle.dump.specs.Records.{managerFor, pdosIn}
-use Rattle.dump.specs.Dump.{managersFor, usagesFor, dumpData, pdoRecords, deviceWith}
+use Rattle.dump.specs.Dump.{managerRecords, usagesFor, dumpData, pdoRecords, deviceWith}
 use Rattle.dump.proofs.Ranges.{each-append, behind-bytes}
 
 -- a list filled up to sixteen has sixteen, and what holds of each and of what fills it, holds of all
@@ -60,7 +60,7 @@ module _ (h : Head) (cs : List (List ℕ)) (k : Keeps (dumpData h cs)) (room : L
   x = dumpData h cs
 
   abbrev ms : List SyncManager
-  ms = map managerFor (managersFor cs)
+  ms = map managerFor (managerRecords cs)
 
   abbrev us : List ℕ
   us = usagesFor cs

@@ -26,7 +26,7 @@ use Rattle.writer.proofs.Conditions.{StartInRange}
 use Rattle.dump.specs.declared.Head.{Head}
 use Rattle.dump.specs.Categories.{typeOf, categories, contentOf}
 use Rattle.dump.specs.Records.{managerFor, kindFor, pdosFor, pdosIn}
-use Rattle.dump.specs.Dump.{managersFor, usagesFor, dumpData, ruleBroken, pdoRecords}
+use Rattle.dump.specs.Dump.{managerRecords, usagesFor, dumpData, ruleBroken, pdoRecords}
 use Rattle.dump.proofs.Pdos.{pdos-append, pdos-count, pdos-long}
 use Rattle.dump.proofs.Ranges.{categories-bytes, starts-in-range, pdos-keep}
 
@@ -84,12 +84,12 @@ keeps-rule flags ms us p e =
 
 -- the data of a dump, where its bytes and the caller's sizes are in range and no rule is broken
 module _ (h : Head) (dump : List ℕ) (receive : h .«receive_size» .0 < 65536) (send : h .«send_size» .0 < 65536) (bytes : Bytes dump)
-    (rule : ruleBroken (h .flags) (map managerFor (managersFor (categories dump))) (usagesFor (categories dump)) (length (pdosIn (categories dump))) ≡ false) where
+    (rule : ruleBroken (h .flags) (map managerFor (managerRecords (categories dump))) (usagesFor (categories dump)) (length (pdosIn (categories dump))) ≡ false) where
   abbrev x : Data
   x = dumpData h (categories dump)
 
   abbrev ms : List SyncManager
-  ms = map managerFor (managersFor (categories dump))
+  ms = map managerFor (managerRecords (categories dump))
 
   kept : KeepsRule ms (usagesFor (categories dump)) (length (pdosIn (categories dump)))
   kept = keeps-rule (h .flags) ms (usagesFor (categories dump)) (length (pdosIn (categories dump))) rule

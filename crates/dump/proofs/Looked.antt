@@ -1,12 +1,12 @@
--- What the code looks for is what is meant: the first of a type holds its content, where another follows there are two, and where there are not two
--- of a type the first of each hold all records.
+-- What the code looks for is what is meant: the first of a type holds its content, where more are counted than types occur there are two of one, and
+-- where there are not two of a type the first of each hold all records.
 -- Assumes nothing.
 use mathlib.Core.Path.{_≡_, refl, sym, _∙_, ap, ap₂}
 use mathlib.Core.Bool.{Bool, true, false, cond, _&&_, _||_}
 use mathlib.Core.List.{List, [], _∷_, _++_, append-nil}
 use Prim.Native.Nat.{ℕ, _+_, _≤_}
 use native.Mathlib.Omega.{arith}
-use lib.ListN.{drop}
+use lib.ListN.{length}
 use lib.Dec.{eqb, ltb}
 use borrow.Author.Tests.{lt-ltb, le-ltb, ltb-true, ltb-false, eqb-true}
 use Rattle.wire.specs.Lists.{someOf}
@@ -16,7 +16,7 @@ use Rattle.dump.specs.Parts.{cutIn, restOf}
 use Rattle.dump.specs.Categories.{typeOf, contentOf, contentFor, howMany}
 use Rattle.dump.specs.Records.{managerLong, pdoLong, kindFor, pdosFor, pdosIn, nonempty, notWhole, second, notRecords}
 use Rattle.dump.proofs.Categories.{found-some}
-use Rattle.dump.specs.Looked.{fromType, frontContent, another, knownIn, moreThan, notRecordsFrom, pdosFrom}
+use Rattle.dump.specs.Looked.{fromType, frontContent, knownIn, moreThan, notRecordsFrom, pdosFrom}
 
 module _ (t : ℕ) where
   -- of the first of a type: its content
@@ -238,16 +238,16 @@ inputs-other x e f = rw (e, f)
 outputs-other : (x : ℕ) → eqb x 51 ≡ false → eqb x 50 ≡ false → kindFor x ≡ 0
 outputs-other x e f = inputs-other x f e
 
--- from the first of a type on there are no more of another type than in all
-fewer : (t u : ℕ) (cs : List (List ℕ)) → howMany u (drop 1 (fromType t cs)) ≤ howMany u cs
-fewer t u [] = omega arith
-fewer t u (c ∷ cs) = go (eqb (typeOf c) t) (fewer t u cs)
+-- from the first of a type on there are no more than in all
+from-few : (t : ℕ) (cs : List (List ℕ)) → length (fromType t cs) ≤ length cs
+from-few t [] = omega arith
+from-few t (c ∷ cs) = go (eqb (typeOf c) t) (from-few t cs)
   where
-    go : (b : Bool) → howMany u (drop 1 (fromType t cs)) ≤ howMany u cs → howMany u (drop 1 (cond b (c ∷ cs) (fromType t cs))) ≤ howMany u (c ∷ cs)
+    go : (b : Bool) → length (fromType t cs) ≤ length cs → length (cond b (c ∷ cs) (fromType t cs)) ≤ length (c ∷ cs)
     go true h = omega arith
     go false h = omega arith
 
--- in dump order, where there are not two of a type: the first is of the one type, of the other, or of neither
+-- in dump order, where there are not two of a type: from the one that comes first on there are more
 module _ where
   abbrev inputsOf : List (List ℕ) → List Pdo
   inputsOf cs = heldBy 50 51 inputs-other cs
@@ -255,23 +255,12 @@ module _ where
   abbrev outputsOf : List (List ℕ) → List Pdo
   outputsOf cs = heldBy 51 50 outputs-other cs
 
+  -- from the inputs on there are more than from the outputs on
+  abbrev inputsFirst : List (List ℕ) → Bool
+  inputsFirst cs = ltb (length (fromType 51 cs)) (length (fromType 50 cs))
+
   abbrev Ordered : List (List ℕ) → Type 0
-  Ordered cs = cond (another 51 (fromType 50 cs)) (inputsOf cs ++ outputsOf cs) (outputsOf cs ++ inputsOf cs) ≡ pdosIn cs
-
-  inputs-first : (b : Bool) (c : List ℕ) (cs : List (List ℕ)) → howMany 50 cs ≡ 0 → howMany 51 cs ≤ 1 → ltb 0 (howMany 51 cs) ≡ b
-      → cond b (pdosFor 1 (contentOf c) ++ outputsOf cs) (outputsOf cs ++ pdosFor 1 (contentOf c)) ≡ pdosFor 1 (contentOf c) ++ pdosIn cs
-  inputs-first true c cs n m e = ap (λ (ps : List Pdo). pdosFor 1 (contentOf c) ++ ps) (sym (pdos-alone 51 50 outputs-other cs n m))
-  inputs-first false c cs n m e =
-      let none : outputsOf cs ≡ [] = ap (pdosFor 2) (none-for 51 cs (omega (arith, ltb-false 0 (howMany 51 cs) e))) ∙ no-pdos 2 in
-      ap (λ (ps : List Pdo). ps ++ pdosFor 1 (contentOf c)) none
-      ∙ sym (append-nil (pdosFor 1 (contentOf c)))
-      ∙ ap (λ (ps : List Pdo). pdosFor 1 (contentOf c) ++ ps) (sym (pdos-alone 51 50 outputs-other cs n m ∙ none))
-
-  outputs-first : (c : List ℕ) (cs : List (List ℕ)) → howMany 51 cs ≡ 0 → howMany 50 cs ≤ 1
-      → cond (another 51 (fromType 50 cs)) (inputsOf cs ++ pdosFor 2 (contentOf c)) (pdosFor 2 (contentOf c) ++ inputsOf cs) ≡ pdosFor 2 (contentOf c) ++ pdosIn cs
-  outputs-first c cs n m =
-      ap (λ (b : Bool). cond b (inputsOf cs ++ pdosFor 2 (contentOf c)) (pdosFor 2 (contentOf c) ++ inputsOf cs)) (le-ltb 0 (howMany 51 (drop 1 (fromType 50 cs))) (omega (arith, fewer 50 51 cs)))
-      ∙ ap (λ (ps : List Pdo). pdosFor 2 (contentOf c) ++ ps) (sym (pdos-alone 50 51 inputs-other cs n m))
+  Ordered cs = cond (inputsFirst cs) (inputsOf cs ++ outputsOf cs) (outputsOf cs ++ inputsOf cs) ≡ pdosIn cs
 
   ordered : (cs : List (List ℕ)) → howMany 50 cs ≤ 1 → howMany 51 cs ≤ 1 → Ordered cs
   unfolding pdosIn cutIn
@@ -281,17 +270,23 @@ module _ where
       go :
           (x y : Bool) → (x ≡ true → y ≡ true → ⊥) → cond x 1 0 + howMany 50 cs ≤ 1 → cond y 1 0 + howMany 51 cs ≤ 1
           → (howMany 50 cs ≤ 1 → howMany 51 cs ≤ 1 → Ordered cs)
-          → cond (another 51 (cond x (c ∷ cs) (fromType 50 cs)))
+          → cond (ltb (length (cond y (c ∷ cs) (fromType 51 cs))) (length (cond x (c ∷ cs) (fromType 50 cs))))
           (pdosFor 1 (cond x (contentOf c) (contentFor 50 cs)) ++ pdosFor 2 (cond y (contentOf c) (contentFor 51 cs)))
           (pdosFor 2 (cond y (contentOf c) (contentFor 51 cs)) ++ pdosFor 1 (cond x (contentOf c) (contentFor 50 cs)))
           ≡ pdosFor (cond x 1 (cond y 2 0)) (contentOf c) ++ pdosIn cs
       go true true a m n h = absurd (a refl refl)
-      go true false a m n h = inputs-first (ltb 0 (howMany 51 cs)) c cs (omega arith) (omega arith) refl
-      go false true a m n h = outputs-first c cs (omega arith) (omega arith)
+      go true false a m n h =
+          ap (λ (b : Bool). cond b (pdosFor 1 (contentOf c) ++ outputsOf cs) (outputsOf cs ++ pdosFor 1 (contentOf c)))
+          (lt-ltb (length (fromType 51 cs)) (length (c ∷ cs)) (omega (arith, from-few 51 cs)))
+          ∙ ap (λ (ps : List Pdo). pdosFor 1 (contentOf c) ++ ps) (sym (pdos-alone 51 50 outputs-other cs (omega arith) (omega arith)))
+      go false true a m n h =
+          ap (λ (b : Bool). cond b (inputsOf cs ++ pdosFor 2 (contentOf c)) (pdosFor 2 (contentOf c) ++ inputsOf cs))
+          (le-ltb (length (c ∷ cs)) (length (fromType 50 cs)) (omega (arith, from-few 50 cs)))
+          ∙ ap (λ (ps : List Pdo). pdosFor 2 (contentOf c) ++ ps) (sym (pdos-alone 50 51 inputs-other cs (omega arith) (omega arith)))
       go false false a m n h = h (omega arith) (omega arith)
 
-pub pdos-looked : (cs : List (List ℕ)) → Single cs → pdosFrom (fromType 50 cs) (fromType 51 cs) ≡ pdosIn cs
+pub pdos-looked : (cs : List (List ℕ)) {b : Bool} → b ≡ inputsFirst cs → Single cs → pdosFrom b (fromType 50 cs) (fromType 51 cs) ≡ pdosIn cs
 unfolding pdosFrom
-pdos-looked cs s =
-    ap₂ (λ (x y : List ℕ). cond (another 51 (fromType 50 cs)) (pdosFor 1 x ++ pdosFor 2 y) (pdosFor 2 y ++ pdosFor 1 x)) (front-is 50 cs) (front-is 51 cs)
+pdos-looked cs e s =
+    (λ i. cond (e i) (pdosFor 1 (front-is 50 cs i) ++ pdosFor 2 (front-is 51 cs i)) (pdosFor 2 (front-is 51 cs i) ++ pdosFor 1 (front-is 50 cs i)))
     ∙ ordered cs (s .inputs) (s .outputs)

@@ -13,7 +13,7 @@ use Rattle.writer.proofs.Parts.{pdosBytes}
 use Rattle.writer.proofs.Stored.{stored-next, stored-front}
 use Rattle.dump.specs.Parts.{partsOf}
 use Rattle.dump.specs.Records.{pdoLong, pdosFor}
-use Rattle.dump.specs.Looked.{frontContent, another, pdosFrom}
+use Rattle.dump.specs.Looked.{frontContent, pdosFrom}
 use Rattle.dump.proofs.Pdos.{pdos-append, pdos-count}
 
 module _ (ps qs : List Pdo) where
@@ -32,14 +32,15 @@ module _ (ps qs : List Pdo) where
       ∙ stored-front (pdosBytes ps ++ pdosBytes qs) room (omega arith)
       ∙ ap (λ (x : List ℕ). over x room) (sym (pdos-append ps qs))
 
-pub pdos-counted : (is os : List (List ℕ)) → length (pdosFrom is os) ≡ length (partsOf pdoLong (frontContent is)) + length (partsOf pdoLong (frontContent os))
+pub pdos-counted :
+    (b : Bool) (is os : List (List ℕ)) → length (pdosFrom b is os) ≡ length (partsOf pdoLong (frontContent is)) + length (partsOf pdoLong (frontContent os))
 unfolding pdosFrom
-pdos-counted is os =
-    either-count (pdosFor 1 (frontContent is)) (pdosFor 2 (frontContent os)) (another 51 is)
+pdos-counted b is os =
+    either-count (pdosFor 1 (frontContent is)) (pdosFor 2 (frontContent os)) b
     ∙ ap₂ _+_ (pdos-count 1 (frontContent is) (omega arith)) (pdos-count 2 (frontContent os) (omega arith))
 
--- the one order or the other, as it is asked
-pub in-order : (is os : List (List ℕ)) {i o : List ℕ} (b : Bool) → another 51 is ≡ b → i ≡ frontContent is → o ≡ frontContent os
-    → cond b (pdosFor 1 i ++ pdosFor 2 o) (pdosFor 2 o ++ pdosFor 1 i) ≡ pdosFrom is os
+-- the contents, as they were taken
+pub in-order : (b : Bool) (is os : List (List ℕ)) {i o : List ℕ} → i ≡ frontContent is → o ≡ frontContent os
+    → cond b (pdosFor 1 i ++ pdosFor 2 o) (pdosFor 2 o ++ pdosFor 1 i) ≡ pdosFrom b is os
 unfolding pdosFrom
-in-order is os b e x y = λ k. cond (sym e k) (pdosFor 1 (x k) ++ pdosFor 2 (y k)) (pdosFor 2 (y k) ++ pdosFor 1 (x k))
+in-order b is os x y = λ k. cond b (pdosFor 1 (x k) ++ pdosFor 2 (y k)) (pdosFor 2 (y k) ++ pdosFor 1 (x k))

@@ -18,7 +18,7 @@ use Rattle.writer.proofs.Conditions.{StartInRange}
 use Rattle.dump.specs.Parts.{Cut, cutIn, partsOf}
 use Rattle.dump.specs.Categories.{typeOf, categoryLong, categories, contentOf, contentFor}
 use Rattle.dump.specs.Records.{managerLong, managerFor, pdoLong, bitsIn, pdoFor, kindFor, pdosFor, pdosIn}
-use Rattle.dump.specs.Dump.{managersFor}
+use Rattle.dump.specs.Dump.{managerRecords}
 use Rattle.dump.proofs.Pdos.{sum-next}
 
 -- what holds on either side of a condition holds of what it picks
@@ -61,9 +61,9 @@ content-bytes t [] e = no-bytes
 content-bytes t (c ∷ cs) e = cond-has Bytes (eqb (typeOf c) t) (λ z. behind-bytes 4 c (e .0)) (λ z. content-bytes t cs (e .1))
 
 -- a start address is two bytes of its record
-pub starts-in-range : (cs : List (List ℕ)) → Each Bytes cs → Each StartInRange (map managerFor (managersFor cs))
+pub starts-in-range : (cs : List (List ℕ)) → Each Bytes cs → Each StartInRange (map managerFor (managerRecords cs))
 starts-in-range cs e =
-    each-map Bytes StartInRange managerFor (λ r b. little-fits 2 0 b) (managersFor cs) (parts-bytes managerLong (contentFor 41 cs) (content-bytes 41 cs e))
+    each-map Bytes StartInRange managerFor (λ r b. little-fits 2 0 b) (managerRecords cs) (parts-bytes managerLong (contentFor 41 cs) (content-bytes 41 cs e))
 
 -- a PDO has at most 255 entries of at most 255 bits, so its bits have two bytes
 sum-of-bytes : (f : ℕ → ℕ) → ((k : ℕ) → f k < 256) → (n : ℕ) → sum (listOf f n) ≤ 255 * n

@@ -23,7 +23,7 @@ use Rattle.writer.proofs.Keeps.{Keeps}
 use Rattle.dump.specs.declared.Head.{Head}
 use Rattle.dump.specs.Categories.{categories, contentFor, unended}
 use Rattle.dump.specs.Records.{managerFor, pdosIn, notWhole, second, notRecords}
-use Rattle.dump.specs.Dump.{managersFor, usagesFor, dumpData, ruleBroken, someUnnamed, pdoRecords, readDump, deviceWith, deviceAfter, recordsAfter, ReadsDump}
+use Rattle.dump.specs.Dump.{managerRecords, usagesFor, dumpData, ruleBroken, someUnnamed, pdoRecords, readDump, deviceWith, deviceAfter, recordsAfter, ReadsDump}
 use Rattle.dump.specs.Looked.{fromType, frontContent, knownIn, notRecordsFrom, pdosFrom}
 use Rattle.dump.proofs.Looked.{front-is, single, records-looked, pdos-looked}
 use Rattle.dump.proofs.Kept.{records-long}
@@ -44,9 +44,9 @@ module _ {cs : List (List ℕ)} {f m i o : List ℕ} (e : Found cs f m i o) wher
   pub not-records-is : {known : ℕ} → known ≡ knownIn cs → notRecordsFrom known (categories f) (categories m) (categories i) (categories o) ≡ notRecords cs
   not-records-is n = (λ k. notRecordsFrom (n k) (e .fmmus-from k) (e .managers-from k) (e .inputs-from k) (e .outputs-from k)) ∙ records-looked cs
 
-  pub pdos-are : notRecords cs ≡ false → pdosFrom (categories i) (categories o) ≡ pdosIn cs
+  pub pdos-are : {b : Bool} → b ≡ ltb (length (fromType 51 cs)) (length (fromType 50 cs)) → notRecords cs ≡ false → pdosFrom b (categories i) (categories o) ≡ pdosIn cs
   unfolding notRecords
-  pdos-are w = (λ k. pdosFrom (e .inputs-from k) (e .outputs-from k)) ∙ pdos-looked cs (single cs (or-none (someOf notWhole cs) (second cs) w .1))
+  pdos-are {b} q w = (λ k. pdosFrom b (e .inputs-from k) (e .outputs-from k)) ∙ pdos-looked cs q (single cs (or-none (someOf notWhole cs) (second cs) w .1))
 
 module _ (h : Head) (dump room : List ℕ) where
   abbrev cs : List (List ℕ)
@@ -57,7 +57,7 @@ module _ (h : Head) (dump room : List ℕ) where
 
   -- the conditions of 4 and of 12
   abbrev pub Broken : Bool
-  Broken = ruleBroken (h .flags) (map managerFor (managersFor cs)) (usagesFor cs) (length (pdosIn cs))
+  Broken = ruleBroken (h .flags) (map managerFor (managerRecords cs)) (usagesFor cs) (length (pdosIn cs))
 
   abbrev pub Short : Bool
   Short = ltb (length room) (length (pdoRecords x))
@@ -127,7 +127,7 @@ module _ (h : Head) (dump room : List ℕ) where
   -- none of them: the data, and its records in the room
   pub reads-data :
       {d : Device} {after : List ℕ} → unended dump ≡ false → notRecords cs ≡ false → Broken ≡ false → someUnnamed cs ≡ false → Short ≡ false → Keeps x
-      → d ≡ deviceWith h (map managerFor (managersFor cs)) (usagesFor cs) (length (pdosIn cs)) → after ≡ over (flat (map pdoBytes (pdosIn cs))) room
+      → d ≡ deviceWith h (map managerFor (managerRecords cs)) (usagesFor cs) (length (pdosIn cs)) → after ≡ over (flat (map pdoBytes (pdosIn cs))) room
       → ReadsDump h dump room (record { answer = Accepted; device = d }) after
   unfolding readDump dumpData
   reads-data a b c d f k p q =

@@ -25,7 +25,7 @@ use Rattle.writer.specs.Writing.{writing, Writes}
 use Rattle.dump.specs.declared.Head.{Head}
 use Rattle.dump.specs.Categories.{categories, unended}
 use Rattle.dump.specs.Records.{managerFor, pdosIn, notRecords}
-use Rattle.dump.specs.Dump.{managersFor, usagesFor, dumpData, someUnnamed, pdoRecords, deviceAfter, recordsAfter, readDump, ReadsDump, sheeting, WritesSheet}
+use Rattle.dump.specs.Dump.{managerRecords, usagesFor, dumpData, someUnnamed, pdoRecords, deviceAfter, recordsAfter, readDump, ReadsDump, sheeting, WritesSheet}
 use Rattle.dump.proofs.Kept.{records-long, keeps-rule, dump-keeps}
 use Rattle.dump.proofs.Held.{data-back, not-refused}
 use Rattle.dump.proofs.Reading.{Broken, Short, Accepts, accepts}
@@ -81,7 +81,7 @@ module _ (h : Head) (dump own room : List ℕ) where
   -- 255 PDOs of seven bytes each have room
   roomy : length own ≡ 1785 → Broken h dump own ≡ false → Short h dump own ≡ false
   unfolding dumpData
-  roomy long e = le-ltb (length own) _ (omega (arith, long, records-long h cs, keeps-rule (h .flags) (map managerFor (managersFor cs)) (usagesFor cs) (length (pdosIn cs)) e))
+  roomy long e = le-ltb (length own) _ (omega (arith, long, records-long h cs, keeps-rule (h .flags) (map managerFor (managerRecords cs)) (usagesFor cs) (length (pdosIn cs)) e))
 
   -- what reading refuses is refused with that number
   refused-too : {n : ℕ} → length own ≡ 1785 → readDump h dump own ≡ refused n → sheeting h dump room ≡ refused n
@@ -112,3 +112,10 @@ module _ (h : Head) (dump own room : List ℕ) where
   pub sheet-written : {w : Written} {left : List ℕ} → Accepts h dump own y → InRoom (textIn (sheetOf y) room) (sheetOf y) room w left → WritesSheet h dump room w left
   unfolding sheeting
   sheet-written g q = rw (g .ended, g .whole, g .rule, g .named) q
+
+  -- and the other way round
+  pub text-left : {w : Written} {left : List ℕ} → Accepts h dump own y → WritesSheet h dump room w left → InRoom (textIn (sheetOf y) room) (sheetOf y) room w left
+  unfolding sheeting
+  text-left g q =
+      let o : sheeting h dump room ≡ textIn (sheetOf y) room = rw (g .ended, g .whole, g .rule, g .named) in
+      record { says = q .says ∙ o; holds = q .holds ∙ ap (λ (z : Outcome ℕ). roomAfter z (sheetOf y) room) o }

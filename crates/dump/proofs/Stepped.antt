@@ -28,10 +28,10 @@ module _ (u : Category) (back : List ℕ) where
   -- it is as long as its words say
   long-is : categoryLong l ≡ length (bytesOf u)
   long-is =
-      let kind : typeOf l ≡ u .kind = omega (arith, u .no-mark) in
+      let kind : typeOf l ≡ u .typeWord = omega (arith, u .no-mark) in
       let words : littleAt l 2 2 ≡ u .words = omega (arith, u .fits) in
       let n = length-append (u .content) back in
-      rw (ne-eqb (typeOf l) 65535 (λ e. omega (arith, u .no-mark)), le-leb (4 + 2 * littleAt l 2 2) (length l) (omega (arith, u .whole))) (omega (arith, u .whole))
+      rw (ne-eqb (typeOf l) 65535 (λ e. omega (arith, u .no-mark)), le-leb (4 + 2 * littleAt l 2 2) (length l) (omega (arith, u .even))) (omega (arith, u .even))
 
   stands : 0 < categoryLong l
   stands = omega (arith, long-is)
@@ -81,17 +81,17 @@ module _ (u : Category) (n : Unknown u) (before behind : List (List ℕ)) where
   abbrev c : List ℕ
   c = bytesOf u
 
-  kind-alone : typeOf c ≡ u .kind
+  kind-alone : typeOf c ≡ u .typeWord
   kind-alone = omega (arith, u .no-mark)
 
-  other : (t : ℕ) → (u .kind ≡ t → ⊥) → eqb (typeOf c) t ≡ false
+  other : (t : ℕ) → (u .typeWord ≡ t → ⊥) → eqb (typeOf c) t ≡ false
   other t z = ne-eqb (typeOf c) t (λ e. z (sym kind-alone ∙ e))
 
-  content-over : (t : ℕ) → (u .kind ≡ t → ⊥) → contentFor t (before ++ (c ∷ behind)) ≡ contentFor t (before ++ behind)
+  content-over : (t : ℕ) → (u .typeWord ≡ t → ⊥) → contentFor t (before ++ (c ∷ behind)) ≡ contentFor t (before ++ behind)
   content-over t z =
       passed-over (contentFor t) (λ x xs ys e. ap (λ (l : List ℕ). cond (eqb (typeOf x) t) (contentOf x) l) e) c (λ xs. rw (other t z)) before behind
 
-  count-over : (t : ℕ) → (u .kind ≡ t → ⊥) → howMany t (before ++ (c ∷ behind)) ≡ howMany t (before ++ behind)
+  count-over : (t : ℕ) → (u .typeWord ≡ t → ⊥) → howMany t (before ++ (c ∷ behind)) ≡ howMany t (before ++ behind)
   count-over t z =
       passed-over (howMany t) (λ x xs ys e. ap (λ (k : ℕ). cond (eqb (typeOf x) t) 1 0 + k) e) c (λ xs. rw (other t z) (omega arith)) before behind
 

@@ -25,8 +25,8 @@ use Rattle.dump.specs.Categories.{categories, contentFor, unended}
 use Rattle.dump.specs.Records.{usageFor, managerLong, controlIn, managerFor, pdosIn, notRecords}
 
 -- the SyncM records and the FMMU bytes of categories
-abbrev pub managersFor : List (List ℕ) → List (List ℕ)
-managersFor cs = partsOf managerLong (contentFor 41 cs)
+abbrev pub managerRecords : List (List ℕ) → List (List ℕ)
+managerRecords cs = partsOf managerLong (contentFor 41 cs)
 
 abbrev pub usagesFor : List (List ℕ) → List ℕ
 usagesFor cs = map usageFor (contentFor 40 cs)
@@ -40,7 +40,7 @@ dumpData h cs =
       complete = flagAt (h .flags) 2;
       receive = h .«receive_size» .0;
       send = h .«send_size» .0;
-      managers = map managerFor (managersFor cs);
+      managers = map managerFor (managerRecords cs);
       usages = usagesFor cs;
       pdos = pdosIn cs;
     }
@@ -53,14 +53,14 @@ ruleBroken flags ms us p =
 
 -- 5: any control has an unnamed mode or direction
 abbrev pub someUnnamed : List (List ℕ) → Bool
-someUnnamed cs = someOf (λ r. unnamed (controlIn r)) (managersFor cs)
+someUnnamed cs = someOf (λ r. unnamed (controlIn r)) (managerRecords cs)
 
 -- the refusals in their order; then 12 by the room
 abbrev pub dumpRefusals : Head → List ℕ → List Refusal
 dumpRefusals h dump =
     when 16 (unended dump)
     ∷ when 17 (notRecords (categories dump))
-    ∷ when 4 (ruleBroken (h .flags) (map managerFor (managersFor (categories dump))) (usagesFor (categories dump)) (length (pdosIn (categories dump))))
+    ∷ when 4 (ruleBroken (h .flags) (map managerFor (managerRecords (categories dump))) (usagesFor (categories dump)) (length (pdosIn (categories dump))))
     ∷ when 5 (someUnnamed (categories dump))
     ∷ []
 

@@ -12,10 +12,6 @@ use Rattle.dump.specs.declared.Found.{Found}
 use Rattle.dump.specs.Records.{managerLong, pdoLong, pdosFor, nonempty}
 use Rattle.sheet.specs.Device.{Pdo}
 
--- how long the category at the front is; 0 where none stands there, or it is of the type that is looked for
-abbrev pub otherLong : ℕ → List ℕ → ℕ
-otherLong t l = cond (eqb (typeOf l) t) 0 (categoryLong l)
-
 -- the categories from the first of a type on
 abbrev pub fromType : ℕ → List (List ℕ) → List (List ℕ)
 fromType t [] = []
@@ -26,17 +22,13 @@ abbrev pub frontContent : List (List ℕ) → List ℕ
 frontContent [] = []
 frontContent (c ∷ cs) = contentOf c
 
--- one of a type stands behind the first
-abbrev pub another : ℕ → List (List ℕ) → Bool
-another t cs = ltb 0 (howMany t (drop 1 cs))
-
--- no category begins there
+-- no category begins there: the largest number of 64 bits
 abbrev pub nowhere : ℕ
 nowhere = 18446744073709551615
 
 -- the first place that is noted counts
-abbrev pub firstOf : ℕ → ℕ → Bool → ℕ
-firstOf noted at here = cond here (cond (eqb noted nowhere) at noted) noted
+abbrev pub firstNoted : ℕ → ℕ → Bool → ℕ
+firstNoted noted at here = cond here (cond (eqb noted nowhere) at noted) noted
 
 -- one of the four types, and how many categories are of these
 abbrev pub knownType : ℕ → ℕ
@@ -51,13 +43,15 @@ pub record Finds (dump : List ℕ) (r : Found) : Type 0 where
   pub managers : categories (drop (r .managers) dump) ≡ fromType 41 (categories dump)
   pub inputs : categories (drop (r .inputs) dump) ≡ fromType 50 (categories dump)
   pub outputs : categories (drop (r .outputs) dump) ≡ fromType 51 (categories dump)
+  pub order : ltb (r .inputs) (r .outputs) ≡ ltb (length (fromType 51 (categories dump))) (length (fromType 50 (categories dump)))
   pub known : r .known ≡ knownIn (categories dump)
   pub end : drop (r .end) dump ≡ restOf categoryLong dump
 
--- more are of the four types than there are types
+-- 1 where there is one
 abbrev pub standing : List (List ℕ) → ℕ
 standing cs = cond (ltb 0 (length cs)) 1 0
 
+-- more categories are of the four types than types occur
 abbrev pub moreThan : (fmmus managers inputs outputs : List (List ℕ)) → ℕ → Bool
 moreThan fmmus managers inputs outputs known = ltb (standing fmmus + standing managers + standing inputs + standing outputs) known
 
@@ -68,9 +62,9 @@ notRecordsFrom known fmmus managers inputs outputs =
     || (nonempty (restOf managerLong (frontContent managers))
     || (nonempty (restOf pdoLong (frontContent inputs)) || nonempty (restOf pdoLong (frontContent outputs))))
 
--- the PDOs, by the same: those of the inputs' category come first where the outputs' stands behind it
-unfoldable pub pdosFrom : (inputs outputs : List (List ℕ)) → List Pdo
-pdosFrom inputs outputs =
-    cond (another 51 inputs)
+-- the PDOs, by the same: the inputs' or the outputs' first
+unfoldable pub pdosFrom : (inputsFirst : Bool) → (inputs outputs : List (List ℕ)) → List Pdo
+pdosFrom inputsFirst inputs outputs =
+    cond inputsFirst
     (pdosFor 1 (frontContent inputs) ++ pdosFor 2 (frontContent outputs))
     (pdosFor 2 (frontContent outputs) ++ pdosFor 1 (frontContent inputs))

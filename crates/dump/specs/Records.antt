@@ -52,10 +52,11 @@ unfoldable pub pdosIn : List (List ℕ) → List Pdo
 pdosIn [] = []
 pdosIn (c ∷ cs) = pdosFor (kindFor (typeOf c)) (contentOf c) ++ pdosIn cs
 
--- 17: a category that isn't whole records: something stands behind the last
+-- something is there
 abbrev pub nonempty : List ℕ → Bool
 nonempty l = ltb 0 (length l)
 
+-- 17: a category that isn't whole records: something stands behind the last one. FMMU's are always whole, and the others aren't looked into
 abbrev pub notWhole : List ℕ → Bool
 notWhole c =
     cond (eqb (typeOf c) 41) (nonempty (restOf managerLong (contentOf c)))
@@ -65,5 +66,6 @@ notWhole c =
 abbrev pub second : List (List ℕ) → Bool
 second cs = someOf (λ t. ltb 1 (howMany t cs)) (40 ∷ 41 ∷ 50 ∷ 51 ∷ [])
 
+-- over all categories
 unfoldable pub notRecords : List (List ℕ) → Bool
 notRecords cs = someOf notWhole cs || second cs

@@ -15,7 +15,7 @@ ghost use Rattle.dump.specs.Parts as Parts;
 ghost use Rattle.dump.specs.Parts.{partsOf, restOf};
 ghost use Rattle.dump.specs.Categories.{categoryLong, categories};
 ghost use Rattle.dump.specs.Categories as Categories;
-ghost use Rattle.dump.specs.Looked.{otherLong, fromType, frontContent, another, firstOf, knownType, Finds, standing, moreThan, notRecordsFrom, pdosFrom};
+ghost use Rattle.dump.specs.Looked.{frontContent, firstNoted, knownType, Finds, standing, moreThan, notRecordsFrom, pdosFrom};
 ghost use Rattle.dump.specs.Records.{usageFor, managerLong, controlIn, managerFor, pdoLong, bitsIn, pdoFor, pdosFor, nonempty};
 ghost use Rattle.dump.specs.Dump.{ruleBroken, deviceWith, ReadsDump, WritesSheet};
 use channel_bytes::Control;
@@ -66,42 +66,18 @@ fn whole(n: usize, bytes: &[u8]) -> usize
     n
 }
 
-// How long the category at the front is; 0 where none stands there, or it is of the type that is looked for.
-fn other_long(rest: &[u8], kind: u16) -> usize
-    ensures { λ r. ⌜ r ≡ otherLong kind (now (rest .entry)) ⌝ }
+// How long the category at the front is; 0 where none stands there, and the end mark is none.
+fn category_long(rest: &[u8]) -> usize
+    ensures { λ r. ⌜ r ≡ categoryLong (now (rest .entry)) ⌝ }
 {
     if rest.len() < 4 {
         return 0;
     }
-    let here = wire::le16(rest[0], rest[1]);
-    if here == kind {
-        return 0;
-    }
-    if here == END_MARK {
+    if wire::le16(rest[0], rest[1]) == END_MARK {
         return 0;
     }
     let words = wire::le16(rest[2], rest[3]) as usize;
     whole(4 + 2 * words, rest)
-}
-
-// How long it is, of whatever type: the end mark is no category.
-fn category_long(rest: &[u8]) -> usize
-    ensures { λ r. ⌜ r ≡ categoryLong (now (rest .entry)) ⌝ }
-{
-    other_long(rest, END_MARK)
-}
-
-// Where the first category of a type begins; where there is none, where the categories end.
-fn place_of(dump: &[u8], kind: u16) -> usize
-    ensures { λ r. ⌜ drop r (now (dump .entry)) ≡ restOf (otherLong kind) (now (dump .entry)) ⌝ }
-{
-    let mut at = 0;
-    let mut long = other_long(dump, kind);
-    while 0 < long {
-        at += long;
-        long = other_long(wire::behind(dump, at), kind);
-    }
-    at
 }
 
 // Whether the end mark stands at the front.
@@ -111,26 +87,11 @@ fn marked(rest: &[u8]) -> bool
     word(rest) == END_MARK
 }
 
-// The dump from the first category of a type on.
-fn from_type(dump: &[u8], kind: u16) -> &[u8]
-    ensures { λ r. ⌜ categories (now r) ≡ fromType kind (categories (now (dump .entry))) ⌝ }
-{
-    wire::behind(dump, place_of(dump, kind))
-}
-
 // The content of the category at the front; where none stands there, nothing.
 fn content(rest: &[u8]) -> &[u8]
     ensures { λ r. ⌜ now r ≡ frontContent (categories (now (rest .entry))) ⌝ }
 {
     wire::behind(wire::front(rest, category_long(rest)), 4)
-}
-
-// Whether one of a type stands behind the category at the front.
-fn follows(rest: &[u8], kind: u16) -> bool
-    ensures { λ r. ⌜ r ≡ another kind (categories (now (rest .entry))) ⌝ }
-{
-    let next = wire::behind(rest, category_long(rest));
-    0 < category_long(from_type(next, kind))
 }
 
 // No category begins there.
@@ -148,7 +109,7 @@ struct Found {
 
 // The first place counts.
 fn first(noted: usize, at: usize, here: bool) -> usize
-    ensures { λ r. ⌜ r ≡ firstOf noted at here ⌝ }
+    ensures { λ r. ⌜ r ≡ firstNoted noted at here ⌝ }
 {
     if !here {
         return noted;
@@ -219,7 +180,7 @@ fn stands(rest: &[u8]) -> usize
     1
 }
 
-// Whether a second category of a type stands there: more are of the four types than there are types.
+// Whether a second category of a type stands there: more categories are of the four types than types occur.
 fn second(known: usize, fmmus: &[u8], managers: &[u8], inputs: &[u8], outputs: &[u8]) -> bool
     ensures { λ r. ⌜ r ≡ moreThan (categories (now (fmmus .entry))) (categories (now (managers .entry))) (categories (now (inputs .entry))) (categories (now (outputs .entry))) known ⌝ }
 {
@@ -425,7 +386,7 @@ fn not_records(known: usize, fmmus: &[u8], managers: &[u8], inputs: &[u8], outpu
 
 // How many PDOs there are, given the dump from the first category of each type on.
 fn pdo_count(inputs: &[u8], outputs: &[u8]) -> usize
-    ensures { λ r. ⌜ r ≡ length (pdosFrom (categories (now (inputs .entry))) (categories (now (outputs .entry)))) ⌝ }
+    ensures { λ r. ⌜ r ≡ length (partsOf pdoLong (frontContent (categories (now (inputs .entry))))) + length (partsOf pdoLong (frontContent (categories (now (outputs .entry))))) ⌝ }
 {
     let tx = pdo_records(content(inputs));
     let rx = pdo_records(content(outputs));
@@ -441,14 +402,14 @@ fn put_both(first: &[u8], kind: u8, last: &[u8], other: u8, room: &mut [u8])
     put_pdos(last, other, room, next);
 }
 
-// Stores the PDOs as a sheet has them, in dump order: the inputs' category first where the outputs' stands behind it.
-fn put_records(inputs: &[u8], outputs: &[u8], room: &mut [u8])
-    requires { ⌜ 7 * length (pdosFrom (categories (now inputs)) (categories (now outputs))) ≤ length (now room) ⌝ }
-    ensures { λ r. ⌜ now (room .exit) ≡ over (flat (map pdoBytes (pdosFrom (categories (now (inputs .entry))) (categories (now (outputs .entry)))))) (now (room .entry)) ⌝ }
+// Stores the PDOs as a sheet has them, the inputs' or the outputs' first.
+fn put_records(inputs_first: bool, inputs: &[u8], outputs: &[u8], room: &mut [u8])
+    requires { ⌜ 7 * length (pdosFrom «inputs_first» (categories (now inputs)) (categories (now outputs))) ≤ length (now room) ⌝ }
+    ensures { λ r. ⌜ now (room .exit) ≡ over (flat (map pdoBytes (pdosFrom «inputs_first» (categories (now (inputs .entry))) (categories (now (outputs .entry)))))) (now (room .entry)) ⌝ }
 {
     let tx = content(inputs);
     let rx = content(outputs);
-    if follows(inputs, RX_PDO) {
+    if inputs_first {
         put_both(tx, INPUT, rx, OUTPUT, room);
         return;
     }
@@ -525,7 +486,7 @@ pub fn read(dump: &[u8], head: Head, room: &mut [u8]) -> SheetRead
     if room.len() < 7 * p {
         return sheet::refused(12);
     }
-    put_records(inputs, outputs, room);
+    put_records(found.inputs < found.outputs, inputs, outputs, room);
     SheetRead {
         answer: Answer::Accepted,
         device: device_of(head, records, usages, p as u8),

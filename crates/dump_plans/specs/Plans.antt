@@ -8,24 +8,32 @@ use Rattle.wire.specs.Outcome.{accepted}
 use Rattle.pdi.specs.declared.PdiOffset.{PdiOffset}
 use Rattle.pdi.specs.declared.Placed.{Placed}
 use Rattle.sheet.specs.declared.Answer.the-variants.{Accepted}
-use Rattle.sheet.specs.Sheet.{readSheet}
+use Rattle.sheet.specs.Sheet.{sheetData, readSheet}
 use Rattle.pdo.specs.declared.PdoDirection.{PdoDirection}
+use Rattle.pdo.specs.declared.Oversampling.{Oversampling}
+use Rattle.pdo.specs.Bits.{multipliersOf}
 use Rattle.mailboxes.specs.declared.MailboxAnswer.{MailboxAnswer}
 use Rattle.mailboxes.specs.Mailbox.{ConfiguresMailboxes}
 use Rattle.passes.specs.declared.Settings.{Settings}
 use Rattle.passes.specs.Pass.{Passes}
 use Rattle.counting.specs.Count.{count}
+use Rattle.report.specs.Plan.{Areas, reportText}
 use Rattle.dump.specs.Calls.{Call, given, sheetFrom}
 
--- what the mailbox pass promises for a sheet, what a data pass promises for it, and what counting answers with it, they do with the other
+-- what the mailbox pass and a data pass with any table promise for a sheet, what counting answers, and what `lockerplan` prints, they do for the other;
+-- and both hold the same data
 pub record PlannedAlike (s t : List ℕ) : Type 0 where
+  pub holding : sheetData s ≡ sheetData t
   pub mailboxes : (area : List ℕ) (r : MailboxAnswer) (after : List ℕ) → ConfiguresMailboxes s area r after → ConfiguresMailboxes t area r after
   pub passes :
-      (ws : List ℕ) (r : PdoDirection) (offset : PdiOffset) (settings : Settings) (fmmus channels : List ℕ)
+      (table : List Oversampling) (r : PdoDirection) (offset : PdiOffset) (settings : Settings) (fmmus channels : List ℕ)
       (answer : Placed) (offsetThen : PdiOffset) (fmmusThen channelsThen : List ℕ)
-      → Passes s ws r offset settings fmmus channels answer offsetThen fmmusThen channelsThen
-      → Passes t ws r offset settings fmmus channels answer offsetThen fmmusThen channelsThen
-  pub counting : (r : PdoDirection) (a : ℕ) (ws : List ℕ) (offset : ℕ) → count r a s ws offset ≡ count r a t ws offset
+      → Passes s (multipliersOf table (sheetData s .pdos)) r offset settings fmmus channels answer offsetThen fmmusThen channelsThen
+      → Passes t (multipliersOf table (sheetData t .pdos)) r offset settings fmmus channels answer offsetThen fmmusThen channelsThen
+  pub counting :
+      (table : List Oversampling) (r : PdoDirection) (a offset : ℕ)
+      → count r a s (multipliersOf table (sheetData s .pdos)) offset ≡ count r a t (multipliersOf table (sheetData t .pdos)) offset
+  pub text : (areas : Areas) → reportText s areas ≡ reportText t areas
 
 -- so of every call of `dump::read` that accepts
 abbrev pub PlanningADump : Type 0

@@ -1,17 +1,19 @@
 -- `dump::find`: what is noted and counted where the walk stands, and what is still to come, is what there is of all.
 -- Assumes nothing.
 use mathlib.Core.Path.{_∙_, ap}
-use Prim.Native.Nat.{_-_}
+use Prim.Native.Nat.{_-_, _≤_}
 use native.Mathlib.Omega.{arith}
 use denote.Ref.{now}
 use lib.ListN.{length}
 use Rattle.dump.specs.Categories.{typeOf, categoryLong}
+use Rattle.dump.specs.Looked.{nowhere}
 use Rattle.dump.proofs.Noted.{Seen, seen-start, seen-turn, seen-end}
 use Rattle.dump.proofs.find.Statement.{statement}
 use Rattle.dump.proofs.find.Tie as tie
 
 abbrev Inv-loop : tie.InvT-loop
-Inv-loop dump fmmus₀ managers₀ inputs₀ outputs₀ known₀ end₀ long₀ fmmus managers inputs outputs known end long = Seen dump fmmus managers inputs outputs known end long
+Inv-loop dump fmmus₀ managers₀ inputs₀ outputs₀ known₀ end₀ long₀ fmmus managers inputs outputs known end long =
+    Seen dump fmmus managers inputs outputs known end long × (length dump ≤ nowhere)
 
 abbrev μ-loop : tie.MeasureT-loop
 μ-loop dump fmmus₀ managers₀ inputs₀ outputs₀ known₀ end₀ long₀ fmmus managers inputs outputs known end long = length dump - end
@@ -20,7 +22,7 @@ category-long-requires : tie.Need-category-long-requires Inv-loop μ-loop
 category-long-requires c κs = tt
 
 loop-holds : tie.Need-loop-holds Inv-loop μ-loop
-loop-holds c = seen-start (now (c .before .before .args .dump)) (c .category-long .ensures)
+loop-holds c = (seen-start (now (c .before .before .args .dump)) (c .category-long .ensures), omega arith)
 
 behind-requires : tie.Need-behind-requires Inv-loop μ-loop
 behind-requires c κs = tt
@@ -45,11 +47,11 @@ is-known-requires c κs = tt
 
 add-known : tie.Need-add-known Inv-loop μ-loop
 add-known c =
-    let s = c .before .before .before .before .before .before .before .before .loop .inv in
+    let s = c .before .before .before .before .before .before .before .before .loop .inv .0 in
     record { fits = omega (arith, s .few, s .within, c .is-known .ensures .1) }
 
 add-end : tie.Need-add-end Inv-loop μ-loop
-add-end c = let s = c .before .before .before .before .before .before .before .before .loop .inv in record { fits = omega (arith, s .within) }
+add-end c = let s = c .before .before .before .before .before .before .before .before .loop .inv .0 in record { fits = omega (arith, s .within) }
 
 behind-requires-2 : tie.Need-behind-requires-2 Inv-loop μ-loop
 behind-requires-2 c κs = tt
@@ -58,7 +60,7 @@ category-long-requires-2 : tie.Need-category-long-requires-2 Inv-loop μ-loop
 category-long-requires-2 c κs = tt
 
 loop-less : tie.Need-loop-less Inv-loop μ-loop
-loop-less c = let s = c .before .before .before .before .before .before .before .before .before .before .loop .inv in omega (arith, s .within)
+loop-less c = let s = c .before .before .before .before .before .before .before .before .before .before .loop .inv .0 in omega (arith, s .within)
 
 loop-again : tie.Need-loop-again Inv-loop μ-loop
 loop-again c =
@@ -72,15 +74,17 @@ loop-again c =
     let d = now (l .before .before .before .args .dump) in
     let at = l .loop .end in
     let kind = t .word .ensures ∙ ap typeOf (t .before .behind .ensures) in
-    let long = c .category-long2 .ensures ∙ ap categoryLong (c .before .behind2 .ensures) in
-    seen-turn d at (l .loop .long) (l .loop .inv .here) (omega arith) (t .word .result) (l .loop .inv) (omega (arith, add-end k .fits)) kind
-    (f .first .ensures) (m .first2 .ensures) (i .first3 .ensures) (o .first4 .ensures) (k .is-known .ensures .0) (k .is-known .ensures .1) long
+    let long = c .category-long2 .ensures ∙ ap categoryLong (c .before .behind2 .ensures) in (
+      seen-turn d at (l .loop .long) (l .loop .inv .0 .here) (omega arith) (t .word .result) (l .loop .inv .0) (l .loop .inv .1) kind
+          (f .first .ensures) (m .first2 .ensures) (i .first3 .ensures) (o .first4 .ensures) (k .is-known .ensures .0) (k .is-known .ensures .1) long,
+      l .loop .inv .1,
+    )
 
 returns : tie.Need-returns Inv-loop μ-loop
 returns c =
     let l = c .before .loop in
     let d = now (c .before .before .before .before .args .dump) in
-    seen-end d (l .inv) (omega arith) (omega (arith, l .inv .within))
+    seen-end d (l .inv .0) (omega arith) (l .inv .1)
 
 pub find-spec : {M : Type 1} → statement M
 find-spec =

@@ -1,15 +1,12 @@
--- `dump::pdo_count`: in either order there are as many.
+-- `dump::pdo_count`: those of both categories.
 -- Assumes nothing.
-use mathlib.Core.Path.{sym, _∙_, ap, ap₂}
+use mathlib.Core.Path.{_∙_, ap, ap₂}
 use mathlib.Core.List.{List}
 use Prim.Native.Nat.{ℕ, _+_}
-use denote.Ref.{now}
 use lib.ListN.{length}
 use borrow.Author.Needs.{needs}
 use Rattle.dump.specs.Parts.{partsOf}
-use Rattle.dump.specs.Categories.{categories}
 use Rattle.dump.specs.Records.{pdoLong}
-use Rattle.dump.proofs.Placed.{pdos-counted}
 use Rattle.dump.proofs.pdo_count.Statement.{statement}
 use Rattle.dump.proofs.pdo_count.Tie as tie
 
@@ -32,10 +29,8 @@ returns : tie.Need-returns
 returns c =
     let rx = c .before .before in
     let tx = rx .before .before in
-    let a = tx .before .before .before .before .args in
     let count : List ℕ → ℕ = λ l. length (partsOf pdoLong l) in
     ap₂ _+_ (tx .pdo-records .ensures .0 ∙ ap count (tx .before .content .ensures)) (rx .pdo-records2 .ensures .0 ∙ ap count (rx .before .content2 .ensures))
-    ∙ sym (pdos-counted (categories (now (a .inputs))) (categories (now (a .outputs))))
 
 pub pdo-count-spec : {M : Type 1} → statement M
 pdo-count-spec =

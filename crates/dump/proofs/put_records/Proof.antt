@@ -1,4 +1,4 @@
--- `dump::put_records`: which category is put first is asked as dump order says.
+-- `dump::put_records`: the one category's records behind the other's, as the order is asked for.
 -- Assumes nothing.
 use mathlib.Core.Path.{_≡_, sym, _∙_, ap}
 use mathlib.Core.Bool.{Bool, true, false, cond}
@@ -19,41 +19,41 @@ use Rattle.dump.proofs.Placed.{pdos-counted, in-order}
 use Rattle.dump.proofs.put_records.Statement.{statement}
 use Rattle.dump.proofs.put_records.Tie as tie
 
--- once the order is asked: there is room for both categories' records, and the one order or the other is dump order
-module _ (c : tie.After-follows) where
+-- once both contents are taken: there is room for their records, and the one order or the other is the one that is asked for
+module _ (c : tie.After-content2) where
   abbrev inputs : List (List ℕ)
-  inputs = categories (now (c .before .before .before .before .before .before .args .inputs))
+  inputs = categories (now (c .before .before .before .before .before .args .inputs))
 
   abbrev outputs : List (List ℕ)
-  outputs = categories (now (c .before .before .before .before .before .before .args .outputs))
+  outputs = categories (now (c .before .before .before .before .before .args .outputs))
 
   abbrev room : List ℕ
-  room = now (c .before .before .before .before .before .before .args .room)
+  room = now (c .before .before .before .before .before .args .room)
+
+  abbrev first : Bool
+  first = c .before .before .before .before .before .args .inputs-first
 
   abbrev tx : List ℕ
-  tx = now (c .before .before .content .result)
+  tx = now (c .before .content .result)
 
   abbrev rx : List ℕ
-  rx = now (c .before .content2 .result)
+  rx = now (c .content2 .result)
 
   enough : 7 * (length (partsOf pdoLong tx) + length (partsOf pdoLong rx)) ≤ length room
   enough =
-      let i = ap (λ (l : List ℕ). length (partsOf pdoLong l)) (c .before .before .content .ensures) in
-      let o = ap (λ (l : List ℕ). length (partsOf pdoLong l)) (c .before .content2 .ensures) in
-      omega (arith, c .before .before .before .before .before .before .pre, pdos-counted inputs outputs)
+      let i = ap (λ (l : List ℕ). length (partsOf pdoLong l)) (c .before .content .ensures) in
+      let o = ap (λ (l : List ℕ). length (partsOf pdoLong l)) (c .content2 .ensures) in
+      omega (arith, c .before .before .before .before .before .pre, pdos-counted first inputs outputs)
 
-  stored : (b : Bool) → c .follows .result ≡ b → over (pdosBytes (cond b (pdosFor 1 tx ++ pdosFor 2 rx) (pdosFor 2 rx ++ pdosFor 1 tx))) room ≡ over (pdosBytes (pdosFrom inputs outputs)) room
+  stored : (b : Bool) → first ≡ b → over (pdosBytes (cond b (pdosFor 1 tx ++ pdosFor 2 rx) (pdosFor 2 rx ++ pdosFor 1 tx))) room ≡ over (pdosBytes (pdosFrom first inputs outputs)) room
   stored b e =
-      ap (λ (ps : List Pdo). over (pdosBytes ps) room) (in-order inputs outputs b (sym (c .follows .ensures) ∙ e) (c .before .before .content .ensures) (c .before .content2 .ensures))
+      ap (λ (ps : List Pdo). over (pdosBytes ps) room) (in-order b inputs outputs (c .before .content .ensures) (c .content2 .ensures) ∙ ap (λ (x : Bool). pdosFrom x inputs outputs) (sym e))
 
 content-requires : tie.Need-content-requires
 content-requires c κs = search needs
 
 content-requires-2 : tie.Need-content-requires-2
 content-requires-2 c κs = search needs
-
-follows-requires : tie.Need-follows-requires
-follows-requires c κs = search needs
 
 put-both-requires : tie.Need-put-both-requires
 put-both-requires c κs = (omega arith, omega arith, enough (c .before .before))
@@ -79,7 +79,6 @@ put-records-spec =
     (tie.spec
     content-requires
     content-requires-2
-    follows-requires
     put-both-requires
     same-length
     returns

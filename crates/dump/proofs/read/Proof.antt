@@ -7,6 +7,7 @@ use Prim.Native.Nat.{ℕ, _*_, _/_, _≤_}
 use native.Mathlib.Omega.{arith}
 use denote.Ref.{now}
 use lib.ListN.{length, length-map}
+use lib.Dec.{ltb}
 use borrow.Author.Tests.{lt-ltb, le-ltb, not-true, not-false}
 use borrow.Author.Needs.{needs}
 use Rattle.wire.specs.Lists.{someOf}
@@ -20,8 +21,10 @@ use Rattle.dump.specs.declared.Head.{Head}
 use Rattle.dump.specs.Categories.{marked, categories, contentFor, unended}
 use Rattle.dump.specs.Parts.{partsOf}
 use Rattle.dump.specs.Records.{usageFor, managerLong, controlIn, managerFor, pdosIn, notRecords}
-use Rattle.dump.specs.Dump.{managersFor, usagesFor, dumpData, ruleBroken, someUnnamed, deviceWith}
+use Rattle.dump.specs.Dump.{managerRecords, usagesFor, dumpData, ruleBroken, someUnnamed, deviceWith}
 use Rattle.dump.specs.Calls.{InRange}
+use Rattle.dump.specs.Looked.{pdosFrom}
+use Rattle.dump.proofs.Placed.{pdos-counted}
 use Rattle.dump.proofs.Managers.{managers-many}
 use Rattle.dump.proofs.Kept.{keeps-rule, dump-keeps}
 use Rattle.dump.proofs.Reading.{Found, content-is, not-records-is, pdos-are, Broken, short-is, reads-16, reads-17, reads-4, reads-5, reads-12, reads-data}
@@ -92,8 +95,18 @@ module _ (c : tie.After-pdo-count) where
   managers-at : now (c .before .content2 .result) ≡ contentFor 41 categories-at
   managers-at = content-is 41 categories-at _ (found found-at .managers-from) (c .before .content2 .ensures)
 
+  -- the PDOs in dump order, as the places of the two categories say it
+  abbrev places : Bool
+  places = let r = found-at .before .before .before .before .before .before .before .find .result in ltb (r .inputs) (r .outputs)
+
+  pdos-at : pdosFrom places (categories (now (found-at .before .behind4 .result))) (categories (now (found-at .behind5 .result))) ≡ pdosIn categories-at
+  pdos-at = pdos-are (found found-at) (found-at .before .before .before .before .before .before .before .find .ensures .order) whole
+
   count-at : c .pdo-count .result ≡ length (pdosIn categories-at)
-  count-at = c .pdo-count .ensures ∙ ap length (pdos-are (found found-at) whole)
+  count-at =
+      c .pdo-count .ensures
+      ∙ sym (pdos-counted places (categories (now (found-at .before .behind4 .result))) (categories (now (found-at .behind5 .result))))
+      ∙ ap length pdos-at
 
 -- 4
 rule : (c : tie.After-rule-broken) {b : Bool} → c .rule-broken .result ≡ b → Broken (head (found-at (c .before))) (dump (found-at (c .before))) (room (found-at (c .before))) ≡ b
@@ -109,7 +122,7 @@ counts : (c : tie.After-rule-broken) → c .rule-broken .result ≡ false
 counts c e =
     let p = c .before in
     let cs = categories-at p in
-    let k = keeps-rule (head (found-at p) .flags) (map managerFor (managersFor cs)) (usagesFor cs) (length (pdosIn cs)) (rule c e) in
+    let k = keeps-rule (head (found-at p) .flags) (map managerFor (managerRecords cs)) (usagesFor cs) (length (pdosIn cs)) (rule c e) in
     let m = managers-many (contentFor 41 cs) in
     let n = ap length (managers-at p) in
     let u = length-map (contentFor 40 cs) usageFor in
@@ -221,17 +234,22 @@ returns-5 c =
     (short-is (head f) (dump f) (room f) (count-at p) ∙ lt-ltb (length (room f)) (7 * p .pdo-count .result) (c .before .if5 .taken))
 
 put-records-requires : tie.Need-put-records-requires
-put-records-requires c κs = search needs
+put-records-requires c κs =
+    let last = c .before .before in
+    let p = last .before .before .before .before .before in
+    let f = found-at p in
+    let n = pdos-counted (places p) (categories (now (f .before .behind4 .result))) (categories (now (f .behind5 .result))) in
+    omega (arith, n, p .pdo-count .ensures, last .if5 .left)
 
 cast-device-of : tie.Need-cast-device-of
 cast-device-of c =
-    let e = c .before .before .before .before .before .before .before in
+    let e = c .before .before .before .before .before .before .before .before in
     let k = counts (e .before) (e .if3 .left) in
     record { fits = omega arith }
 
 device-of-requires : tie.Need-device-of-requires
 device-of-requires c κs =
-    let e = c .before .before .before .before .before .before .before in
+    let e = c .before .before .before .before .before .before .before .before in
     let k = counts (e .before) (e .if3 .left) in
     (k .1, k .2)
 
@@ -241,14 +259,14 @@ same-length c = search needs
 returns-6 : tie.Need-returns-6
 returns-6 c =
     let put = c .before .before .before in
-    let last = put .before .before in
+    let last = put .before .before .before in
     let u = last .before .before in
     let e = u .before in
     let p = e .before .before in
     let f = found-at p in
     let fits = short-is (head f) (dump f) (room f) (count-at p) ∙ le-ltb (length (room f)) (7 * p .pdo-count .result) (omega (arith, last .if5 .left)) in
     let b = rule (e .before) (e .if3 .left) in
-    let stored = put .put-records .ensures ∙ ap (λ (ps : List Pdo). over (flat (map pdoBytes ps)) (room f)) (pdos-are (found f) (whole p)) in
+    let stored = put .put-records .ensures ∙ ap (λ (ps : List Pdo). over (flat (map pdoBytes ps)) (room f)) (pdos-at p) in
     let held = c .device-of .ensures ∙ (λ i. deviceWith (head f) (map managerFor (partsOf managerLong (managers-at p i))) (map usageFor (usages-at p i)) (count-at p i)) in
     reads-data (head f) (dump f) (room f) (ended f) (whole p) b (controls u (last .before .if4 .left)) fits (kept f b) held stored
 
