@@ -215,7 +215,7 @@ def warnings(sheet):
     """Of the sheet that came of a dump."""
     if not sheet.managers and not sheet.usages and not sheet.pdos:
         yield (
-            "the dump holds none of the categories 40, 41, 50 and 51, so nothing is planned; --dump takes the category area, "
+            "the dump holds no records of the categories 40, 41, 50 and 51, so nothing is planned; --dump takes the category area, "
             f"that is an EEPROM without its first {HEAD} bytes (docs/SHEET.md)"
         )
     if sheet.on_coe():
