@@ -142,7 +142,7 @@ def warnings():
         right = f"(4 here) count nowhere. Leave flag bit 1 out (--flags {flags & 5})" in text if wanted else not text
         yield f"flags {flags}, send size {send}: {'a' if wanted else 'no'} warning of CoE", "" if right else text or "none"
     text = warned(Dump(END))
-    yield "a dump with nothing in it: a warning", "" if "none of the categories 40, 41, 50 and 51" in text else "none"
+    yield "a dump with nothing in it: a warning", "" if "no records of the categories 40, 41, 50 and 51" in text else "none"
 
 
 def cases():
