@@ -108,7 +108,7 @@ Same a b = b .head ≡ a .head → b .room ≡ a .room → (b .read ≡ a .read)
 abbrev pub SameSheet : SheetCall → SheetCall → Type 0
 SameSheet a b = b .head ≡ a .head → b .room ≡ a .room → (b .answer ≡ a .answer) × (b .left ≡ a .left)
 
--- a category of an unknown type, behind any categories and before whatever follows, changes nothing
+-- the one dump is the other with a category of an unknown type in it, behind any categories and before whatever follows
 pub record Between (a b : List ℕ) : Type 0 where
   pub front : List Category
   pub category : Category
@@ -117,15 +117,17 @@ pub record Between (a b : List ℕ) : Type 0 where
   pub without : a ≡ allBytes front ++ back
   pub with : b ≡ allBytes front ++ (bytesOf category ++ back)
 
+-- that changes nothing
 abbrev pub SteppedOver : Type 0
 SteppedOver = ((a b : Call) → Between (a .dump) (b .dump) → Same a b) × ((a b : SheetCall) → Between (a .dump) (b .dump) → SameSheet a b)
 
--- bytes behind a dump that has its end mark change nothing
+-- the one dump has its end mark, and the other is that with bytes behind it
 pub record Behind (a b : List ℕ) : Type 0 where
   pub bytes : Bytes a
   pub ended : unended a ≡ false
   pub more : List ℕ
   pub longer : b ≡ a ++ more
 
+-- nor does that change anything
 abbrev pub EndsThere : Type 0
 EndsThere = ((a b : Call) → Behind (a .dump) (b .dump) → Same a b) × ((a b : SheetCall) → Behind (a .dump) (b .dump) → SameSheet a b)
