@@ -16,7 +16,7 @@ use Rattle.dump.specs.Parts.{cutIn, restOf}
 use Rattle.dump.specs.Categories.{typeOf, contentOf, contentFor, howMany}
 use Rattle.dump.specs.Records.{managerLong, pdoLong, kindFor, pdosFor, pdosIn, nonempty, notWhole, second, notRecords}
 use Rattle.dump.proofs.Categories.{found-some}
-use Rattle.dump.specs.Looked.{fromType, frontContent, knownIn, moreThan, notRecordsFrom, pdosFrom}
+use Rattle.dump.specs.Looked.{fromType, frontContent, knownIn, moreThan, pdosFrom}
 
 module _ (t : ℕ) where
   -- of the first of a type: its content
@@ -155,7 +155,7 @@ some-twice a b c d =
 
 -- 17: where there are not two of a type, the first of each say whether all are whole
 module _ (cs : List (List ℕ)) where
-  abbrev firstsCut : Bool
+  abbrev pub firstsCut : Bool
   firstsCut = managersCut (contentFor 41 cs) || (pdosCut (contentFor 50 cs) || pdosCut (contentFor 51 cs))
 
   some-cut : howMany 41 cs ≤ 1 → howMany 50 cs ≤ 1 → howMany 51 cs ≤ 1 → someOf notWhole cs ≡ firstsCut
@@ -190,10 +190,9 @@ module _ (cs : List (List ℕ)) where
       (λ i. ltb (one (found-some 40 cs i) + one (found-some 41 cs i) + one (found-some 50 cs i) + one (found-some 51 cs i)) (knownIn cs))
       ∙ some-twice (howMany 40 cs) (howMany 41 cs) (howMany 50 cs) (howMany 51 cs)
 
-  pub records-looked : notRecordsFrom (knownIn cs) (fromType 40 cs) (fromType 41 cs) (fromType 50 cs) (fromType 51 cs) ≡ notRecords cs
-  unfolding notRecordsFrom notRecords
-  records-looked =
-      ap₂ _||_ types-counted (ap₂ _||_ (ap managersCut (front-is 41 cs)) (ap₂ _||_ (ap pdosCut (front-is 50 cs)) (ap pdosCut (front-is 51 cs)))) ∙ go (second cs) refl
+  pub records-looked : moreThan (fromType 40 cs) (fromType 41 cs) (fromType 50 cs) (fromType 51 cs) (knownIn cs) || firstsCut ≡ notRecords cs
+  unfolding notRecords
+  records-looked = ap (λ (b : Bool). b || firstsCut) types-counted ∙ go (second cs) refl
     where
       go : (b : Bool) → second cs ≡ b → second cs || firstsCut ≡ someOf notWhole cs || second cs
       go true e = rw e (always (someOf notWhole cs))

@@ -13,7 +13,7 @@ use Rattle.dump.specs.Parts.{restOf}
 use Rattle.dump.specs.Categories.{typeOf, categoryLong, categories}
 use Rattle.dump.specs.Looked.{fromType, nowhere, firstNoted, knownType, knownIn, Finds}
 use Rattle.dump.proofs.Parts.{rest-none, rest-on}
-use Rattle.dump.proofs.Categories.{category-fits, no-category, category-on, type-alone}
+use Rattle.dump.proofs.Categories.{category-fits, no-category, category-on, category-stands, type-alone}
 
 module _ (dump : List ℕ) where
   -- what is noted of a type where the walk stands: the first one's place, or nowhere, and then the first is still to come
@@ -72,6 +72,9 @@ module _ (dump : List ℕ) where
 
   -- the category where the walk stands, and those behind it
   module _ (at long : ℕ) (e : long ≡ categoryLong (drop at dump)) (h : 0 < long) where
+    pub four-there : 4 ≤ length (drop at dump)
+    four-there = omega (arith, category-stands (drop at dump) (omega arith) .within)
+
     behind : drop (categoryLong (drop at dump)) (drop at dump) ≡ drop (at + long) dump
     behind = drop-drop (categoryLong (drop at dump)) at dump ∙ ap (λ (k : ℕ). drop (at + k) dump) (sym e)
 

@@ -1,7 +1,7 @@
 -- What `read` answers, by what its tests found.
 -- Assumes nothing.
 use mathlib.Core.Path.{_≡_, refl, sym, _∙_, ap, ap₂}
-use mathlib.Core.Bool.{Bool, true, false, cond}
+use mathlib.Core.Bool.{Bool, true, false, cond, _||_}
 use mathlib.Core.List.{List, map}
 use Prim.Native.Nat.{ℕ, _*_}
 use lib.ListN.{length}
@@ -21,10 +21,11 @@ use Rattle.sheet.specs.Device.{Data, dataOf}
 use Rattle.sheet.specs.Sheet.{answerOf, sheetReadOf}
 use Rattle.writer.proofs.Keeps.{Keeps}
 use Rattle.dump.specs.declared.Head.{Head}
+use Rattle.dump.specs.Parts.{restOf}
 use Rattle.dump.specs.Categories.{categories, contentFor, unended}
-use Rattle.dump.specs.Records.{managerFor, pdosIn, notWhole, second, notRecords}
+use Rattle.dump.specs.Records.{managerLong, managerFor, pdoLong, pdosIn, nonempty, notWhole, second, notRecords}
 use Rattle.dump.specs.Dump.{managerRecords, usagesFor, dumpData, ruleBroken, someUnnamed, pdoRecords, readDump, deviceWith, deviceAfter, recordsAfter, ReadsDump}
-use Rattle.dump.specs.Looked.{fromType, frontContent, knownIn, notRecordsFrom, pdosFrom}
+use Rattle.dump.specs.Looked.{fromType, frontContent, knownIn, moreThan, pdosFrom}
 use Rattle.dump.proofs.Looked.{front-is, single, records-looked, pdos-looked}
 use Rattle.dump.proofs.Kept.{records-long}
 use Rattle.dump.proofs.Held.{data-back}
@@ -41,8 +42,14 @@ pub content-is : (t : ℕ) (cs : List (List ℕ)) (from : List ℕ) {l : List �
 content-is t cs from e q = q ∙ ap frontContent e ∙ front-is t cs
 
 module _ {cs : List (List ℕ)} {f m i o : List ℕ} (e : Found cs f m i o) where
-  pub not-records-is : {known : ℕ} → known ≡ knownIn cs → notRecordsFrom known (categories f) (categories m) (categories i) (categories o) ≡ notRecords cs
-  not-records-is n = (λ k. notRecordsFrom (n k) (e .fmmus-from k) (e .managers-from k) (e .inputs-from k) (e .outputs-from k)) ∙ records-looked cs
+  pub not-records-is : (known : ℕ) {ms tx rx : List ℕ} → known ≡ knownIn cs → ms ≡ contentFor 41 cs → tx ≡ contentFor 50 cs → rx ≡ contentFor 51 cs
+      → moreThan (categories f) (categories m) (categories i) (categories o) known || (nonempty (restOf managerLong ms) || (nonempty (restOf pdoLong tx) || nonempty (restOf pdoLong rx)))
+      ≡ notRecords cs
+  not-records-is known n a b c =
+      (λ k.
+      moreThan (e .fmmus-from k) (e .managers-from k) (e .inputs-from k) (e .outputs-from k) (n k)
+      || (nonempty (restOf managerLong (a k)) || (nonempty (restOf pdoLong (b k)) || nonempty (restOf pdoLong (c k)))))
+      ∙ records-looked cs
 
   pub pdos-are : {b : Bool} → b ≡ ltb (length (fromType 51 cs)) (length (fromType 50 cs)) → notRecords cs ≡ false → pdosFrom b (categories i) (categories o) ≡ pdosIn cs
   unfolding notRecords

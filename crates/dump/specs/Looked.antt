@@ -1,6 +1,6 @@
 -- What the code looks for among categories, from the front on: it only mirrors the code. What is meant is said in Dump.
 -- Assumes nothing.
-use mathlib.Core.Bool.{Bool, cond, _||_}
+use mathlib.Core.Bool.{Bool, cond}
 use mathlib.Core.List.{List, [], _∷_, _++_}
 use mathlib.Core.Path.{_≡_}
 use Prim.Native.Nat.{ℕ, _+_}
@@ -9,7 +9,7 @@ use lib.Dec.{eqb, ltb}
 use Rattle.dump.specs.Categories.{typeOf, categoryLong, categories, contentOf, howMany}
 use Rattle.dump.specs.Parts.{restOf}
 use Rattle.dump.specs.declared.Found.{Found}
-use Rattle.dump.specs.Records.{managerLong, pdoLong, pdosFor, nonempty}
+use Rattle.dump.specs.Records.{pdosFor}
 use Rattle.sheet.specs.Device.{Pdo}
 
 -- the categories from the first of a type on
@@ -55,14 +55,7 @@ standing cs = cond (ltb 0 (length cs)) 1 0
 abbrev pub moreThan : (fmmus managers inputs outputs : List (List ℕ)) → ℕ → Bool
 moreThan fmmus managers inputs outputs known = ltb (standing fmmus + standing managers + standing inputs + standing outputs) known
 
--- 17, by the categories from the first of each of the four types on, and how many are of these
-unfoldable pub notRecordsFrom : (known : ℕ) → (fmmus managers inputs outputs : List (List ℕ)) → Bool
-notRecordsFrom known fmmus managers inputs outputs =
-    moreThan fmmus managers inputs outputs known
-    || (nonempty (restOf managerLong (frontContent managers))
-    || (nonempty (restOf pdoLong (frontContent inputs)) || nonempty (restOf pdoLong (frontContent outputs))))
-
--- the PDOs, by the same: the inputs' or the outputs' first
+-- the PDOs, by the categories from the first of each type on: the inputs' or the outputs' first
 unfoldable pub pdosFrom : (inputsFirst : Bool) → (inputs outputs : List (List ℕ)) → List Pdo
 pdosFrom inputsFirst inputs outputs =
     cond inputsFirst

@@ -1,8 +1,9 @@
 // A device's own EEPROM dump: the category area of ETG2010, read as device data of the EEPROM path.
 ghost use mathlib.Core.Path.{_≡_};
+ghost use mathlib.Core.Bool.{_||_};
 ghost use mathlib.Core.List.{map, _++_};
 ghost use Prim.Native.Nat.{_+_, _*_, _-_, _/_, _≤_, _<_};
-ghost use lib.ListN.{length, drop, replicate};
+ghost use lib.ListN.{length, replicate};
 ghost use lib.Dec.{ltb};
 ghost use Rattle.wire.specs.Number.{littleAt};
 ghost use Rattle.wire.specs.Lists.{someOf};
@@ -15,7 +16,7 @@ ghost use Rattle.dump.specs.Parts as Parts;
 ghost use Rattle.dump.specs.Parts.{partsOf, restOf};
 ghost use Rattle.dump.specs.Categories.{categoryLong, categories};
 ghost use Rattle.dump.specs.Categories as Categories;
-ghost use Rattle.dump.specs.Looked.{frontContent, firstNoted, knownType, Finds, standing, moreThan, notRecordsFrom, pdosFrom};
+ghost use Rattle.dump.specs.Looked.{frontContent, firstNoted, knownType, Finds, standing, moreThan, pdosFrom};
 ghost use Rattle.dump.specs.Records.{usageFor, managerLong, controlIn, managerFor, pdoLong, bitsIn, pdoFor, pdosFor, nonempty};
 ghost use Rattle.dump.specs.Dump.{ruleBroken, deviceWith, ReadsDump, WritesSheet};
 use channel_bytes::Control;
@@ -151,7 +152,8 @@ fn find(dump: &[u8]) -> Found
     let mut end = 0;
     let mut long = category_long(dump);
     while 0 < long {
-        let kind = word(wire::behind(dump, end));
+        let rest = wire::behind(dump, end);
+        let kind = wire::le16(rest[0], rest[1]);
         fmmus = first(fmmus, end, kind == FMMU);
         managers = first(managers, end, kind == SYNC_MANAGER);
         inputs = first(inputs, end, kind == TX_PDO);
@@ -289,14 +291,14 @@ fn pdo_long(rest: &[u8]) -> usize
     whole(8 + 8 * wire::wide(wire::byte_at(rest, 2)), rest)
 }
 
-// PDO records from the front on: how many stand there, and where the last one ends.
+// PDO records from the front on: how many stand there, and whether something is left behind the last one.
 struct Records {
     count: usize,
-    end: usize,
+    cut: bool,
 }
 
 fn pdo_records(bytes: &[u8]) -> Records
-    ensures { λ r. ⌜ (r .count ≡ length (partsOf pdoLong (now (bytes .entry)))) × (drop (r .end) (now (bytes .entry)) ≡ restOf pdoLong (now (bytes .entry))) × (r .count ≤ r .end) × (r .end ≤ length (now (bytes .entry))) ⌝ }
+    ensures { λ r. ⌜ (r .count ≡ length (partsOf pdoLong (now (bytes .entry)))) × (r .cut ≡ nonempty (restOf pdoLong (now (bytes .entry)))) × (r .count ≤ length (now (bytes .entry))) ⌝ }
 {
     let mut count = 0;
     let mut end = 0;
@@ -306,7 +308,10 @@ fn pdo_records(bytes: &[u8]) -> Records
         count += 1;
         long = pdo_long(wire::behind(bytes, end));
     }
-    Records { count, end }
+    Records {
+        count,
+        cut: end < bytes.len(),
+    }
 }
 
 // A PDO's bits: its entries' together.
@@ -359,38 +364,20 @@ fn put_pdos(bytes: &[u8], kind: u8, room: &mut [u8], to: usize) -> usize
     place
 }
 
-// Whether PDO records don't end with the bytes.
-fn pdos_cut(bytes: &[u8]) -> bool
-    ensures { λ r. ⌜ r ≡ nonempty (restOf pdoLong (now (bytes .entry))) ⌝ }
+// 17: whether there is a second category of a type, or one of the three contents isn't whole records.
+fn not_records(twice: bool, records: &[u8], inputs_cut: bool, outputs_cut: bool) -> bool
+    ensures { λ r. ⌜ r ≡ twice || (nonempty (restOf managerLong (now (records .entry))) || («inputs_cut» || «outputs_cut»)) ⌝ }
 {
-    let all = pdo_records(bytes);
-    all.end < bytes.len()
-}
-
-// 17: whether a category isn't whole records, or there is a second one of a type, given the dump from the first of each on.
-fn not_records(known: usize, fmmus: &[u8], managers: &[u8], inputs: &[u8], outputs: &[u8]) -> bool
-    ensures { λ r. ⌜ r ≡ notRecordsFrom known (categories (now (fmmus .entry))) (categories (now (managers .entry))) (categories (now (inputs .entry))) (categories (now (outputs .entry))) ⌝ }
-{
-    if second(known, fmmus, managers, inputs, outputs) {
+    if twice {
         return true;
     }
-    let records = content(managers);
     if records.len() % 8 != 0 {
         return true;
     }
-    if pdos_cut(content(inputs)) {
+    if inputs_cut {
         return true;
     }
-    pdos_cut(content(outputs))
-}
-
-// How many PDOs there are, given the dump from the first category of each type on.
-fn pdo_count(inputs: &[u8], outputs: &[u8]) -> usize
-    ensures { λ r. ⌜ r ≡ length (partsOf pdoLong (frontContent (categories (now (inputs .entry))))) + length (partsOf pdoLong (frontContent (categories (now (outputs .entry))))) ⌝ }
-{
-    let tx = pdo_records(content(inputs));
-    let rx = pdo_records(content(outputs));
-    tx.count + rx.count
+    outputs_cut
 }
 
 // Stores the PDOs of two categories, the one's behind the other's, from the front of the room on.
@@ -471,12 +458,15 @@ pub fn read(dump: &[u8], head: Head, room: &mut [u8]) -> SheetRead
     let managers = wire::behind(dump, found.managers);
     let inputs = wire::behind(dump, found.inputs);
     let outputs = wire::behind(dump, found.outputs);
-    if not_records(found.known, fmmus, managers, inputs, outputs) {
-        return sheet::refused(17);
-    }
     let usages = content(fmmus);
     let records = content(managers);
-    let p = pdo_count(inputs, outputs);
+    let tx = pdo_records(content(inputs));
+    let rx = pdo_records(content(outputs));
+    let twice = second(found.known, fmmus, managers, inputs, outputs);
+    if not_records(twice, records, tx.cut, rx.cut) {
+        return sheet::refused(17);
+    }
+    let p = tx.count + rx.count;
     if rule_broken(head.flags, records, usages, p) {
         return sheet::refused(4);
     }

@@ -6,7 +6,7 @@ use native.Mathlib.Omega.{arith}
 use denote.Ref.{now}
 use lib.ListN.{length, drop}
 use Rattle.dump.specs.Records.{pdoLong}
-use Rattle.dump.proofs.Parts.{Walk, walk-start, walk-turn, walk-end}
+use Rattle.dump.proofs.Parts.{left-over, Walk, walk-start, walk-turn, walk-end}
 use Rattle.dump.proofs.Pdos.{pdo-fits}
 use Rattle.dump.proofs.pdo_records.Statement.{statement}
 use Rattle.dump.proofs.pdo_records.Tie as tie
@@ -49,8 +49,9 @@ returns : tie.Need-returns Inv-loop μ-loop
 returns c =
     let l = c .before .loop in
     let w = l .inv .0 in
+    let bytes = now (c .before .before .before .before .args .bytes) in
     let end = walk-end pdoLong pdo-fits w (sym (l .inv .1) ∙ omega arith) in
-    (end .0, end .1, w .passed, w .within)
+    (end .0, left-over (l .end) bytes (end .1), omega (arith, w .passed, w .within))
 
 pub pdo-records-spec : {M : Type 1} → statement M
 pdo-records-spec =

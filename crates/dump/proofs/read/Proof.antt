@@ -1,9 +1,9 @@
 -- `dump::read`: the test that led to each refusal says that it is the first that holds; else the records are put, and the record holds the data.
 -- Assumes nothing.
-use mathlib.Core.Path.{_≡_, sym, _∙_, ap}
-use mathlib.Core.Bool.{Bool, false, not}
+use mathlib.Core.Path.{_≡_, sym, _∙_, ap, ap₂}
+use mathlib.Core.Bool.{Bool, false, not, _||_}
 use mathlib.Core.List.{List, map}
-use Prim.Native.Nat.{ℕ, _*_, _/_, _≤_}
+use Prim.Native.Nat.{ℕ, _+_, _*_, _/_, _≤_}
 use native.Mathlib.Omega.{arith}
 use denote.Ref.{now}
 use lib.ListN.{length, length-map}
@@ -19,8 +19,8 @@ use Rattle.writer.specs.Form.{pdoBytes}
 use Rattle.writer.proofs.Keeps.{Keeps}
 use Rattle.dump.specs.declared.Head.{Head}
 use Rattle.dump.specs.Categories.{marked, categories, contentFor, unended}
-use Rattle.dump.specs.Parts.{partsOf}
-use Rattle.dump.specs.Records.{usageFor, managerLong, controlIn, managerFor, pdosIn, notRecords}
+use Rattle.dump.specs.Parts.{partsOf, restOf}
+use Rattle.dump.specs.Records.{usageFor, managerLong, controlIn, managerFor, pdoLong, pdosIn, nonempty, notRecords}
 use Rattle.dump.specs.Dump.{managerRecords, usagesFor, dumpData, ruleBroken, someUnnamed, deviceWith}
 use Rattle.dump.specs.Calls.{InRange}
 use Rattle.dump.specs.Looked.{pdosFrom}
@@ -72,71 +72,105 @@ module _ (c : tie.After-behind5) where
         outputs-from = ap categories (c .behind5 .ensures) ∙ f .outputs;
       }
 
--- 17
-records : (c : tie.After-not-records) {b : Bool} → c .not-records .result ≡ b → notRecords (categories (dump (c .before))) ≡ b
-records c e =
-    let f = c .before .before .before .before .before .before .before .before .find .ensures in
-    sym (not-records-is (found (c .before)) (f .known)) ∙ sym (c .not-records .ensures) ∙ e
-
--- the contents of the four, where 17 isn't given
-module _ (c : tie.After-pdo-count) where
+-- the four contents
+module _ (c : tie.After-second) where
   abbrev found-at : tie.After-behind5
-  found-at = c .before .before .before .before .before
+  found-at = c .before .before .before .before .before .before .before
 
   abbrev categories-at : List (List ℕ)
   categories-at = categories (dump found-at)
 
-  whole : notRecords categories-at ≡ false
-  whole = records (c .before .before .before .before) (c .before .before .before .if2 .left)
+  usages-at : now (c .before .before .before .before .before .before .content .result) ≡ contentFor 40 categories-at
+  usages-at = content-is 40 categories-at _ (found found-at .fmmus-from) (c .before .before .before .before .before .before .content .ensures)
 
-  usages-at : now (c .before .before .content .result) ≡ contentFor 40 categories-at
-  usages-at = content-is 40 categories-at _ (found found-at .fmmus-from) (c .before .before .content .ensures)
+  managers-at : now (c .before .before .before .before .before .content2 .result) ≡ contentFor 41 categories-at
+  managers-at = content-is 41 categories-at _ (found found-at .managers-from) (c .before .before .before .before .before .content2 .ensures)
 
-  managers-at : now (c .before .content2 .result) ≡ contentFor 41 categories-at
-  managers-at = content-is 41 categories-at _ (found found-at .managers-from) (c .before .content2 .ensures)
+  inputs-at : now (c .before .before .before .before .content3 .result) ≡ contentFor 50 categories-at
+  inputs-at = content-is 50 categories-at _ (found found-at .inputs-from) (c .before .before .before .before .content3 .ensures)
 
-  -- the PDOs in dump order, as the places of the two categories say it
-  abbrev places : Bool
-  places = let r = found-at .before .before .before .before .before .before .before .find .result in ltb (r .inputs) (r .outputs)
+  outputs-at : now (c .before .before .content4 .result) ≡ contentFor 51 categories-at
+  outputs-at = content-is 51 categories-at _ (found found-at .outputs-from) (c .before .before .content4 .ensures)
 
-  pdos-at : pdosFrom places (categories (now (found-at .before .behind4 .result))) (categories (now (found-at .behind5 .result))) ≡ pdosIn categories-at
-  pdos-at = pdos-are (found found-at) (found-at .before .before .before .before .before .before .before .find .ensures .order) whole
-
-  count-at : c .pdo-count .result ≡ length (pdosIn categories-at)
-  count-at =
-      c .pdo-count .ensures
-      ∙ sym (pdos-counted places (categories (now (found-at .before .behind4 .result))) (categories (now (found-at .behind5 .result))))
-      ∙ ap length pdos-at
-
--- 4
-rule : (c : tie.After-rule-broken) {b : Bool} → c .rule-broken .result ≡ b → Broken (head (found-at (c .before))) (dump (found-at (c .before))) (room (found-at (c .before))) ≡ b
-rule c e =
-    let p = c .before in
-    sym (λ i. ruleBroken (head (found-at p) .flags) (map managerFor (partsOf managerLong (managers-at p i))) (map usageFor (usages-at p i)) (count-at p i))
-    ∙ sym (c .rule-broken .ensures)
+-- 17
+records : (c : tie.After-not-records) {b : Bool} → c .not-records .result ≡ b → notRecords (categories-at (c .before)) ≡ b
+records c e =
+    let s = c .before in
+    let tx = s .before .before .before .pdo-records .ensures .1 in
+    let rx = s .before .pdo-records2 .ensures .1 in
+    let f = found-at s in
+    let r = f .before .before .before .before .before .before .before .find in
+    sym (not-records-is (found f) (r .result .known) (r .ensures .known) (managers-at s) (inputs-at s) (outputs-at s))
+    ∙ sym (c .not-records .ensures ∙ (λ i. s .second .ensures i || (nonempty (restOf managerLong (now (s .before .before .before .before .before .content2 .result))) || (tx i || rx i))))
     ∙ e
 
--- what it says of the counts, where it isn't given
-counts : (c : tie.After-rule-broken) → c .rule-broken .result ≡ false
-    → (c .before .pdo-count .result ≤ 255) × (length (now (c .before .before .content2 .result)) / 8 ≤ 16) × (length (now (c .before .before .before .content .result)) ≤ 16)
-counts c e =
-    let p = c .before in
-    let cs = categories-at p in
-    let k = keeps-rule (head (found-at p) .flags) (map managerFor (managerRecords cs)) (usagesFor cs) (length (pdosIn cs)) (rule c e) in
-    let m = managers-many (contentFor 41 cs) in
-    let n = ap length (managers-at p) in
-    let u = length-map (contentFor 40 cs) usageFor in
-    let v = ap length (usages-at p) in
-    (omega (arith, count-at p), omega arith, omega arith)
+-- the PDOs, where 17 isn't given
+module _ (c : tie.Else2) where
+  abbrev asked : tie.After-second
+  asked = c .before .before
+
+  whole : notRecords (categories-at asked) ≡ false
+  whole = records (c .before) (c .if2 .left)
+
+  -- in dump order, as the places of the two categories say it
+  abbrev places : Bool
+  places = let r = found-at asked .before .before .before .before .before .before .before .find .result in ltb (r .inputs) (r .outputs)
+
+  abbrev inputs : List (List ℕ)
+  inputs = categories (now (found-at asked .before .behind4 .result))
+
+  abbrev outputs : List (List ℕ)
+  outputs = categories (now (found-at asked .behind5 .result))
+
+  pdos-at : pdosFrom places inputs outputs ≡ pdosIn (categories-at asked)
+  pdos-at = pdos-are (found (found-at asked)) (found-at asked .before .before .before .before .before .before .before .find .ensures .order) whole
+
+  counted : asked .before .before .before .pdo-records .result .count + asked .before .pdo-records2 .result .count ≡ length (pdosFrom places inputs outputs)
+  counted =
+      let count : List ℕ → ℕ = λ l. length (partsOf pdoLong l) in
+      ap₂ _+_ (asked .before .before .before .pdo-records .ensures .0 ∙ ap count (asked .before .before .before .before .content3 .ensures)) (asked .before .pdo-records2 .ensures .0 ∙ ap count (asked .before .before .content4 .ensures))
+      ∙ sym (pdos-counted places inputs outputs)
+
+  count-at : asked .before .before .before .pdo-records .result .count + asked .before .pdo-records2 .result .count ≡ length (pdosIn (categories-at asked))
+  count-at = counted ∙ ap length pdos-at
+
+-- 4
+module _ (c : tie.After-rule-broken) where
+  abbrev passed : tie.Else2
+  passed = c .before .before .before
+
+  abbrev from : tie.After-behind5
+  from = found-at (asked passed)
+
+  rule : {b : Bool} → c .rule-broken .result ≡ b → Broken (head from) (dump from) (room from) ≡ b
+  rule e =
+      let s = asked passed in
+      sym (λ i. ruleBroken (head from .flags) (map managerFor (partsOf managerLong (managers-at s i))) (map usageFor (usages-at s i)) (count-at passed i))
+      ∙ sym (c .rule-broken .ensures)
+      ∙ e
+
+  -- what it says of the counts, where it isn't given
+  counts : c .rule-broken .result ≡ false
+      → (asked passed .before .before .before .pdo-records .result .count + asked passed .before .pdo-records2 .result .count ≤ 255)
+      × (length (now (asked passed .before .before .before .before .before .content2 .result)) / 8 ≤ 16) × (length (now (asked passed .before .before .before .before .before .before .content .result)) ≤ 16)
+  counts e =
+      let s = asked passed in
+      let cs = categories-at s in
+      let k = keeps-rule (head from .flags) (map managerFor (managerRecords cs)) (usagesFor cs) (length (pdosIn cs)) (rule e) in
+      let m = managers-many (contentFor 41 cs) in
+      let n = ap length (managers-at s) in
+      let u = length-map (contentFor 40 cs) usageFor in
+      let v = ap length (usages-at s) in
+      (omega (arith, count-at passed), omega arith, omega arith)
 
 -- so the data has a sheet
 kept : (c : tie.After-behind5) → Broken (head c) (dump c) (room c) ≡ false → Keeps (dumpData (head c) (categories (dump c)))
 kept c b = let r = in-range (c .before .before .before .before .before .before .before .before) in dump-keeps (head c) (dump c) (r .receive) (r .send) (r .bytes) b
 
 -- 5
-controls : (c : tie.After-some-control-unnamed) {b : Bool} → c .some-control-unnamed .result ≡ b → someUnnamed (categories-at (c .before .before .before)) ≡ b
+controls : (c : tie.After-some-control-unnamed) {b : Bool} → c .some-control-unnamed .result ≡ b → someUnnamed (categories-at (asked (passed (c .before .before)))) ≡ b
 controls c e =
-    sym (ap (λ (l : List ℕ). someOf (λ r. unnamed (controlIn r)) (partsOf managerLong l)) (managers-at (c .before .before .before)))
+    sym (ap (λ (l : List ℕ). someOf (λ r. unnamed (controlIn r)) (partsOf managerLong l)) (managers-at (asked (passed (c .before .before)))))
     ∙ sym (c .some-control-unnamed .ensures)
     ∙ e
 
@@ -170,6 +204,27 @@ behind-requires-4 c κs = tt
 behind-requires-5 : tie.Need-behind-requires-5
 behind-requires-5 c κs = tt
 
+content-requires : tie.Need-content-requires
+content-requires c κs = tt
+
+content-requires-2 : tie.Need-content-requires-2
+content-requires-2 c κs = tt
+
+content-requires-3 : tie.Need-content-requires-3
+content-requires-3 c κs = tt
+
+pdo-records-requires : tie.Need-pdo-records-requires
+pdo-records-requires c κs = tt
+
+content-requires-4 : tie.Need-content-requires-4
+content-requires-4 c κs = tt
+
+pdo-records-requires-2 : tie.Need-pdo-records-requires-2
+pdo-records-requires-2 c κs = tt
+
+second-requires : tie.Need-second-requires
+second-requires c κs = tt
+
 not-records-requires : tie.Need-not-records-requires
 not-records-requires c κs = tt
 
@@ -179,17 +234,11 @@ refused-requires-2 c κs = tt
 returns-2 : tie.Need-returns-2
 returns-2 c =
     let n = c .before .before in
-    let f = n .before in
+    let f = found-at (n .before) in
     reads-17 (head f) (dump f) (room f) (c .refused2 .ensures) (ended f) (records n (c .before .if2 .taken))
 
-content-requires : tie.Need-content-requires
-content-requires c κs = tt
-
-content-requires-2 : tie.Need-content-requires-2
-content-requires-2 c κs = tt
-
-pdo-count-requires : tie.Need-pdo-count-requires
-pdo-count-requires c κs = tt
+add-p : tie.Need-add-p
+add-p c = search needs
 
 rule-broken-requires : tie.Need-rule-broken-requires
 rule-broken-requires c κs = tt
@@ -200,9 +249,8 @@ refused-requires-3 c κs = tt
 returns-3 : tie.Need-returns-3
 returns-3 c =
     let r = c .before .before in
-    let p = r .before in
-    let f = found-at p in
-    reads-4 (head f) (dump f) (room f) (c .refused3 .ensures) (ended f) (whole p) (rule r (c .before .if3 .taken))
+    let f = from r in
+    reads-4 (head f) (dump f) (room f) (c .refused3 .ensures) (ended f) (whole (passed r)) (rule r (c .before .if3 .taken))
 
 some-control-unnamed-requires : tie.Need-some-control-unnamed-requires
 some-control-unnamed-requires c κs = tt
@@ -214,12 +262,12 @@ returns-4 : tie.Need-returns-4
 returns-4 c =
     let u = c .before .before in
     let e = u .before in
-    let p = e .before .before in
-    let f = found-at p in
-    reads-5 (head f) (dump f) (room f) (c .refused4 .ensures) (ended f) (whole p) (rule (e .before) (e .if3 .left)) (controls u (c .before .if4 .taken))
+    let r = e .before in
+    let f = from r in
+    reads-5 (head f) (dump f) (room f) (c .refused4 .ensures) (ended f) (whole (passed r)) (rule r (e .if3 .left)) (controls u (c .before .if4 .taken))
 
 mul-if5 : tie.Need-mul-if5
-mul-if5 c = let k = counts (c .before .before .before) (c .before .before .if3 .left) in omega arith
+mul-if5 c = let e = c .before .before in let k = counts (e .before) (e .if3 .left) in omega arith
 
 refused-requires-5 : tie.Need-refused-requires-5
 refused-requires-5 c κs = tt
@@ -228,18 +276,17 @@ returns-5 : tie.Need-returns-5
 returns-5 c =
     let u = c .before .before .before in
     let e = u .before in
-    let p = e .before .before in
-    let f = found-at p in
-    reads-12 (head f) (dump f) (room f) (c .refused5 .ensures) (ended f) (whole p) (rule (e .before) (e .if3 .left)) (controls u (c .before .before .if4 .left))
-    (short-is (head f) (dump f) (room f) (count-at p) ∙ lt-ltb (length (room f)) (7 * p .pdo-count .result) (c .before .if5 .taken))
+    let r = e .before in
+    let p = passed r in
+    let f = from r in
+    reads-12 (head f) (dump f) (room f) (c .refused5 .ensures) (ended f) (whole p) (rule r (e .if3 .left)) (controls u (c .before .before .if4 .left))
+    (short-is (head f) (dump f) (room f) (count-at p) ∙ lt-ltb (length (room f)) (7 * (asked p .before .before .before .pdo-records .result .count + asked p .before .pdo-records2 .result .count)) (c .before .if5 .taken))
 
 put-records-requires : tie.Need-put-records-requires
 put-records-requires c κs =
     let last = c .before .before in
-    let p = last .before .before .before .before .before in
-    let f = found-at p in
-    let n = pdos-counted (places p) (categories (now (f .before .behind4 .result))) (categories (now (f .behind5 .result))) in
-    omega (arith, n, p .pdo-count .ensures, last .if5 .left)
+    let p = passed (last .before .before .before .before) in
+    omega (arith, counted p, last .if5 .left)
 
 cast-device-of : tie.Need-cast-device-of
 cast-device-of c =
@@ -262,12 +309,14 @@ returns-6 c =
     let last = put .before .before .before in
     let u = last .before .before in
     let e = u .before in
-    let p = e .before .before in
-    let f = found-at p in
-    let fits = short-is (head f) (dump f) (room f) (count-at p) ∙ le-ltb (length (room f)) (7 * p .pdo-count .result) (omega (arith, last .if5 .left)) in
-    let b = rule (e .before) (e .if3 .left) in
+    let r = e .before in
+    let p = passed r in
+    let s = asked p in
+    let f = from r in
+    let fits = short-is (head f) (dump f) (room f) (count-at p) ∙ le-ltb (length (room f)) (7 * (s .before .before .before .pdo-records .result .count + s .before .pdo-records2 .result .count)) (omega (arith, last .if5 .left)) in
+    let b = rule r (e .if3 .left) in
     let stored = put .put-records .ensures ∙ ap (λ (ps : List Pdo). over (flat (map pdoBytes ps)) (room f)) (pdos-at p) in
-    let held = c .device-of .ensures ∙ (λ i. deviceWith (head f) (map managerFor (partsOf managerLong (managers-at p i))) (map usageFor (usages-at p i)) (count-at p i)) in
+    let held = c .device-of .ensures ∙ (λ i. deviceWith (head f) (map managerFor (partsOf managerLong (managers-at s i))) (map usageFor (usages-at s i)) (count-at p i)) in
     reads-data (head f) (dump f) (room f) (ended f) (whole p) b (controls u (last .before .if4 .left)) fits (kept f b) held stored
 
 pub read-spec : {M : Type 1} → statement M
@@ -283,12 +332,17 @@ read-spec =
     behind-requires-3
     behind-requires-4
     behind-requires-5
+    content-requires
+    content-requires-2
+    content-requires-3
+    pdo-records-requires
+    content-requires-4
+    pdo-records-requires-2
+    second-requires
     not-records-requires
     refused-requires-2
     returns-2
-    content-requires
-    content-requires-2
-    pdo-count-requires
+    add-p
     rule-broken-requires
     refused-requires-3
     returns-3
