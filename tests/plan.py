@@ -268,7 +268,7 @@ def refused_dumps(fake):
     yield "on a terminal a refused dump hints at --explain", "" if hint else "no hint"
     answering(fake, dump_sheet(Dump(b"\xff\xff")), PLANNED)
     ran = fake.run("--dump", path)
-    yield "a dump with nothing in it is warned of", "" if ran.status == 0 and "none of the categories" in ran.err else ran.err
+    yield "a dump with nothing in it is warned of", "" if ran.status == 0 and "no records of the categories" in ran.err else ran.err
     for name in ("lockersheet", "lockerplan"):
         (fake.kit / f"answer-{name}").unlink()
 
