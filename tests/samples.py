@@ -3,7 +3,8 @@
 
     python3 tests/samples.py          each samples/NAME.out is what the model answers for samples/NAME.hex, a dump by the
                                       command of its first line, and each output of the pages (tests/pages.py lists them)
-                                      what it answers for their command; code that the pages show stands in crates/
+                                      what it answers for their command; code that the pages show stands in crates/; and
+                                      lockersheet's stored run is samples/bay-dump.hex with the model's sheet
     python3 tests/samples.py --write  makes each samples/NAME.out again, but bay.out: that is copied from document 01
     python3 tests/samples.py --run    runs ./plan on each samples/NAME.hex, on the longest sheets and on the longest
                                       report, and each command of the pages, and compares what they print
@@ -13,8 +14,8 @@ import sys
 
 import pages
 from build import SAMPLE, coe, eeprom, managers, on_coe, on_eeprom
-from pages import dump_text, in_lines, text_of
-from stored import dumps, sample, samples
+from pages import dump_sheet, dump_text, in_lines, text_of
+from stored import ROOT, dumps, sample, samples
 
 # L is 16,384: 9 bytes, four sync managers, two usages, and 63 PDOs of 254 or 255 lengths
 LONGEST = on_coe(*[coe(2 + k % 2, 0x1A00 + k, *[1 + (i + k) % 7 for i in range(254 + (k < 36))]) for k in range(63)])
@@ -43,6 +44,16 @@ def wrong_outputs():
             yield f"samples/{out.name} isn't what the model answers"
         if not command.endswith(f" samples/{path.name}"):
             yield f"the command of samples/{path.name} is about another file"
+
+
+def wrong_program():
+    """The run of lockersheet that the gate compares: the sample's dump, the numbers of its command, and the model's sheet."""
+    _, _, dump = next(found for found in dumps() if found[0].stem == "bay-dump")
+    numbers = "".join(f"{number}\n" for number in (dump.flags, dump.receive, dump.send))
+    right = {"args": numbers.encode(), "stdin": dump.data, "stdout": dump_sheet(dump)}
+    for name, data in right.items():
+        if (ROOT / "crates" / "lockersheet" / name).read_bytes() != data:
+            yield f"crates/lockersheet/{name} isn't that of samples/bay-dump.hex"
 
 
 def limits():
@@ -82,7 +93,7 @@ def main():
     if sys.argv[1:] == ["--run"]:
         wrong = [*wrong_runs(), *pages.wrong_runs()]
     else:
-        wrong = [*wrong_outputs(), *pages.wrong_pages()]
+        wrong = [*wrong_outputs(), *wrong_program(), *pages.wrong_pages()]
     count = len(samples()) + len(dumps())
     print("\n".join(wrong) or f"{count} samples and {len(pages.shown())} outputs on the pages are as they should be")
     sys.exit(1 if wrong else 0)
