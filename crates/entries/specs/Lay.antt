@@ -13,16 +13,17 @@ use Rattle.pdo.specs.declared.PdoDirection.{PdoDirection}
 use Rattle.passes.specs.declared.OldEntries.the-variants.{Keep}
 use Rattle.passes.specs.declared.Route.{Route}
 use Rattle.passes.specs.Use.{Use, total}
+use Rattle.passes.specs.Handed.{entryBy}
 use Rattle.passes.specs.Entries.{withUse, plan, lengthNow, tooLong, Planned}
 use Rattle.entries.specs.declared.Laid.{Laid}
 use Rattle.entries.specs.declared.Laid.the-variants as laid
 
 -- whether a sync manager of a size uses an entry by a route, and which one
 abbrev pub takesEntry : Route → ℕ → Bool
-takesEntry route size = cond (route .coe) (ltb 0 size) true
+takesEntry route size = cond (route .own) true (ltb 0 size)
 
-abbrev pub entryBy : Route → ℕ → ℕ
-entryBy route number = cond (route .coe) (route .entry) number
+abbrev pub entryOf : Route → ℕ → ℕ
+entryOf route number = cond (route .own) number (entryBy route number)
 
 abbrev pub useAt : ℕ → ℕ → ℕ → Use
 useAt e size at = record { entry = e; size = size; at = at }

@@ -1,13 +1,13 @@
 // The FMMU entries of a pass: `write_fmmu_config` of configuration.rs, over a whole area.
 ghost use mathlib.Core.Path.{_≡_};
-ghost use Prim.Native.Nat.{_+_, _≤_};
+ghost use Prim.Native.Nat.{_+_, _<_, _≤_};
 ghost use lib.ListN.{length};
 ghost use Rattle.pdo.specs.Direction.{isRead};
 ghost use Rattle.sheet.specs.Sheet.{managersIn, answerOf};
 ghost use Rattle.passes.specs.Handed.{usesBy};
 ghost use Rattle.passes.specs.Entries as Entries;
 ghost use Rattle.passes.specs.Entries.{configuredOf, WritesEntries};
-ghost use Rattle.entries.specs.Lay.{takesEntry, entryBy, useAt, laidOne, Short, laidAll, laidOf, segmentTo, thenInTheWay};
+ghost use Rattle.entries.specs.Lay.{takesEntry, entryOf, useAt, laidOne, Short, laidAll, laidOf, segmentTo, thenInTheWay};
 
 mod ready;
 
@@ -61,11 +61,11 @@ fn mapped(start: u32, size: ByteLen, at: u16, direction: PdoDirection) -> Fmmu
     }
 }
 
-// Whether a sync manager of this size uses an entry: by EEPROM even at 0 bits, on the CoE path only with bits.
+// Whether a sync manager of this size uses an entry: its own even at 0 bits, a given one only with bits.
 fn takes(route: Route, size: ByteLen) -> bool
     ensures { λ r. ⌜ r ≡ takesEntry route (size .0) ⌝ }
 {
-    if !route.coe {
+    if route.own {
         return true;
     }
     0 < size.0
@@ -73,12 +73,13 @@ fn takes(route: Route, size: ByteLen) -> bool
 
 // Which entry the sync manager with a number uses.
 fn entry_of(route: Route, number: u8) -> usize
-    ensures { λ r. ⌜ r ≡ entryBy route number ⌝ }
+    requires { ⌜ number < 16 ⌝ }
+    ensures { λ r. ⌜ r ≡ entryOf route number ⌝ }
 {
-    if route.coe {
-        return wire::wide(route.entry);
+    if route.own {
+        return wire::wide(number);
     }
-    wire::wide(number)
+    wire::wide(route.entries[wire::wide(number)])
 }
 
 // Where the sync managers end that are laid, exactly; or 8.

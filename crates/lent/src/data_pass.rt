@@ -1,9 +1,11 @@
-// The data pass, lent its offset and its oversampling table.
+// The data pass, lent its offset, its oversampling table and its list of pairs.
 ghost use mathlib.Core.List.{[]};
 ghost use Rattle.sheet.specs.Sheet.{sheetData};
 ghost use Rattle.pdo.specs.Bits.{multipliersOf};
+ghost use Rattle.passes.specs.Use.{chosenBy};
 ghost use Rattle.passes.specs.Pass.{Passes};
 use passes::Configured;
+use passes::FmmuPair;
 use passes::Place;
 use passes::Settings;
 use pdi::PdiOffset;
@@ -26,7 +28,7 @@ fn passed(
     place: Place,
     direction: PdoDirection,
 ) -> Done
-    ensures { λ r. ⌜ Passes (now (sheet .entry)) (now (multipliers .entry)) direction (place .offset) (place .settings) (now (fmmus .entry)) (now (channels .entry)) (r .answer) (r .next) (now (fmmus .exit)) (now (channels .exit)) ⌝ }
+    ensures { λ r. ⌜ Passes (now (sheet .entry)) (now (multipliers .entry)) (place .chosen) direction (place .offset) (place .settings) (now (fmmus .entry)) (now (channels .entry)) (r .answer) (r .next) (now (fmmus .exit)) (now (channels .exit)) ⌝ }
 {
     let start = place.offset;
     match subdevice::pass(sheet, multipliers, fmmus, channels, place, direction) {
@@ -49,7 +51,7 @@ fn without_table(
     place: Place,
     direction: PdoDirection,
 ) -> Done
-    ensures { λ r. ⌜ Passes (now (sheet .entry)) (multipliersOf [] (sheetData (now (sheet .entry)) .pdos)) direction (place .offset) (place .settings) (now (fmmus .entry)) (now (channels .entry)) (r .answer) (r .next) (now (fmmus .exit)) (now (channels .exit)) ⌝ }
+    ensures { λ r. ⌜ Passes (now (sheet .entry)) (multipliersOf [] (sheetData (now (sheet .entry)) .pdos)) (place .chosen) direction (place .offset) (place .settings) (now (fmmus .entry)) (now (channels .entry)) (r .answer) (r .next) (now (fmmus .exit)) (now (channels .exit)) ⌝ }
 {
     passed(sheet, &[], fmmus, channels, place, direction)
 }
@@ -63,28 +65,31 @@ fn with_table(
     place: Place,
     direction: PdoDirection,
 ) -> Done
-    ensures { λ r. ⌜ Passes (now (sheet .entry)) (multipliersOf (now (table .entry)) (sheetData (now (sheet .entry)) .pdos)) direction (place .offset) (place .settings) (now (fmmus .entry)) (now (channels .entry)) (r .answer) (r .next) (now (fmmus .exit)) (now (channels .exit)) ⌝ }
+    ensures { λ r. ⌜ Passes (now (sheet .entry)) (multipliersOf (now (table .entry)) (sheetData (now (sheet .entry)) .pdos)) (place .chosen) direction (place .offset) (place .settings) (now (fmmus .entry)) (now (channels .entry)) (r .answer) (r .next) (now (fmmus .exit)) (now (channels .exit)) ⌝ }
 {
     let mut multipliers = [1u8; 255];
     oversampling::multipliers_for(table, sheet, &mut multipliers);
     passed(sheet, &multipliers, fmmus, channels, place, direction)
 }
 
-// Second stage: one direction's process data. An accepted pass moves the lent offset on.
+// Second stage: one direction's process data. An accepted pass moves the lent offset on. The pairs are read in the mode that asks for them.
 pub fn configure_fmmus(
     sheet: &[u8],
     table: &[Oversampling],
+    pairs: &[FmmuPair],
     fmmus: &mut [u8],
     channels: &mut [u8],
     offset: &mut PdiOffset,
     settings: Settings,
     direction: PdoDirection,
 ) -> Placed
-    ensures { λ r. ⌜ Passes (now (sheet .entry)) (multipliersOf (now (table .entry)) (sheetData (now (sheet .entry)) .pdos)) direction (now (offset .entry)) settings (now (fmmus .entry)) (now (channels .entry)) r (now (offset .exit)) (now (fmmus .exit)) (now (channels .exit)) ⌝ }
+    ensures { λ r. ⌜ Passes (now (sheet .entry)) (multipliersOf (now (table .entry)) (sheetData (now (sheet .entry)) .pdos)) (chosenBy (settings .mode) (now (pairs .entry))) direction (now (offset .entry)) settings (now (fmmus .entry)) (now (channels .entry)) r (now (offset .exit)) (now (fmmus .exit)) (now (channels .exit)) ⌝ }
 {
+    let chosen = pairs::fmmu_mappings(settings.mode, pairs);
     let place = Place {
         offset: *offset,
         settings,
+        chosen,
     };
     let done = if table.len() == 0 {
         without_table(sheet, fmmus, channels, place, direction)

@@ -7,7 +7,7 @@ use mathlib.Core.Option.{none, some}
 use Prim.Native.Nat.{ℕ, suc, _+_, _*_, _<_, _≤_}
 use native.Mathlib.Nat.{add-zero, zero-add}
 use native.Mathlib.Omega.{arith}
-use lib.ListN.{length, getD}
+use lib.ListN.{length, getD, replicate, getD-replicate}
 use lib.Dec.{eqb, ltb}
 use borrow.Author.Tests.{lt-ltb, le-ltb, ltb-true, ltb-false}
 use Rattle.wire.proofs.Lists.{getD-listOf}
@@ -21,10 +21,12 @@ use Rattle.channels.proofs.After.{channels-same}
 use Rattle.pdo.specs.declared.PdoDirection.{PdoDirection}
 use Rattle.pdo.specs.Direction.{usageOf}
 use Rattle.pdo.specs.Bits.{Piece, byCoe, pathKind, bitsOf, piecesFrom, piecesOf}
-use Rattle.passes.specs.declared.Route.{Route}
-use Rattle.passes.specs.Use.{useOf, own, given, coeEntry, usesOf, total, sizeOf}
+use Rattle.passes.specs.declared.FmmuMode.{FmmuMode}
+use Rattle.passes.specs.declared.FmmuMode.the-variants.{OwnNumber, Paired}
+use Rattle.passes.specs.declared.Chosen.{Chosen}
+use Rattle.passes.specs.Use.{Use, useOf, own, given, coeEntry, byMode, usesOf, total, sizeOf}
 use Rattle.passes.specs.Pass.{dataSize}
-use Rattle.passes.specs.Handed.{exactBits, sizesOf, routeOf, byRoute, usesBy}
+use Rattle.passes.specs.Handed.{exactBits, sizesOf, routeBy, routeOf, piecesBy, usesBy}
 
 -- bits take bytes exactly if there are any
 pub some-bytes : (bits : ℕ) → ltb 0 (bytesOf bits) ≡ ltb 0 bits
@@ -53,38 +55,54 @@ given-total entry (p ∷ ps) = go (ltb 0 (p .bits)) refl (given-total entry ps)
 abbrev pub withPiece : Bool → ℕ → ℕ → ℕ → List Piece → List Piece
 withPiece b k bits at ps = cond b (record { number = k; bits = bits; address = at } ∷ ps) ps
 
--- bits that take the same bytes make the same uses, whatever the route
-one-use :
-    (path : Bool) (entry k f g at : ℕ) (ps qs : List Piece) (b : Bool) → (b ≡ true → bytesOf f ≡ bytesOf g)
-    → byRoute (record { «coe» = path; entry = entry }) ps ≡ byRoute (record { «coe» = path; entry = entry }) qs
-    → byRoute (record { «coe» = path; entry = entry }) (withPiece b k f at ps) ≡ byRoute (record { «coe» = path; entry = entry }) (withPiece b k g at qs)
-unfolding given own
-one-use path entry k f g at ps qs false h rest = rest
-one-use false entry k f g at ps qs true h rest = λ i. record { entry = k; size = h refl i; at = at } ∷ rest i
-one-use true entry k f g at ps qs true h rest =
-    let some : ltb 0 f ≡ ltb 0 g = sym (some-bytes f) ∙ ap (ltb 0) (h refl) ∙ some-bytes g in
-    λ i. cond (some i) (record { entry = entry; size = h refl i; at = at } ∷ rest i) (rest i)
+-- on given entries, or each on its own number
+abbrev pub onEntries : Bool → (ℕ → ℕ) → List Piece → List Use
+onEntries mine entry ps = cond mine (own ps) (given entry ps)
 
-module _ (route : Route) (usage : ℕ) (f g : ℕ → ℕ) where
-  -- at each sync manager of the usage, from the number k on
+-- bits that take the same bytes, with the same entry for their number, make the same uses
+one-use :
+    (mine : Bool) (e d : ℕ → ℕ) (k f g at : ℕ) (ps qs : List Piece) (b : Bool) → (b ≡ true → bytesOf f ≡ bytesOf g) → (mine ≡ false → e k ≡ d k)
+    → onEntries mine e ps ≡ onEntries mine d qs
+    → onEntries mine e (withPiece b k f at ps) ≡ onEntries mine d (withPiece b k g at qs)
+unfolding given own
+one-use mine e d k f g at ps qs false h en rest = rest
+one-use true e d k f g at ps qs true h en rest = λ i. record { entry = k; size = h refl i; at = at } ∷ rest i
+one-use false e d k f g at ps qs true h en rest =
+    let some : ltb 0 f ≡ ltb 0 g = sym (some-bytes f) ∙ ap (ltb 0) (h refl) ∙ some-bytes g in
+    λ i. cond (some i) (record { entry = en refl i; size = h refl i; at = at } ∷ rest i) (rest i)
+
+module _ (mine : Bool) (e d : ℕ → ℕ) (usage : ℕ) (f g : ℕ → ℕ) where
+  -- at each sync manager of the usage, from the number k on; and at each number the same entry
   abbrev Agree : ℕ → List SyncManager → Type 0
   Agree k ms = (j : ℕ) → j < length ms → eqb (getD ms j noManager .«usage_type») usage ≡ true → bytesOf (f (k + j)) ≡ bytesOf (g (k + j))
 
-  uses-from : (k : ℕ) (ms : List SyncManager) → Agree k ms → byRoute route (piecesFrom usage f k ms) ≡ byRoute route (piecesFrom usage g k ms)
-  unfolding piecesFrom
-  uses-from k [] h = refl
-  uses-from k (m ∷ ms) h =
-      one-use (route .coe) (route .entry) k (f k) (g k) (m .«start_addr») (piecesFrom usage f (suc k) ms) (piecesFrom usage g (suc k) ms) (eqb (m .«usage_type») usage)
-      (λ e. subst (λ (n : ℕ). bytesOf (f n) ≡ bytesOf (g n)) (add-zero k) (h 0 (omega arith) e))
-      (uses-from (suc k) ms (λ j l e. subst (λ (n : ℕ). bytesOf (f n) ≡ bytesOf (g n)) (shift k j) (h (suc j) (omega arith) e)))
+  abbrev Meet : ℕ → List SyncManager → Type 0
+  Meet k ms = (j : ℕ) → j < length ms → mine ≡ false → e (k + j) ≡ d (k + j)
+
+  uses-from : (k : ℕ) (ms : List SyncManager) → Agree k ms → Meet k ms → onEntries mine e (piecesFrom usage f k ms) ≡ onEntries mine d (piecesFrom usage g k ms)
+  unfolding piecesFrom own given
+  uses-from k [] h en = go mine
+    where
+      go : (b : Bool) → onEntries b e [] ≡ onEntries b d []
+      go true = refl
+      go false = refl
+  uses-from k (m ∷ ms) h en =
+      one-use mine e d k (f k) (g k) (m .«start_addr») (piecesFrom usage f (suc k) ms) (piecesFrom usage g (suc k) ms) (eqb (m .«usage_type») usage)
+      (λ z. subst (λ (n : ℕ). bytesOf (f n) ≡ bytesOf (g n)) (add-zero k) (h 0 (omega arith) z))
+      (λ z. subst (λ (n : ℕ). e n ≡ d n) (add-zero k) (en 0 (omega arith) z))
+      (uses-from (suc k) ms (λ j l z. subst (λ (n : ℕ). bytesOf (f n) ≡ bytesOf (g n)) (shift k j) (h (suc j) (omega arith) z))
+      (λ j l z. subst (λ (n : ℕ). e n ≡ d n) (shift k j) (en (suc j) (omega arith) z)))
     where
       shift : (k j : ℕ) → k + suc j ≡ suc k + j
       shift k j = omega arith
 
   pub uses-same :
       (ms : List SyncManager) → ((j : ℕ) → j < length ms → eqb (getD ms j noManager .«usage_type») usage ≡ true → bytesOf (f j) ≡ bytesOf (g j))
-      → byRoute route (piecesFrom usage f 0 ms) ≡ byRoute route (piecesFrom usage g 0 ms)
-  uses-same ms h = uses-from 0 ms (λ j l e. subst (λ (n : ℕ). bytesOf (f n) ≡ bytesOf (g n)) (sym (zero-add j)) (h j l e))
+      → ((j : ℕ) → j < length ms → mine ≡ false → e j ≡ d j)
+      → onEntries mine e (piecesFrom usage f 0 ms) ≡ onEntries mine d (piecesFrom usage g 0 ms)
+  uses-same ms h en =
+      uses-from 0 ms (λ j l z. subst (λ (n : ℕ). bytesOf (f n) ≡ bytesOf (g n)) (sym (zero-add j)) (h j l z))
+      (λ j l z. subst (λ (n : ℕ). e n ≡ d n) (sym (zero-add j)) (en j l z))
 
 module _ (d : Data) (ws : List ℕ) (r : PdoDirection) where
   -- the exact bits of a sync manager of the usage, and the size handed on for it
@@ -94,24 +112,15 @@ module _ (d : Data) (ws : List ℕ) (r : PdoDirection) where
   pub size-handed : (k : ℕ) → k < 16 → sizeAt (sizesOf d ws r) k ≡ bytesOf (exactBits d ws r k)
   size-handed k h = ap (λ (b : ByteLen). b .0) (getD-listOf (λ j. record { 0 = bytesOf (exactBits d ws r j) }) 16 k (record { 0 = 0 }) h)
 
-  -- by the path that is handed on, a pass of the pieces
-  route-uses : byRoute (routeOf d r) (piecesOf d ws r) ≡ usesOf d ws r
-  unfolding usesOf
-  route-uses = go (byCoe d)
-    where
-      go : (b : Bool) → byRoute (record { «coe» = b; entry = cond b (coeEntry d r) 0 }) (piecesOf d ws r)
-          ≡ cond b (given (λ number. coeEntry d r) (piecesOf d ws r)) (own (piecesOf d ws r))
-      go true = refl
-      go false = refl
-
   -- leaving out those without bits changes no total
-  pub uses-total : total (usesOf d ws r) ≡ sizeOf d ws r
+  pub uses-total : (mode : FmmuMode) (c : Chosen) → total (usesOf mode c d ws r) ≡ sizeOf d ws r
   unfolding usesOf sizeOf
-  uses-total = go (byCoe d)
+  uses-total mode c = go mode (byCoe d)
     where
-      go : (b : Bool) → total (cond b (given (λ number. coeEntry d r) (piecesOf d ws r)) (own (piecesOf d ws r))) ≡ total (own (piecesOf d ws r))
-      go true = given-total (λ number. coeEntry d r) (piecesOf d ws r)
-      go false = refl
+      go : (m : FmmuMode) (b : Bool) → total (cond b (given (λ number. coeEntry d r) (piecesOf d ws r)) (byMode m c (piecesOf d ws r))) ≡ total (own (piecesOf d ws r))
+      go m true = given-total (λ number. coeEntry d r) (piecesOf d ws r)
+      go OwnNumber false = refl
+      go Paired false = given-total (λ number. getD (c .entries) number 0) (piecesOf d ws r)
 
   module _ (few : length (d .managers) ≤ 16) where
     size-at :
@@ -119,13 +128,26 @@ module _ (d : Data) (ws : List ℕ) (r : PdoDirection) where
         → sizeAt (sizesOf d ws r) k ≡ bytesOf (bitsOf (pathKind d r) k (d .pdos) ws)
     size-at k h e = size-handed k (omega arith) ∙ ap bytesOf (exact-at k h e)
 
-    -- the uses of what is handed on are those of the pass
-    pub uses-are : usesBy (routeOf d r) (sizesOf d ws r) r (d .managers) ≡ usesOf d ws r
+    -- the uses of what is handed on, on entries that are the same below sixteen
+    handed : (mine : Bool) (e c : ℕ → ℕ) → ((j : ℕ) → j < 16 → mine ≡ false → e j ≡ c j) → onEntries mine e (piecesBy (usageOf r) (sizesOf d ws r) (d .managers)) ≡ onEntries mine c (piecesOf d ws r)
     unfolding piecesOf
-    uses-are =
-        uses-same (routeOf d r) (usageOf r) (λ k. 8 * sizeAt (sizesOf d ws r) k) (λ k. bitsOf (pathKind d r) k (d .pdos) ws) (d .managers)
-        (λ j l e. bytes-back (sizeAt (sizesOf d ws r) j) ∙ size-at j l e)
-        ∙ route-uses
+    handed mine e c meet =
+        uses-same mine e c (usageOf r) (λ k. 8 * sizeAt (sizesOf d ws r) k) (λ k. bitsOf (pathKind d r) k (d .pdos) ws) (d .managers)
+        (λ j l z. bytes-back (sizeAt (sizesOf d ws r) j) ∙ size-at j l z) (λ j l z. meet j (omega arith) z)
+
+    -- are those of the pass
+    pub uses-are : (mode : FmmuMode) (c : Chosen) → usesBy (routeOf mode c d r) (sizesOf d ws r) r (d .managers) ≡ usesOf mode c d ws r
+    unfolding usesOf
+    uses-are mode c = go mode (byCoe d)
+      where
+        go : (m : FmmuMode) (b : Bool)
+            → usesBy (cond b (record { own = false; entries = replicate 16 (coeEntry d r) }) (routeBy m c)) (sizesOf d ws r) r (d .managers)
+            ≡ cond b (given (λ number. coeEntry d r) (piecesOf d ws r)) (byMode m c (piecesOf d ws r))
+        go m true =
+            handed false (λ number. getD (replicate 16 (coeEntry d r)) number 0) (λ number. coeEntry d r)
+            (λ j l z. getD-replicate 16 j (coeEntry d r) 0 l)
+        go OwnNumber false = handed true (λ number. number) (λ number. number) (λ j l z. refl)
+        go Paired false = handed false (λ number. getD (c .entries) number 0) (λ number. getD (c .entries) number 0) (λ j l z. refl)
 
     -- who gets which size is what the pass says
     sizes-agree : (k : ℕ) → k < length (d .managers) → sizeBy (usageOf r) (sizesOf d ws r) k (getD (d .managers) k noManager) ≡ dataSize d ws r k (getD (d .managers) k noManager)

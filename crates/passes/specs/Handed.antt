@@ -1,9 +1,9 @@
 -- What the parts of a pass hand to one another: a size in bytes for each of sixteen numbers, and the route.
 -- Assumes nothing.
-use mathlib.Core.Bool.{Bool, cond, _&&_}
+use mathlib.Core.Bool.{Bool, true, false, cond, _&&_}
 use mathlib.Core.List.{List}
 use Prim.Native.Nat.{ℕ, _*_}
-use lib.ListN.{length, getD}
+use lib.ListN.{length, getD, replicate}
 use lib.Dec.{eqb, ltb}
 use Rattle.wire.specs.Lists.{listOf}
 use Rattle.pdi.specs.Unit.{bytesOf}
@@ -16,6 +16,9 @@ use Rattle.pdo.specs.Direction.{usageOf}
 use Rattle.pdo.specs.Bits.{Piece, byCoe, pathKind, bitsOf, piecesFrom}
 use Rattle.channels.specs.Channels.{sizeAt}
 use Rattle.passes.specs.Use.{Use, own, given, coeEntry}
+use Rattle.passes.specs.declared.FmmuMode.{FmmuMode}
+use Rattle.passes.specs.declared.FmmuMode.the-variants.{OwnNumber, Paired}
+use Rattle.passes.specs.declared.Chosen.{Chosen}
 use Rattle.passes.specs.declared.Route.{Route}
 
 -- the sync manager with a number is there and has the usage
@@ -30,9 +33,18 @@ exactBits d ws r k = cond (hasUsage (usageOf r) (d .managers) k) (bitsOf (pathKi
 abbrev pub sizesOf : Data → List ℕ → PdoDirection → List ByteLen
 sizesOf d ws r = listOf (λ k. record { 0 = bytesOf (exactBits d ws r k) }) 16
 
--- the path, with the CoE entry
-abbrev pub routeOf : Data → PdoDirection → Route
-routeOf d r = record { «coe» = byCoe d; entry = cond (byCoe d) (coeEntry d r) 0 }
+-- the route of a mode on the EEPROM path
+abbrev pub routeBy : FmmuMode → Chosen → Route
+routeBy OwnNumber c = record { own = true; entries = replicate 16 0 }
+routeBy Paired c = record { own = false; entries = c .entries }
+
+-- by CoE each number has the CoE entry
+abbrev pub routeOf : FmmuMode → Chosen → Data → PdoDirection → Route
+routeOf mode c d r = cond (byCoe d) (record { own = false; entries = replicate 16 (coeEntry d r) }) (routeBy mode c)
+
+-- which entry it gives a number
+abbrev pub entryBy : Route → ℕ → ℕ
+entryBy route number = getD (route .entries) number 0
 
 -- the sync managers of a usage with these sizes: pieces with eight bits for each byte
 abbrev pub piecesBy : ℕ → List ByteLen → List SyncManager → List Piece
@@ -40,7 +52,7 @@ piecesBy usage sizes ms = piecesFrom usage (λ k. 8 * sizeAt sizes k) 0 ms
 
 -- their uses by a route
 abbrev pub byRoute : Route → List Piece → List Use
-byRoute route ps = cond (route .coe) (given (λ number. route .entry) ps) (own ps)
+byRoute route ps = cond (route .own) (own ps) (given (entryBy route) ps)
 
 abbrev pub usesBy : Route → List ByteLen → PdoDirection → List SyncManager → List Use
 usesBy route sizes r ms = byRoute route (piecesBy (usageOf r) sizes ms)

@@ -13,14 +13,15 @@ use Rattle.pdo.specs.Direction.{other}
 use Rattle.passes.specs.Use.{Use}
 use Rattle.passes.specs.declared.OldEntries.{OldEntries}
 use Rattle.passes.specs.declared.OldEntries.the-variants.{Clear, Keep}
+use Rattle.passes.specs.declared.FmmuMode.{FmmuMode}
 use Rattle.passes.specs.declared.Settings.{Settings}
 
--- the default, and keeping, which is asked for by name
-abbrev pub clean : ℕ → Settings
-clean group = record { group = group; old = Clear }
+-- the default, and keeping, which is asked for by name; by own numbers or by pairs
+abbrev pub clean : FmmuMode → ℕ → Settings
+clean mode group = record { group = group; old = Clear; mode = mode }
 
-abbrev pub keeping : ℕ → Settings
-keeping group = record { group = group; old = Keep }
+abbrev pub keeping : FmmuMode → ℕ → Settings
+keeping mode group = record { group = group; old = Keep; mode = mode }
 
 -- an entry's bit of a direction
 abbrev pub bitOf : PdoDirection → Fmmu → Bool

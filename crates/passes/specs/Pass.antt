@@ -23,8 +23,9 @@ use Rattle.pdo.specs.Bits.{Piece, byCoe, pathKind, bitsOf, piecesOf}
 use Rattle.area.specs.Area.{entriesOf, flat, notEntries, notChannels}
 use Rattle.channels.specs.Channels.{channelsAfter}
 use Rattle.passes.specs.Use.{coeEntry, usesOf, sizeOf}
+use Rattle.passes.specs.Pairs.{badPairs}
 use Rattle.passes.specs.Entries.{Planned, planned, configuredOf, entryRefusals, entryArea}
-use Rattle.passes.specs.declared.OldEntries.{OldEntries}
+use Rattle.passes.specs.declared.Chosen.{Chosen}
 use Rattle.passes.specs.declared.Settings.{Settings}
 use Rattle.passes.specs.declared.Configured.{Configured}
 
@@ -44,29 +45,29 @@ noEntry d ws r = byCoe d && (someOf (λ (p : Piece). ltb 0 (p .bits)) (piecesOf 
 abbrev pub wantedRefusals : Data → List ℕ → PdoDirection → List Refusal
 wantedRefusals d ws r = when 6 (someTooMany d ws r) ∷ when 7 (noEntry d ws r) ∷ []
 
--- all, in their order
-abbrev pub passRefusals : List ℕ → List ℕ → PdoDirection → ℕ → Settings → List ℕ → List ℕ → List Refusal
-passRefusals sheet ws r offset settings fmmus channels =
+-- all, in their order; counting takes no pairs, so 18, which comes before those, is a pass's alone
+abbrev pub passRefusals : List ℕ → List ℕ → Chosen → PdoDirection → ℕ → Settings → List ℕ → List ℕ → List Refusal
+passRefusals sheet ws c r offset settings fmmus channels =
     when 1 (notAreas fmmus channels)
-    ∷ sheetRefusals sheet ++ (wantedRefusals (sheetData sheet) ws r
-    ++ entryRefusals (usesOf (sheetData sheet) ws r) (sizeOf (sheetData sheet) ws r) r offset settings (entriesOf 16 fmmus))
+    ∷ sheetRefusals sheet ++ (when 18 (badPairs (settings .mode) c (sheetData sheet) ws) ∷ wantedRefusals (sheetData sheet) ws r
+    ++ entryRefusals (usesOf (settings .mode) c (sheetData sheet) ws r) (sizeOf (sheetData sheet) ws r) r offset settings (entriesOf 16 fmmus))
 
 -- an accepted pass
 abbrev pub plannedOf : Data → List ℕ → PdoDirection → ℕ → ℕ → Planned
 plannedOf d ws r offset group = planned offset group (sizeOf d ws r)
 
 -- the whole call
-unfoldable pub dataPass : List ℕ → List ℕ → PdoDirection → ℕ → Settings → List ℕ → List ℕ → Outcome Planned
-dataPass sheet ws r offset settings fmmus channels =
-    decide (passRefusals sheet ws r offset settings fmmus channels) (plannedOf (sheetData sheet) ws r offset (settings .group))
+unfoldable pub dataPass : List ℕ → List ℕ → Chosen → PdoDirection → ℕ → Settings → List ℕ → List ℕ → Outcome Planned
+dataPass sheet ws c r offset settings fmmus channels =
+    decide (passRefusals sheet ws c r offset settings fmmus channels) (plannedOf (sheetData sheet) ws r offset (settings .group))
 
 -- each wanted sync manager gets its image, with its size in bytes
 abbrev pub dataSize : Data → List ℕ → PdoDirection → ℕ → SyncManager → Option ℕ
 dataSize d ws r k m = cond (eqb (m .«usage_type») (usageOf r)) (some (bytesOf (bitsOf (pathKind d r) k (d .pdos) ws))) none
 
 -- what the areas then hold: a refusal writes nothing
-abbrev pub entriesAfter : Outcome Planned → Data → List ℕ → PdoDirection → ℕ → OldEntries → List ℕ → List ℕ
-entriesAfter o d ws r offset old area = entryArea o r offset old (usesOf d ws r) area
+abbrev pub entriesAfter : Outcome Planned → Data → List ℕ → Chosen → PdoDirection → ℕ → Settings → List ℕ → List ℕ
+entriesAfter o d ws c r offset settings area = entryArea o r offset (settings .old) (usesOf (settings .mode) c d ws r) area
 
 abbrev pub channelAreaAfter : Outcome Planned → Data → List ℕ → PdoDirection → List ℕ → List ℕ
 channelAreaAfter (refused n) d ws r area = area
@@ -74,11 +75,11 @@ channelAreaAfter (accepted p) d ws r area = flat (channelsAfter (dataSize d ws r
 
 -- the promise of the pass: its answer with the next offset, and both areas
 pub record Configures
-    (sheet ws : List ℕ) (r : PdoDirection) (offset : ℕ) (settings : Settings) (fmmus channels : List ℕ)
+    (sheet ws : List ℕ) (c : Chosen) (r : PdoDirection) (offset : ℕ) (settings : Settings) (fmmus channels : List ℕ)
     (answer : Configured) (fmmusThen channelsThen : List ℕ) : Type 0 where
-  pub says : configuredOf answer ≡ dataPass sheet ws r offset settings fmmus channels
-  pub entries : fmmusThen ≡ entriesAfter (dataPass sheet ws r offset settings fmmus channels) (sheetData sheet) ws r offset (settings .old) fmmus
-  pub images : channelsThen ≡ channelAreaAfter (dataPass sheet ws r offset settings fmmus channels) (sheetData sheet) ws r channels
+  pub says : configuredOf answer ≡ dataPass sheet ws c r offset settings fmmus channels
+  pub entries : fmmusThen ≡ entriesAfter (dataPass sheet ws c r offset settings fmmus channels) (sheetData sheet) ws c r offset settings fmmus
+  pub images : channelsThen ≡ channelAreaAfter (dataPass sheet ws c r offset settings fmmus channels) (sheetData sheet) ws r channels
 
 -- the segment alone, and the offset moved to the end, or as it was after a refusal
 abbrev pub segmentAlone : Outcome Planned → Outcome PdiSegment
@@ -91,9 +92,9 @@ offsetAfter (accepted p) offset = record { «start_address» = p .next }
 
 -- the promise of the pass that is lent its offset
 pub record Passes
-    (sheet ws : List ℕ) (r : PdoDirection) (offset : PdiOffset) (settings : Settings) (fmmus channels : List ℕ)
+    (sheet ws : List ℕ) (c : Chosen) (r : PdoDirection) (offset : PdiOffset) (settings : Settings) (fmmus channels : List ℕ)
     (answer : Placed) (offsetThen : PdiOffset) (fmmusThen channelsThen : List ℕ) : Type 0 where
-  pub says : placedOf answer ≡ segmentAlone (dataPass sheet ws r (offset .«start_address») settings fmmus channels)
-  pub moves : offsetThen ≡ offsetAfter (dataPass sheet ws r (offset .«start_address») settings fmmus channels) offset
-  pub entries : fmmusThen ≡ entriesAfter (dataPass sheet ws r (offset .«start_address») settings fmmus channels) (sheetData sheet) ws r (offset .«start_address») (settings .old) fmmus
-  pub images : channelsThen ≡ channelAreaAfter (dataPass sheet ws r (offset .«start_address») settings fmmus channels) (sheetData sheet) ws r channels
+  pub says : placedOf answer ≡ segmentAlone (dataPass sheet ws c r (offset .«start_address») settings fmmus channels)
+  pub moves : offsetThen ≡ offsetAfter (dataPass sheet ws c r (offset .«start_address») settings fmmus channels) offset
+  pub entries : fmmusThen ≡ entriesAfter (dataPass sheet ws c r (offset .«start_address») settings fmmus channels) (sheetData sheet) ws c r (offset .«start_address») settings fmmus
+  pub images : channelsThen ≡ channelAreaAfter (dataPass sheet ws c r (offset .«start_address») settings fmmus channels) (sheetData sheet) ws r channels

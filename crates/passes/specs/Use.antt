@@ -1,14 +1,20 @@
 -- Which sync manager uses which entry: the one place that knows the path.
 -- Assumes nothing.
-use mathlib.Core.Bool.{cond}
+use mathlib.Core.Bool.{Bool, cond, _||_}
 use mathlib.Core.List.{List, [], _∷_}
 use Prim.Native.Nat.{ℕ, zero, suc, _+_}
 use lib.Dec.{eqb, ltb}
+use lib.ListN.{getD}
+use Rattle.wire.specs.Lists.{listOf, someOf}
 use Rattle.pdi.specs.Unit.{bytesOf}
 use Rattle.sheet.specs.Device.{Data}
 use Rattle.pdo.specs.declared.PdoDirection.{PdoDirection}
 use Rattle.pdo.specs.Direction.{fmmuUsageOf}
 use Rattle.pdo.specs.Bits.{Piece, byCoe, piecesOf}
+use Rattle.passes.specs.declared.FmmuPair.{FmmuPair}
+use Rattle.passes.specs.declared.FmmuMode.{FmmuMode}
+use Rattle.passes.specs.declared.FmmuMode.the-variants.{OwnNumber, Paired}
+use Rattle.passes.specs.declared.Chosen.{Chosen}
 
 -- a sync manager laid by a pass: the entry that it uses, its size in bytes, its device address
 pub record Use : Type 0 where
@@ -38,9 +44,36 @@ firstWith usage (u ∷ us) = cond (eqb u usage) zero (suc (firstWith usage us))
 abbrev pub coeEntry : Data → PdoDirection → ℕ
 coeEntry d r = firstWith (fmmuUsageOf r) (d .usages)
 
--- CoE: with more than 0 bits the first entry with the wanted usage; EEPROM: its own
-unfoldable pub usesOf : Data → List ℕ → PdoDirection → List Use
-usesOf d ws r = cond (byCoe d) (given (λ number. coeEntry d r) (piecesOf d ws r)) (own (piecesOf d ws r))
+-- the first pair for a sync manager decides; none means its own number (document 02, 6/13)
+unfoldable pub entryFor : List FmmuPair → ℕ → ℕ
+entryFor [] number = number
+entryFor (p ∷ ps) number = cond (eqb (p .«sync_manager») number) (p .fmmu) (entryFor ps number)
+
+-- a pair number above 15
+abbrev pub pastLast : FmmuPair → Bool
+pastLast p = ltb 15 (p .fmmu) || ltb 15 (p .«sync_manager»)
+
+-- what a list of pairs hands on: sixteen entry numbers, and whether a number is above 15
+abbrev pub chosenOf : List FmmuPair → Chosen
+chosenOf ps = record { entries = listOf (entryFor ps) 16; above = someOf pastLast ps }
+
+-- by own numbers the list isn't read
+abbrev pub chosenBy : FmmuMode → List FmmuPair → Chosen
+chosenBy OwnNumber ps = chosenOf []
+chosenBy Paired ps = chosenOf ps
+
+-- by pairs: with more than 0 bits the entry that was chosen for its number
+abbrev pub paired : Chosen → List Piece → List Use
+paired c ps = given (λ number. getD (c .entries) number 0) ps
+
+-- EEPROM, by mode
+abbrev pub byMode : FmmuMode → Chosen → List Piece → List Use
+byMode OwnNumber c ps = own ps
+byMode Paired c ps = paired c ps
+
+-- CoE: with more than 0 bits the first entry with the wanted usage, whatever pairs there are
+unfoldable pub usesOf : FmmuMode → Chosen → Data → List ℕ → PdoDirection → List Use
+usesOf mode c d ws r = cond (byCoe d) (given (λ number. coeEntry d r) (piecesOf d ws r)) (byMode mode c (piecesOf d ws r))
 
 -- the bytes of all; and those on the entry k
 unfoldable pub total : List Use → ℕ

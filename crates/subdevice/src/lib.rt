@@ -14,7 +14,7 @@ pub fn pass(
     place: Place,
     direction: PdoDirection,
 ) -> Configured
-    ensures { λ r. ⌜ Configures (now (sheet .entry)) (now (multipliers .entry)) direction (place .offset .«start_address») (place .settings) (now (fmmus .entry)) (now (channels .entry)) r (now (fmmus .exit)) (now (channels .exit)) ⌝ }
+    ensures { λ r. ⌜ Configures (now (sheet .entry)) (now (multipliers .entry)) (place .chosen) direction (place .offset .«start_address») (place .settings) (now (fmmus .entry)) (now (channels .entry)) r (now (fmmus .exit)) (now (channels .exit)) ⌝ }
 {
     if fmmus.len() != 256 {
         return Configured::Refused(1);
@@ -22,7 +22,8 @@ pub fn pass(
     if channels.len() != 128 {
         return Configured::Refused(1);
     }
-    let wanted = wanted::wanted_of(sheet, multipliers, direction);
+    let settings = place.settings;
+    let wanted = wanted::wanted_of(sheet, multipliers, direction, settings.mode, place.chosen);
     let answer = wanted.answer;
     if let Answer::Refused(number) = answer {
         return Configured::Refused(number);

@@ -12,9 +12,11 @@ ghost use Rattle.grammar.specs.Grammar.{usageCount, usagesPlace, nextPdo, kindF
 ghost use Rattle.sheet.specs.Device.{pdoAt};
 ghost use Rattle.sheet.specs.Sheet.{sheetData, answerOf};
 ghost use Rattle.passes.specs.Use.{firstWith};
-ghost use Rattle.passes.specs.Handed.{hasUsage};
+ghost use Rattle.passes.specs.Handed.{hasUsage, routeBy};
 ghost use Rattle.wanted.specs.ByKind.{bitsIn, someTooWide, sizesIn, someSize, routedOf};
 ghost use Rattle.wanted.specs.Wanted.{noSizes, wantedAfter, Wants};
+use passes::Chosen;
+use passes::FmmuMode;
 use passes::Route;
 use pdi::BitLen;
 use pdi::ByteLen;
@@ -22,7 +24,7 @@ use pdi::Rounded;
 use pdo::PdoDirection;
 use sheet::Answer;
 
-// What a data pass wants: a size for each sync manager of its usage, and the path; or the lowest of 2 to 7 that holds.
+// What a data pass wants: a size for each sync manager of its usage, and the route; or the first of 2 to 5, 18, 6 and 7 that holds.
 pub struct Wanted {
     pub answer: Answer,
     pub sizes: [ByteLen; 16],
@@ -128,11 +130,9 @@ struct Sizes {
     list: [ByteLen; 16],
 }
 
-fn sizes_of(sheet: &[u8], kind: u8, usage: u8, multipliers: &[u8]) -> Sizes
+fn sizes_of(sheet: &[u8], bits: [BitLen; 16]) -> Sizes
     requires { ⌜ (length (now sheet) ≤ 16386) × (broken (now sheet) ≡ false) ⌝ }
-    ensures { λ r. ⌜ (answerOf {A = Unit {0}} (r .answer) tt ≡ decide (when 6 (someTooWide (now (sheet .entry)) kind usage (now (multipliers .entry))) ∷ []) tt) × (r .list ≡ cond (someTooWide (now (sheet .entry)) kind usage (now (multipliers .entry))) noSizes (sizesIn (now (sheet .entry)) kind usage (now (multipliers .entry)))) ⌝ }
 {
-    let bits = tally(sheet, kind, usage, multipliers);
     let mut list = [ByteLen(0); 16];
     let n = wire::wide(grammar::manager_count(sheet));
     let mut k = 0;
@@ -195,24 +195,42 @@ fn refused(number: u8) -> Wanted
         answer: Answer::Refused(number),
         sizes: [ByteLen(0); 16],
         route: Route {
-            coe: false,
-            entry: 0,
+            own: true,
+            entries: [0u8; 16],
         },
     }
 }
 
-// By EEPROM each uses its own entry; on the CoE path the first with the usage, or 7 where there is none.
-fn routed(sheet: &[u8], coe: bool, usage: u8, sizes: [ByteLen; 16]) -> Wanted
-    ensures { λ r. ⌜ r ≡ routedOf «coe» (eqb (firstWith usage (sheetData (now (sheet .entry)) .usages)) (usageCount (now (sheet .entry))) && someSize sizes) (firstWith usage (sheetData (now (sheet .entry)) .usages)) sizes ⌝ }
+// The route on the EEPROM path: each sync manager's own number, or what the pairs chose.
+fn route_by(mode: FmmuMode, chosen: Chosen) -> Route
+    ensures { λ r. ⌜ r ≡ routeBy mode chosen ⌝ }
 {
+    match mode {
+        FmmuMode::OwnNumber => Route {
+            own: true,
+            entries: [0u8; 16],
+        },
+        FmmuMode::Paired => Route {
+            own: false,
+            entries: chosen.entries,
+        },
+    }
+}
+
+// By EEPROM the route is the mode's; on the CoE path all use the first entry with the usage, or it is 7 where there is none.
+fn routed(
+    sheet: &[u8],
+    coe: bool,
+    usage: u8,
+    sizes: [ByteLen; 16],
+    mode: FmmuMode,
+    chosen: Chosen,
+) -> Wanted {
     if !coe {
         return Wanted {
             answer: Answer::Accepted,
             sizes,
-            route: Route {
-                coe: false,
-                entry: 0,
-            },
+            route: route_by(mode, chosen),
         };
     }
     let entry = first_with(sheet, usage);
@@ -222,13 +240,108 @@ fn routed(sheet: &[u8], coe: bool, usage: u8, sizes: [ByteLen; 16]) -> Wanted
     Wanted {
         answer: Answer::Accepted,
         sizes,
-        route: Route { coe: true, entry },
+        route: Route {
+            own: false,
+            entries: [entry; 16],
+        },
     }
 }
 
+// Whether pairs are looked at: in the mode that reads them, on the EEPROM path.
+fn pairs_read(coe: bool, mode: FmmuMode) -> bool {
+    match mode {
+        FmmuMode::OwnNumber => false,
+        FmmuMode::Paired => !coe,
+    }
+}
+
+// The other direction.
+fn other(direction: PdoDirection) -> PdoDirection {
+    match direction {
+        PdoDirection::MasterRead => PdoDirection::MasterWrite,
+        PdoDirection::MasterWrite => PdoDirection::MasterRead,
+    }
+}
+
+// The entries of a direction's sync managers that have bits: which are used, and whether one is left for another and used again.
+struct Survey {
+    used: [bool; 16],
+    interrupted: bool,
+}
+
+// The entry of each number that has bits, from the last number to the first.
+fn survey(bits: [BitLen; 16], entries: [u8; 16]) -> Survey {
+    let mut used = [false; 16];
+    let mut interrupted = false;
+    let mut next = 0;
+    let mut k = 16;
+    while 0 < k {
+        k -= 1;
+        if 0 < bits[k].0 {
+            let e = entries[k];
+            if e < 16 {
+                if used[wire::wide(e)] {
+                    if next != e {
+                        interrupted = true;
+                    }
+                }
+                used[wire::wide(e)] = true;
+            }
+            next = e;
+        }
+    }
+    Survey { used, interrupted }
+}
+
+// Whether some entry is used by both.
+fn some_shared(one: [bool; 16], two: [bool; 16]) -> bool {
+    let mut k = 0;
+    while k < 16 {
+        if one[k] {
+            if two[k] {
+                return true;
+            }
+        }
+        k += 1;
+    }
+    false
+}
+
+// 18: a number above 15, an entry of both directions, or one of a direction left for another and used again. Lent the bits of one direction.
+fn bad_pairs(
+    sheet: &[u8],
+    multipliers: &[u8],
+    direction: PdoDirection,
+    bits: [BitLen; 16],
+    chosen: Chosen,
+) -> bool
+    requires { ⌜ (length (now sheet) ≤ 16386) × (broken (now sheet) ≡ false) ⌝ }
+{
+    if chosen.above {
+        return true;
+    }
+    let these = survey(bits, chosen.entries);
+    if these.interrupted {
+        return true;
+    }
+    let terms = other(direction).filter_terms();
+    let others = tally(sheet, terms.kind, terms.usage, multipliers);
+    let those = survey(others, chosen.entries);
+    if those.interrupted {
+        return true;
+    }
+    some_shared(these.used, those.used)
+}
+
 // What a direction's pass of a sheet wants. Lent a multiplier for each PDO; one that is lacking is 1.
-pub fn wanted_of(sheet: &[u8], multipliers: &[u8], direction: PdoDirection) -> Wanted
-    ensures { λ r. ⌜ Wants (now (sheet .entry)) (now (multipliers .entry)) direction r ⌝ }
+pub fn wanted_of(
+    sheet: &[u8],
+    multipliers: &[u8],
+    direction: PdoDirection,
+    mode: FmmuMode,
+    chosen: Chosen,
+) -> Wanted
+    ensures { λ r. ⌜ Wants mode chosen (now (sheet .entry)) (now (multipliers .entry)) direction r ⌝ }
 {
     let sound = sheet::check(sheet);
     if let Answer::Refused(number) = sound {
@@ -236,11 +349,17 @@ pub fn wanted_of(sheet: &[u8], multipliers: &[u8], direction: PdoDirection) -> W
     }
     let terms = direction.filter_terms();
     let coe = pdo::coe_on(sheet);
-    let sized = sizes_of(sheet, path_kind(coe, terms.kind), terms.usage, multipliers);
+    let bits = tally(sheet, path_kind(coe, terms.kind), terms.usage, multipliers);
+    if pairs_read(coe, mode) {
+        if bad_pairs(sheet, multipliers, direction, bits, chosen) {
+            return refused(18);
+        }
+    }
+    let sized = sizes_of(sheet, bits);
     let answer = sized.answer;
     if let Answer::Refused(number) = answer {
         return refused(number);
     }
     let sizes = sized.list;
-    routed(sheet, coe, terms.fmmu_usage, sizes)
+    routed(sheet, coe, terms.fmmu_usage, sizes, mode, chosen)
 }
