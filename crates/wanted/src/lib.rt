@@ -264,13 +264,13 @@ fn other(direction: PdoDirection) -> PdoDirection {
 }
 
 // The entries of a direction's sync managers that have bits: which are used, and whether one is left for another and used again.
-struct Survey {
+struct Entered {
     used: [bool; 16],
     interrupted: bool,
 }
 
 // The entry of each number that has bits, from the last number to the first.
-fn survey(bits: [BitLen; 16], entries: [u8; 16]) -> Survey {
+fn survey(bits: [BitLen; 16], entries: [u8; 16]) -> Entered {
     let mut used = [false; 16];
     let mut interrupted = false;
     let mut next = 0;
@@ -290,7 +290,7 @@ fn survey(bits: [BitLen; 16], entries: [u8; 16]) -> Survey {
             next = e;
         }
     }
-    Survey { used, interrupted }
+    Entered { used, interrupted }
 }
 
 // Whether some entry is used by both.
