@@ -5,42 +5,29 @@ use mathlib.Core.Bool.{Bool, true, false, cond}
 use mathlib.Core.List.{List, [], _∷_}
 use Prim.Native.Nat.{ℕ, _+_, _*_}
 use native.Mathlib.Numerals.{add-one}
-use native.Mathlib.Omega.{arith}
 use lib.ListN.{drop}
 use lib.Dec.{eqb, ltb}
-use borrow.Author.Tests.{ltb-true, ltb-false, lt-ltb, le-ltb, eq-eqb, ne-eqb}
-use Rattle.pdi.specs.Unit.{bytesOf}
+use borrow.Author.Tests.{eq-eqb, ne-eqb}
 use Rattle.pdi.specs.declared.ByteLen.{ByteLen}
 use Rattle.sheet.specs.declared.SyncManager.{SyncManager}
 use Rattle.pdo.specs.Bits.{Piece, piecesFrom}
 use Rattle.channels.specs.Channels.{sizeAt}
 use Rattle.passes.specs.declared.Route.{Route}
 use Rattle.passes.specs.Use.{Use, own, given}
-use Rattle.passes.specs.Handed.{byRoute}
-use Rattle.entries.specs.Lay.{takesEntry, entryBy, useAt}
+use Rattle.passes.specs.Handed.{entryBy, byRoute}
+use Rattle.passes.proofs.Pieces.{some-bytes, bytes-back, onEntries}
+use Rattle.entries.specs.Lay.{takesEntry, entryOf, useAt}
 
--- eight bits for each byte are as many bytes
-eight-bits : (size : ℕ) → bytesOf (8 * size) ≡ size
-eight-bits size = omega arith
-
-some-bits : (size : ℕ) → ltb 0 (8 * size) ≡ ltb 0 size
-some-bits size = go (ltb 0 size) refl
-  where
-    go : (b : Bool) → ltb 0 size ≡ b → ltb 0 (8 * size) ≡ b
-    go true e = let h = ltb-true 0 size e in lt-ltb 0 (8 * size) (omega arith)
-    go false e = let h = ltb-false 0 size e in le-ltb 0 (8 * size) (omega arith)
-
--- what one piece adds to the uses
+-- what one piece adds to the uses: eight bits for each byte are as many bytes, and some exactly if those are
 one-use :
-    (path : Bool) (entry k size at : ℕ) (ps : List Piece) (t : Bool) → takesEntry (record { «coe» = path; entry = entry }) size ≡ t
-    → byRoute (record { «coe» = path; entry = entry }) (record { number = k; bits = 8 * size; address = at } ∷ ps)
-    ≡ cond t (useAt (cond path entry k) size at ∷ byRoute (record { «coe» = path; entry = entry }) ps) (byRoute (record { «coe» = path; entry = entry }) ps)
+    (mine : Bool) (entry : ℕ → ℕ) (k size at : ℕ) (ps : List Piece) (t : Bool) → cond mine true (ltb 0 size) ≡ t
+    → onEntries mine entry (record { number = k; bits = 8 * size; address = at } ∷ ps)
+    ≡ cond t (useAt (cond mine k (entry k)) size at ∷ onEntries mine entry ps) (onEntries mine entry ps)
 unfolding given own
+one-use true entry k size at ps t e = λ i. cond (e i) (useAt k (bytes-back size i) at ∷ own ps) (own ps)
 one-use false entry k size at ps t e =
-    ap (λ (n : ℕ). useAt k n at ∷ own ps) (eight-bits size) ∙ ap (λ (b : Bool). cond b (useAt k size at ∷ own ps) (own ps)) e
-one-use true entry k size at ps t e =
-    let rest = given (λ number. entry) ps in
-    (λ i. cond (some-bits size i) (useAt entry (eight-bits size i) at ∷ rest) rest) ∙ ap (λ (b : Bool). cond b (useAt entry size at ∷ rest) rest) e
+    let some : ltb 0 (8 * size) ≡ t = sym (some-bytes (8 * size)) ∙ ap (ltb 0) (bytes-back size) ∙ e in
+    λ i. cond (some i) (useAt (entry k) (bytes-back size i) at ∷ given entry ps) (given entry ps)
 
 module _ (route : Route) (sizes : List ByteLen) (usage : ℕ) (ms : List SyncManager) where
   abbrev piecesOn : ℕ → List SyncManager → List Piece
@@ -55,9 +42,9 @@ module _ (route : Route) (sizes : List ByteLen) (usage : ℕ) (ms : List SyncMan
 
   pub uses-end : (k : ℕ) → drop k ms ≡ [] → usesAt k ≡ []
   unfolding piecesFrom given own
-  uses-end k e = ap (λ (l : List SyncManager). byRoute route (piecesOn k l)) e ∙ none (route .coe)
+  uses-end k e = ap (λ (l : List SyncManager). byRoute route (piecesOn k l)) e ∙ none (route .own)
     where
-      none : (b : Bool) → cond b (given (λ number. route .entry) []) (own []) ≡ []
+      none : (mine : Bool) → onEntries mine (entryBy route) [] ≡ []
       none true = refl
       none false = refl
 
@@ -77,15 +64,15 @@ module _ (route : Route) (sizes : List ByteLen) (usage : ℕ) (ms : List SyncMan
     uses-other h = ap (byRoute route) (pieces-next false (ne-eqb (m .«usage_type») usage h))
 
     module _ (is : m .«usage_type» ≡ usage) where
-      uses-by : (t : Bool) → takesEntry route (sizeAt sizes k) ≡ t → usesAt k ≡ cond t (useAt (entryBy route k) (sizeAt sizes k) (m .«start_addr») ∷ usesAt (k + 1)) (usesAt (k + 1))
+      uses-by : (t : Bool) → takesEntry route (sizeAt sizes k) ≡ t → usesAt k ≡ cond t (useAt (entryOf route k) (sizeAt sizes k) (m .«start_addr») ∷ usesAt (k + 1)) (usesAt (k + 1))
       unfolding piece
       uses-by t e =
           ap (byRoute route) (pieces-next true (eq-eqb (m .«usage_type») usage is))
-          ∙ one-use (route .coe) (route .entry) k (sizeAt sizes k) (m .«start_addr») (pieces (k + 1)) t e
+          ∙ one-use (route .own) (entryBy route) k (sizeAt sizes k) (m .«start_addr») (pieces (k + 1)) t e
 
       -- it takes no entry, or the next one
       pub uses-skip : takesEntry route (sizeAt sizes k) ≡ false → usesAt k ≡ usesAt (k + 1)
       uses-skip e = uses-by false e
 
-      pub uses-next : takesEntry route (sizeAt sizes k) ≡ true → usesAt k ≡ useAt (entryBy route k) (sizeAt sizes k) (m .«start_addr») ∷ usesAt (k + 1)
+      pub uses-next : takesEntry route (sizeAt sizes k) ≡ true → usesAt k ≡ useAt (entryOf route k) (sizeAt sizes k) (m .«start_addr») ∷ usesAt (k + 1)
       uses-next e = uses-by true e

@@ -59,7 +59,7 @@ cast-start : tie.Need-cast-start Inv-loop μ-loop
 cast-start c = omega arith
 
 entry-of-requires : tie.Need-entry-of-requires Inv-loop μ-loop
-entry-of-requires c κs = tt
+entry-of-requires c κs = let t = c .before .before .before .before .before .before in ltb-true (t .before .before .loop .k) 16 (t .if1 .taken)
 
 start-of-requires : tie.Need-start-of-requires Inv-loop μ-loop
 start-of-requires c κs = tt

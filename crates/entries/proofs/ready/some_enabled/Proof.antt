@@ -47,7 +47,7 @@ takes-requires : tie.Need-takes-requires Inv-loop μ-loop
 takes-requires c κs = tt
 
 entry-of-requires : tie.Need-entry-of-requires Inv-loop μ-loop
-entry-of-requires c κs = tt
+entry-of-requires c κs = let t = c .before .before .before .before .before .before in ltb-true (t .before .before .loop .k) 16 (t .if1 .taken)
 
 enabled-at-requires : tie.Need-enabled-at-requires Inv-loop μ-loop
 enabled-at-requires c κs = c .before .before .before .before .before .before .before .before .before .before .before .before .before .pre
