@@ -16,7 +16,10 @@ use Rattle.sheet.specs.Sheet.{sheetRefusals, sheetData}
 use Rattle.pdo.specs.declared.PdoDirection.{PdoDirection}
 use Rattle.area.specs.Area.{entriesOf, flat, notEntries, notChannels, chunks}
 use Rattle.passes.specs.declared.OldEntries.the-variants.{Clear, Keep}
+use Rattle.passes.specs.declared.FmmuMode.{FmmuMode}
+use Rattle.passes.specs.declared.Chosen.{Chosen}
 use Rattle.passes.specs.Use.{Use, usesOf, sizeOf}
+use Rattle.passes.specs.Pairs.{badPairs}
 use Rattle.passes.specs.Old.{clean, keeping, cleared, inTheWay, bothBits, carriesBoth}
 use Rattle.passes.specs.Entries.{plan, tooLong, Planned}
 use Rattle.passes.specs.Pass.{wantedRefusals, plannedOf, dataPass, entriesAfter, channelAreaAfter, segmentAlone, offsetAfter}
@@ -46,19 +49,19 @@ module _ (r : PdoDirection) (fmmus : List ℕ) (long : length fmmus ≡ 256) whe
   zeroed-entries = ap (entriesOf 16) zeroed-whole ∙ flat-entries 16 (map (cleared r) (entriesOf 16 fmmus)) sixteen
 
 -- a pass by the answers to 1, 8 and 15
-abbrev answer : List ℕ → List ℕ → PdoDirection → ℕ → ℕ → List ℕ → Bool → Bool → Bool → Outcome Planned
-answer sheet ws r offset group channels one eight fifteen =
+abbrev answer : List ℕ → List ℕ → FmmuMode → Chosen → PdoDirection → ℕ → ℕ → List ℕ → Bool → Bool → Bool → Outcome Planned
+answer sheet ws mode k r offset group channels one eight fifteen =
     decide
-    (when 1 (one || notChannels channels) ∷ sheetRefusals sheet ++ (wantedRefusals (sheetData sheet) ws r
+    (when 1 (one || notChannels channels) ∷ sheetRefusals sheet ++ (when 18 (badPairs mode k (sheetData sheet) ws) ∷ wantedRefusals (sheetData sheet) ws r
     ++ (when 8 eight ∷ when 9 (pastEnd (offset + sizeOf (sheetData sheet) ws r)) ∷ when 10 (ltb offset group) ∷ when 15 fifteen ∷ [])))
     (plannedOf (sheetData sheet) ws r offset group)
 
-module _ (sheet ws : List ℕ) (r : PdoDirection) (offset group : ℕ) (fmmus channels : List ℕ) (bytes : Bytes fmmus)
-    (free : inTheWay Clear r (usesOf (sheetData sheet) ws r) (entriesOf 16 fmmus) ≡ false) where
+module _ (sheet ws : List ℕ) (mode : FmmuMode) (k : Chosen) (r : PdoDirection) (offset group : ℕ) (fmmus channels : List ℕ) (bytes : Bytes fmmus)
+    (free : inTheWay Clear r (usesOf mode k (sheetData sheet) ws r) (entriesOf 16 fmmus) ≡ false) where
   abbrev uses : List Use
-  uses = usesOf (sheetData sheet) ws r
+  uses = usesOf mode k (sheetData sheet) ws r
 
-  outcomes-same : (eqb (length fmmus) 256 ≡ true) ⊎ (eqb (length fmmus) 256 ≡ false) → byDefault sheet ws r offset group fmmus channels ≡ byKeeping sheet ws r offset group fmmus channels
+  outcomes-same : (eqb (length fmmus) 256 ≡ true) ⊎ (eqb (length fmmus) 256 ≡ false) → byDefault sheet ws mode k r offset group fmmus channels ≡ byKeeping sheet ws mode k r offset group fmmus channels
   unfolding dataPass inTheWay
   outcomes-same (inr h) = let z : zeroed r fmmus ≡ fmmus = rw h refl in rw (z, h) refl
   outcomes-same (inl h) =
@@ -66,61 +69,61 @@ module _ (sheet ws : List ℕ) (r : PdoDirection) (offset group : ℕ) (fmmus ch
       let one : notEntries fmmus ≡ notEntries (zeroed r fmmus) = ap (λ (n : ℕ). not (eqb n 256)) (long ∙ sym (zeroed-long r fmmus long)) in
       let eight : tooLong Clear uses (entriesOf 16 fmmus) ≡ tooLong Keep uses (entriesOf 16 (zeroed r fmmus)) =
       eight-same r uses fmmus bytes free ∙ ap (tooLong Keep uses) (sym (zeroed-entries r fmmus long)) in
-      λ i. answer sheet ws r offset group channels (one i) (eight i) (free i)
+      λ i. answer sheet ws mode k r offset group channels (one i) (eight i) (free i)
 
   -- accepted, it is of 256 bytes
-  entries-same : (p : Planned) → byDefault sheet ws r offset group fmmus channels ≡ accepted p
-      → entriesAfter (accepted p) (sheetData sheet) ws r offset Clear fmmus ≡ entriesAfter (accepted p) (sheetData sheet) ws r offset Keep (zeroed r fmmus)
+  entries-same : (p : Planned) → byDefault sheet ws mode k r offset group fmmus channels ≡ accepted p
+      → entriesAfter (accepted p) (sheetData sheet) ws k r offset (clean mode group) fmmus ≡ entriesAfter (accepted p) (sheetData sheet) ws k r offset (keeping mode group) (zeroed r fmmus)
   entries-same p e =
-      let long = area-long sheet ws r offset (clean group) fmmus channels (none-holds sheet ws r offset (clean group) fmmus channels p e) in
+      let long = area-long sheet ws k r offset (clean mode group) fmmus channels (none-holds sheet ws k r offset (clean mode group) fmmus channels p e) in
       ap (λ (es : List (List ℕ)). flat (plan r offset uses es)) (sym (zeroed-entries r fmmus long))
 
 pub as-keeping : AsKeeping
-as-keeping sheet ws r offset group fmmus channels bytes free =
-    let same = outcomes-same sheet ws r offset group fmmus channels bytes free (either (eqb (length fmmus) 256)) in
+as-keeping sheet ws mode k r offset group fmmus channels bytes free =
+    let same = outcomes-same sheet ws mode k r offset group fmmus channels bytes free (either (eqb (length fmmus) 256)) in
     record {
       outcomes = same;
-      entries = entries-same sheet ws r offset group fmmus channels bytes free;
+      entries = entries-same sheet ws mode k r offset group fmmus channels bytes free;
       images = ap (λ (o : Outcome Planned). channelAreaAfter o (sheetData sheet) ws r channels) same;
     }
 
 -- an accepted pass has nothing in the way
 pub promise-as-keeping : PromiseAsKeeping
-promise-as-keeping sheet ws r offset group fmmus channels s o f c bytes p =
+promise-as-keeping sheet ws mode k r offset group fmmus channels s o f c bytes p =
     let at = offset .«start_address» in
-    let went = answered (byDefault sheet ws r at group fmmus channels) s (p .says) in
-    let told = told sheet ws r at (clean group) fmmus channels f (went .planned) (went .says) (p .entries) in
-    let k = as-keeping sheet ws r at group fmmus channels bytes (told .free) in
-    let same = k .outcomes in
+    let went = answered (byDefault sheet ws mode k r at group fmmus channels) s (p .says) in
+    let told = told sheet ws k r at (clean mode group) fmmus channels f (went .planned) (went .says) (p .entries) in
+    let kept = as-keeping sheet ws mode k r at group fmmus channels bytes (told .free) in
+    let same = kept .outcomes in
     record {
       says = p .says ∙ ap segmentAlone same;
       moves = p .moves ∙ ap (λ (x : Outcome Planned). offsetAfter x offset) same;
       entries =
-          p .entries ∙ ap (λ (x : Outcome Planned). entriesAfter x (sheetData sheet) ws r at Clear fmmus) (went .says)
-          ∙ k .entries (went .planned) (went .says)
-          ∙ ap (λ (x : Outcome Planned). entriesAfter x (sheetData sheet) ws r at Keep (zeroed r fmmus)) (sym (went .says) ∙ same);
-      images = p .images ∙ k .images;
+          p .entries ∙ ap (λ (x : Outcome Planned). entriesAfter x (sheetData sheet) ws k r at (clean mode group) fmmus) (went .says)
+          ∙ kept .entries (went .planned) (went .says)
+          ∙ ap (λ (x : Outcome Planned). entriesAfter x (sheetData sheet) ws k r at (keeping mode group) (zeroed r fmmus)) (sym (went .says) ∙ same);
+      images = p .images ∙ kept .images;
     }
 
 -- a refusal leaves the area, of either
 pub nothing-cleared : NothingCleared
-nothing-cleared sheet ws r offset group fmmus channels s o f c bytes same free p =
+nothing-cleared sheet ws mode k r offset group fmmus channels s o f c bytes same free p =
     let at = offset .«start_address» in
-    let k = as-keeping sheet ws r at group fmmus channels bytes free in
+    let kept = as-keeping sheet ws mode k r at group fmmus channels bytes free in
     let d = sheetData sheet in
-    let outcomes : byDefault sheet ws r at group fmmus channels ≡ dataPass sheet ws r at (keeping group) fmmus channels =
-    k .outcomes ∙ ap (λ (area : List ℕ). dataPass sheet ws r at (keeping group) area channels) same in
-    let left = go (byDefault sheet ws r at group fmmus channels) (λ q h. k .entries q h ∙ ap (λ (area : List ℕ). entriesAfter (accepted q) d ws r at Keep area) same) in
+    let outcomes : byDefault sheet ws mode k r at group fmmus channels ≡ dataPass sheet ws k r at (keeping mode group) fmmus channels =
+    kept .outcomes ∙ ap (λ (area : List ℕ). dataPass sheet ws k r at (keeping mode group) area channels) same in
+    let left = go (byDefault sheet ws mode k r at group fmmus channels) (λ q h. kept .entries q h ∙ ap (λ (area : List ℕ). entriesAfter (accepted q) d ws k r at (keeping mode group) area) same) in
     record {
       says = p .says ∙ ap segmentAlone outcomes;
       moves = p .moves ∙ ap (λ (x : Outcome Planned). offsetAfter x offset) outcomes;
-      entries = p .entries ∙ left ∙ ap (λ (x : Outcome Planned). entriesAfter x d ws r at Keep fmmus) outcomes;
+      entries = p .entries ∙ left ∙ ap (λ (x : Outcome Planned). entriesAfter x d ws k r at (keeping mode group) fmmus) outcomes;
       images = p .images ∙ ap (λ (x : Outcome Planned). channelAreaAfter x d ws r channels) outcomes;
     }
   where
     go : (x : Outcome Planned)
-        → ((q : Planned) → x ≡ accepted q → entriesAfter (accepted q) (sheetData sheet) ws r (offset .«start_address») Clear fmmus ≡ entriesAfter (accepted q) (sheetData sheet) ws r (offset .«start_address») Keep fmmus)
-        → entriesAfter x (sheetData sheet) ws r (offset .«start_address») Clear fmmus ≡ entriesAfter x (sheetData sheet) ws r (offset .«start_address») Keep fmmus
+        → ((q : Planned) → x ≡ accepted q → entriesAfter (accepted q) (sheetData sheet) ws k r (offset .«start_address») (clean mode group) fmmus ≡ entriesAfter (accepted q) (sheetData sheet) ws k r (offset .«start_address») (keeping mode group) fmmus)
+        → entriesAfter x (sheetData sheet) ws k r (offset .«start_address») (clean mode group) fmmus ≡ entriesAfter x (sheetData sheet) ws k r (offset .«start_address») (keeping mode group) fmmus
     go (refused n) h = refl
     go (accepted q) h = h q refl
 
@@ -136,8 +139,8 @@ zeros-free r us =
 -- 8 counts from zero over any area, so by default only 1 and 15 look at one
 pub as-from-zeros : AsFromZeros
 unfolding dataPass tooLong
-as-from-zeros sheet ws r offset group fmmus channels long free =
-    let uses = usesOf (sheetData sheet) ws r in
+as-from-zeros sheet ws mode k r offset group fmmus channels long free =
+    let uses = usesOf mode k (sheetData sheet) ws r in
     let one : notEntries fmmus ≡ notEntries (replicate 256 0) = ap (λ (n : ℕ). not (eqb n 256)) long in
     let fifteen : inTheWay Clear r uses (entriesOf 16 fmmus) ≡ inTheWay Clear r uses (entriesOf 16 (replicate 256 0)) = free ∙ sym (zeros-free r uses) in
-    λ i. answer sheet ws r offset group channels (one i) (tooLong Clear uses (entriesOf 16 fmmus)) (fifteen i)
+    λ i. answer sheet ws mode k r offset group channels (one i) (tooLong Clear uses (entriesOf 16 fmmus)) (fifteen i)

@@ -23,18 +23,17 @@ use Rattle.pdo.specs.Direction.{other}
 use Rattle.passes.specs.Use.{Use, total}
 use Rattle.area.specs.Area.{entriesOf}
 use Rattle.translation.specs.Translate.{named, says, firstSaid, orNone, translate}
-use Rattle.agreement.specs.Agreement.{Needs, Lent, weights, TwoPasses, EndToEnd, laidBy, counted}
+use Rattle.agreement.specs.Agreement.{Needs, Lent, weights, TwoPasses, EndToEnd, laidBy, choice, counted}
 use Rattle.translation.proofs.Lies.{inside, behind}
 use Rattle.agreement.proofs.Basics.{either, said-by}
 use Rattle.agreement.proofs.Straight.{lay, Fresh, straight-same, straight-iff}
 use Rattle.agreement.proofs.Run.{said, plan-leaves}
 use Rattle.passes.proofs.Pieces.{uses-total}
-use Rattle.agreement.proofs.Uses.{apart}
 use Rattle.area.proofs.Flat.{length-chunks}
 use Rattle.passes.proofs.Cleared.{cleared-not}
 use Rattle.agreement.proofs.Clean.{old-not-other, begun-at}
 use Rattle.agreement.proofs.Left.{Ours, laid-left}
-use Rattle.agreement.proofs.Demand3.{one, two, rangeSize, begun, Facts, sane-uses, first-start, among, translated, other-unseen}
+use Rattle.agreement.proofs.Demand3.{one, two, rangeSize, begun, Facts, sane-uses, ChoseOf, chose-of, apart-of, first-start, among, translated, other-unseen}
 
 -- after two such passes translation is never refused, neither with 11 nor with 1
 pub never-eleven : (sheet : List ℕ) (lent : PdoDirection → Lent) (first : PdoDirection) (area after : List ℕ) → Bytes sheet
@@ -46,7 +45,7 @@ pub record LeftAlone (sheet : List ℕ) (r : PdoDirection) (l : Lent) (between a
   pub entries : Each (λ (u : Use). getD (entriesOf 16 after) (u .entry) [] ≡ getD (entriesOf 16 between) (u .entry) []) (laidBy sheet r l)
   pub answers : (a : ℕ) → translate r after a ≡ translate r between a
 
-module _ (sheet : List ℕ) (bytes : Bytes sheet) (r : PdoDirection) (l m : Lent) (area between after : List ℕ) (needs : Needs (l .settings .old) area)
+module _ (sheet : List ℕ) (bytes : Bytes sheet) (r : PdoDirection) (l m : Lent) (how : ChoseOf sheet l m) (area between after : List ℕ) (needs : Needs (l .settings .old) area)
     (f : Facts sheet r l area between) (g : Facts sheet (other r) m between after) where
   abbrev us : List Use
   us = laidBy sheet r l
@@ -69,20 +68,20 @@ module _ (sheet : List ℕ) (bytes : Bytes sheet) (r : PdoDirection) (l m : Lent
   left-alone : LeftAlone sheet r l between after
   unfolding translate
   left-alone =
-      let s = other-unseen sheet bytes r l area needs m between after f g in
+      let s = other-unseen sheet bytes r l area needs m how between after f g in
       record {
         entries =
             each-both (λ (u : Use). Fresh (u .entry) (laidBy sheet (other r) m)) (λ (u : Use). Ours r (getD (entriesOf 16 between) (u .entry) []))
             (λ (u : Use). getD (entriesOf 16 after) (u .entry) [] ≡ getD (entriesOf 16 between) (u .entry) [])
             (λ u h o. left-entry (u .entry) h o)
-            us (apart (sheetData sheet) (weights sheet l) (weights sheet m) r (f .entry)) own-laid;
+            us (apart-of sheet bytes r l m how area between f) own-laid;
         answers = λ a. rw (eq-eqb (length after) 256 (g .after-long), eq-eqb (length between) 256 (f .after-long), s .odd-same, s .says-same a, f .leaves) refl;
       }
 
 pub other-left-alone : (sheet : List ℕ) (lent : PdoDirection → Lent) (first : PdoDirection) (area after : List ℕ) → Bytes sheet
     → (p : TwoPasses sheet lent first area after) → Needs (lent first .settings .old) area → LeftAlone sheet first (lent first) (p .between) after
 other-left-alone sheet lent first area after bytes p needs =
-    left-alone sheet bytes first (lent first) (lent (other first)) area (p .between) after needs
+    left-alone sheet bytes first (lent first) (lent (other first)) (chose-of sheet lent (p .together) first) area (p .between) after needs
     (one sheet bytes lent area after first p)
     (two sheet bytes lent area after first p)
 
@@ -115,7 +114,7 @@ every-address-named sheet lent first area after bytes p r needs e a h g =
     let us = laidBy sheet r (lent r) in
     let q = lent r .offset in
     let t = among sheet bytes lent area after first p r needs in
-    let z : total us ≡ rangeSize sheet r (lent r) = uses-total (sheetData sheet) (weights sheet (lent r)) r in
+    let z : total us ≡ rangeSize sheet r (lent r) = uses-total (sheetData sheet) (weights sheet (lent r)) r (lent r .settings .mode) (choice (lent r)) in
     let l = laid-inside q a us h (omega arith) in
     let s = straight-same 16 0 q a us (straight-iff us (t .lays .places) (t .lays .grouped) .1 e) in
     let w = said-by (says r a) (entriesOf 16 after) [] (l .answer) (ap firstSaid (t .alike .says-same a) ∙ said r q us (t .before) (t .lays) (t .start) a ∙ sym s ∙ l .is) in

@@ -25,7 +25,7 @@ use Rattle.passes.specs.declared.OldEntries.the-variants as old
 use Rattle.passes.specs.Old.{inTheWay}
 use Rattle.passes.specs.Entries.{plan}
 use Rattle.translation.specs.Translate.{says, odd, orNone, translate}
-use Rattle.agreement.specs.Agreement.{EveryDisabled, Lent, weights, Accepted, TwoPasses, EndToEnd, laidBy, Agree, InReach}
+use Rattle.agreement.specs.Agreement.{EveryDisabled, Lent, weights, Accepted, TwoPasses, EndToEnd, laidBy, choice, Agree, InReach}
 use Rattle.translation.proofs.Lies.{inside, behind}
 use Rattle.agreement.proofs.Basics.{either, first-none, none-at, never-none}
 use Rattle.agreement.proofs.Straight.{lay, Lays, goOn, goOn-total, lay-behind}
@@ -99,7 +99,7 @@ module _ (sheet : List ℕ) (bytes : Bytes sheet) (r : PdoDirection) (l : Lent) 
   silent-disagrees : (final : List ℕ) → length final ≡ 256 → ((k : ℕ) → Silent r (getD (entriesOf 16 final) k [])) → 0 < rangeSize sheet r l → Agree sheet r l final → ⊥
   unfolding translate
   silent-disagrees final long silents h agree =
-      let z : total (laidBy sheet r l) ≡ rangeSize sheet r l = uses-total (sheetData sheet) (weights sheet l) r in
+      let z : total (laidBy sheet r l) ≡ rangeSize sheet r l = uses-total (sheetData sheet) (weights sheet l) r (l .settings .mode) (choice l) in
       let y = lays sheet bytes r l area after f in
       let s = found-first (l .offset) (laidBy sheet r l) (y .addresses) (omega arith) in
       let ends = y .ends in

@@ -21,8 +21,8 @@ use Rattle.pdi.specs.declared.PdiSegment.{PdiSegment}
 use Rattle.pdi.specs.declared.PdiOffset.{PdiOffset}
 use Rattle.pdo.specs.Direction.{other}
 use Rattle.wire.specs.Lists.{someOf}
-use Rattle.pdo.specs.Bits.{piecesOf}
-use Rattle.passes.specs.Use.{Use, own, totalOn, sizeOf}
+use Rattle.pdo.specs.Bits.{multipliersOf, piecesOf}
+use Rattle.passes.specs.Use.{Use, own, chosenBy, totalOn, sizeOf}
 use Rattle.area.specs.Area.{entriesOf}
 use Rattle.passes.specs.declared.OldEntries.{OldEntries}
 use Rattle.passes.specs.declared.OldEntries.the-variants.{Clear, Keep}
@@ -32,13 +32,13 @@ use Rattle.passes.specs.Pass.{Passes}
 use Rattle.passes.proofs.Pieces.{uses-total}
 use Rattle.translation.specs.Translate.{says, odd, firstSaid, orNone, translate}
 use Rattle.counting.specs.Count.{spotIn, deviceAlone, countRefusals, count}
-use Rattle.agreement.specs.Agreement.{EveryDisabled, Needs, Lent, weights, passOf, Accepted, TwoPasses, EndToEnd, laidBy, counted, Agree, Demand3OfOne, Demand3, Demand3Clean, Demand3FromDisabled, Demand3InReach}
+use Rattle.agreement.specs.Agreement.{EveryDisabled, Needs, Lent, weights, passOf, Accepted, TwoPasses, EndToEnd, laidBy, choice, Together, onCoe, byNumbers, byPairs, counted, Agree, Demand3OfOne, Demand3, Demand3Clean, Demand3FromDisabled, Demand3InReach}
 use Rattle.agreement.proofs.Basics.{none-accepted, each-map, each-of, either}
-use Rattle.agreement.proofs.Straight.{lay, Lays, apart-flip}
+use Rattle.agreement.proofs.Straight.{lay, Apart, Lays, apart-flip}
 use Rattle.passes.proofs.Cleared.{Off, nil-off}
 use Rattle.agreement.proofs.Step.{off-silent}
 use Rattle.agreement.proofs.Run.{Start, clean-start, Alike, agree-iff, none-odd, other-after, other-before}
-use Rattle.agreement.proofs.Uses.{spot-lay, count-lay, apart, Sane, sane}
+use Rattle.agreement.proofs.Uses.{spot-lay, listed, count-lay, Sane, sane, Chose, coePath, numbers, alike, apart}
 use Rattle.area.proofs.Flat.{length-chunks}
 use Rattle.agreement.proofs.Told.{answered, Told, told}
 use Rattle.agreement.proofs.Sheets.{bounded}
@@ -56,15 +56,15 @@ begun r l area = beginning (l .settings .old) r (entriesOf 16 area)
 
 -- what an accepted pass tells, of one that is lent a table
 abbrev pub Facts : List ℕ → PdoDirection → Lent → List ℕ → List ℕ → Type 0
-Facts sheet r l area after = Told sheet (weights sheet l) r (l .offset) (l .settings) area after
+Facts sheet r l area after = Told sheet (weights sheet l) (choice l) r (l .offset) (l .settings) area after
 
 pub facts : (sheet : List ℕ) (r : PdoDirection) (l : Lent) (area after : List ℕ) → Accepted sheet r l area after → Facts sheet r l area after
-facts sheet r l area after a = told sheet (weights sheet l) r (l .offset) (l .settings) area (l .channels) after (a .planned) (a .says) (a .leaves)
+facts sheet r l area after a = told sheet (weights sheet l) (choice l) r (l .offset) (l .settings) area (l .channels) after (a .planned) (a .says) (a .leaves)
 
 -- and so what is needed to lay its sync managers, and what counting answers
 module _ (sheet : List ℕ) (bytes : Bytes sheet) (r : PdoDirection) (l : Lent) (area after : List ℕ) (f : Facts sheet r l area after) where
   pub sane-uses : Sane (laidBy sheet r l)
-  sane-uses = sane (sheetData sheet) (bounded sheet bytes (f .sheet-kept)) (weights sheet l) r (f .entry)
+  sane-uses = sane (sheetData sheet) (bounded sheet bytes (f .sheet-kept)) (weights sheet l) r (l .settings .mode) (choice l) (listed (l .settings .mode) (l .pairs)) (f .pairs) (f .entry)
 
   room-on : (k : ℕ) → k < 16 → totalOn k (laidBy sheet r l) ≤ 65535
   unfolding tooLong
@@ -88,7 +88,7 @@ module _ (sheet : List ℕ) (bytes : Bytes sheet) (r : PdoDirection) (l : Lent) 
             (laidBy sheet r l) (sane-uses .places);
         ends =
             let h = ltb-false 4294967295 (l .offset + rangeSize sheet r l) (f .end) in
-            let z = uses-total (sheetData sheet) (weights sheet l) r in
+            let z = uses-total (sheetData sheet) (weights sheet l) r (l .settings .mode) (choice l) in
             omega arith;
       }
 
@@ -105,7 +105,22 @@ module _ (sheet : List ℕ) (bytes : Bytes sheet) (r : PdoDirection) (l : Lent) 
       ∙ ap (λ (x : Option ℕ). accepted x) (spot-lay (l .offset) a ps)
 
   pub counted-lay : (a : ℕ) → counted sheet r l a ≡ accepted (orNone (lay (l .offset) (laidBy sheet r l) a))
-  counted-lay a = counted-own a ∙ ap (λ (x : Option (Option ℕ)). accepted (orNone x)) (count-lay (sheetData sheet) (weights sheet l) r (l .offset) a)
+  counted-lay a = counted-own a ∙ ap (λ (x : Option (Option ℕ)). accepted (orNone x)) (count-lay (sheetData sheet) (l .settings .mode) (choice l) (weights sheet l) r (l .offset) a)
+
+-- how the passes of both directions chose their entries, so that they share none
+abbrev pub ChoseOf : List ℕ → Lent → Lent → Type 0
+ChoseOf sheet l m = Chose (sheetData sheet) (l .settings .mode) (m .settings .mode) (choice l) (choice m) (weights sheet l) (weights sheet m)
+
+pub chose-of : (sheet : List ℕ) (lent : PdoDirection → Lent) → Together sheet lent → (r : PdoDirection) → ChoseOf sheet (lent r) (lent (other r))
+chose-of sheet lent (onCoe c) r = coePath c
+chose-of sheet lent (byNumbers n) r = numbers (n r) (n (other r))
+chose-of sheet lent (byPairs s) r =
+    alike (s r .0) (λ i. chosenBy (s r .0 i) (s r .1 i)) (λ i. multipliersOf (s r .2 i) (sheetData sheet .pdos))
+
+pub apart-of : (sheet : List ℕ) → Bytes sheet → (r : PdoDirection) (l m : Lent) → ChoseOf sheet l m → (area after : List ℕ) → Facts sheet r l area after → Apart (laidBy sheet r l) (laidBy sheet (other r) m)
+apart-of sheet bytes r l m how area after f =
+    apart (sheetData sheet) (bounded sheet bytes (f .sheet-kept)) (l .settings .mode) (m .settings .mode) (choice l) (choice m) (weights sheet l) (weights sheet m) r how
+    (listed (l .settings .mode) (l .pairs)) (f .pairs) (f .entry)
 
 -- a direction's pass, alone or among two: what it began with, and that translation sees nothing else in the end
 pub record Among (sheet : List ℕ) (r : PdoDirection) (l : Lent) (final : List ℕ) : Type 0 where
@@ -161,7 +176,7 @@ module _ (sheet : List ℕ) (bytes : Bytes sheet) (r : PdoDirection) (l : Lent) 
   pub among-alone : (after : List ℕ) → Facts sheet r l area after → Among sheet r l after
   among-alone after f = among-own sheet bytes r l area after f (first-start after f)
 
-  module _ (m : Lent) (between final : List ℕ) where
+  module _ (m : Lent) (how : ChoseOf sheet l m) (between final : List ℕ) where
     vs : List Use
     vs = laidBy sheet (other r) m
 
@@ -169,7 +184,7 @@ module _ (sheet : List ℕ) (bytes : Bytes sheet) (r : PdoDirection) (l : Lent) 
     pub other-unseen : Facts sheet r l area between → Facts sheet (other r) m between final → Alike r (entriesOf 16 final) (plan r (l .offset) (laidBy sheet r l) (begun r l area))
     unfolding us vs
     other-unseen f g =
-        let away = apart-flip us vs (apart (sheetData sheet) (weights sheet l) (weights sheet m) r (f .entry)) in
+        let away = apart-flip us vs (apart-of sheet bytes r l m how area between f) in
         subst
         (λ (es : List (List ℕ)). Alike r es (plan r (l .offset) us (begun r l area)))
         (sym (g .leaves ∙ ap (λ (es : List (List ℕ)). plan (other r) (m .offset) vs (beginning (m .settings .old) (other r) es)) (f .leaves)))
@@ -190,7 +205,7 @@ module _ (sheet : List ℕ) (bytes : Bytes sheet) (r : PdoDirection) (l : Lent) 
     kept-start : Facts sheet (other r) m area between → Facts sheet r l between final → EveryDisabled area → Start r (laidBy sheet r l) (entriesOf 16 between)
     unfolding us vs
     kept-start g f d =
-        let away = apart (sheetData sheet) (weights sheet l) (weights sheet m) r (f .entry) in
+        let away = apart-of sheet bytes r l m how between final f in
         let places = sane-uses sheet bytes (other r) m area between g .places in
         subst (Start r us) (sym (g .leaves))
         (other-before (m .settings .old) r (m .offset) vs (entriesOf 16 area) (length-chunks 16 16 area) places us (disabled-start r us area d) away)
@@ -223,15 +238,19 @@ module _ (sheet : List ℕ) (bytes : Bytes sheet) (lent : PdoDirection → Lent)
   pub one-of-two : Facts sheet (other (other first)) (lent first) area (p .between)
   one-of-two = subst (λ (d : PdoDirection). Facts sheet d (lent first) area (p .between)) (sym (other-twice first)) one
 
+  -- the second of the two, whose other is the first
+  chose-second : ChoseOf sheet (lent (other first)) (lent first)
+  chose-second = subst (λ (d : PdoDirection). ChoseOf sheet (lent (other first)) (lent d)) (other-twice first) (chose-of sheet lent (p .together) (other first))
+
   pub among : (r : PdoDirection) → Needs (lent r .settings .old) area → Among sheet r (lent r) after
   among r =
       ⊎-elim
       (λ e.
       subst (λ (d : PdoDirection). Needs (lent d .settings .old) area → Among sheet d (lent d) after) (sym e)
-      (λ n. among-first sheet bytes first (lent first) area n (lent (other first)) (p .between) after one two))
+      (λ n. among-first sheet bytes first (lent first) area n (lent (other first)) (chose-of sheet lent (p .together) first) (p .between) after one two))
       (λ e.
       subst (λ (d : PdoDirection). Needs (lent d .settings .old) area → Among sheet d (lent d) after) (sym e)
-      (λ n. among-second sheet bytes (other first) (lent (other first)) area n (lent first) (p .between) after one-of-two two))
+      (λ n. among-second sheet bytes (other first) (lent (other first)) area n (lent first) chose-second (p .between) after one-of-two two))
       (which first r)
 
 -- translation is not refused: what the entries of the direction's pass say first decides
@@ -276,5 +295,5 @@ demand-3-in-reach sheet lent first area after bytes p r n reach = demand-3 sheet
 -- the promise of the pass's code, where it answers a segment, is such an accepted pass
 pub promised :
     (sheet : List ℕ) (r : PdoDirection) (l : Lent) (area after channelsAfter : List ℕ) (s : PdiSegment) (o : PdiOffset)
-    → Passes sheet (weights sheet l) r (record { «start_address» = l .offset }) (l .settings) area (l .channels) (Segment s) o after channelsAfter → Accepted sheet r l area after
+    → Passes sheet (weights sheet l) (choice l) r (record { «start_address» = l .offset }) (l .settings) area (l .channels) (Segment s) o after channelsAfter → Accepted sheet r l area after
 promised sheet r l area after channelsAfter s o c = let a = answered (passOf sheet r l area) s (c .says) in record { planned = a .planned; says = a .says; leaves = c .entries }

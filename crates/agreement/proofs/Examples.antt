@@ -24,16 +24,19 @@ use Rattle.sheet.specs.Sheet.{wrongLength, kindFits, pdosFit, someManagerWrong,
 use Rattle.pdo.specs.declared.PdoDirection.{PdoDirection}
 use Rattle.pdo.specs.declared.PdoDirection.the-variants.{MasterRead, MasterWrite}
 use Rattle.pdo.specs.Bits.{multiplierOf, byCoe, bitsOf, piecesFrom, piecesOf}
-use Rattle.passes.specs.Use.{own, given, firstWith, usesOf, total, totalOn, sizeOf}
+use Rattle.passes.specs.Use.{own, given, firstWith, entryFor, usesOf, total, totalOn, sizeOf}
 use Rattle.area.specs.Area.{chunks, entriesOf, flat}
-use Rattle.passes.specs.declared.OldEntries.the-variants.{Clear}
+use Rattle.passes.specs.declared.OldEntries.{OldEntries}
+use Rattle.passes.specs.declared.OldEntries.the-variants.{Clear, Keep}
 use Rattle.passes.specs.declared.Settings.{Settings}
+use Rattle.passes.specs.declared.FmmuMode.the-variants.{OwnNumber}
+use Rattle.passes.specs.Pairs.{badPairs}
 use Rattle.passes.specs.Old.{clean, keeping, cleared, inTheWay}
 use Rattle.passes.specs.Entries.{mapped, plan, Planned, tooLong}
 use Rattle.passes.specs.Pass.{someTooMany, noEntry, dataPass}
 use Rattle.translation.specs.Translate.{carries, odd, says, firstSaid, translate}
 use Rattle.counting.specs.Count.{spotIn, count}
-use Rattle.agreement.specs.Agreement.{EveryDisabled, Lent, weights, passOf, Accepted, TwoPasses, sharing, EndToEnd, laidBy, counted, Agree}
+use Rattle.agreement.specs.Agreement.{EveryDisabled, Lent, weights, passOf, Accepted, byNumbers, TwoPasses, sharing, EndToEnd, laidBy, counted, Agree}
 use Rattle.agreement.specs.Bench.{zeros, sampleSheet}
 use Rattle.agreement.specs.Cases.{entry, withZeros}
 use Rattle.agreement.proofs.Basics.{either}
@@ -62,14 +65,19 @@ all-disabled k h = is-false _ (below (λ k. not (fieldsOf (getD (entriesOf 16 ze
 
 -- what each pass is lent: no table, group start 0, the default or keeping; the inputs from 0, the outputs from 5
 abbrev pub lentBy : Settings → PdoDirection → Lent
-lentBy settings MasterRead = record { table = []; offset = 0; settings = settings; channels = replicate 128 0 }
-lentBy settings MasterWrite = record { table = []; offset = 5; settings = settings; channels = replicate 128 0 }
+lentBy settings MasterRead = record { table = []; pairs = []; offset = 0; settings = settings; channels = replicate 128 0 }
+lentBy settings MasterWrite = record { table = []; pairs = []; offset = 5; settings = settings; channels = replicate 128 0 }
 
 abbrev pub lent : PdoDirection → Lent
-lent r = lentBy (clean 0) r
+lent r = lentBy (clean OwnNumber 0) r
 
 abbrev pub keptLent : PdoDirection → Lent
-keptLent r = lentBy (keeping 0) r
+keptLent r = lentBy (keeping OwnNumber 0) r
+
+-- neither reads pairs
+own-numbers : (old : OldEntries) (r : PdoDirection) → lentBy (record { group = 0; old = old; mode = OwnNumber }) r .settings .mode ≡ OwnNumber
+own-numbers old MasterRead = refl
+own-numbers old MasterWrite = refl
 
 pub by-default : (r : PdoDirection) → lent r .settings .old ≡ Clear
 by-default MasterRead = refl
@@ -110,9 +118,10 @@ usedArea = withZeros (oldOutput ∷ oldInput ∷ oldInput ∷ oldOutput ∷ [])
 -- by default each pass clears those of its own direction, so both leave what they leave over zeros
 pub sample-passes : TwoPasses sampleSheet lent MasterRead usedArea sampleArea
 unfolding fieldsOf imageOf controlAt unnamed listOf someBelow pdosFrom wrongLength kindFits pdosFit someManagerWrong someUsageWrong broken someUnnamed sheetData multiplierOf byCoe
-    bitsOf piecesFrom piecesOf own given firstWith usesOf total totalOn sizeOf chunks flat plan someTooMany noEntry cleared tooLong inTheWay dataPass
+    bitsOf piecesFrom piecesOf own given firstWith usesOf total totalOn sizeOf chunks flat plan someTooMany noEntry cleared tooLong badPairs entryFor inTheWay dataPass
 sample-passes =
     record {
+      together = byNumbers (own-numbers Clear);
       between = withZeros (oldOutput ∷ inputBytes ∷ replicate 16 0 ∷ oldOutput ∷ []);
       one = record { planned = inputs; says = refl; leaves = refl };
       two = record { planned = outputs; says = refl; leaves = refl };
@@ -121,9 +130,10 @@ sample-passes =
 -- keeping, from zeros
 pub kept-passes : TwoPasses sampleSheet keptLent MasterRead zeros sampleArea
 unfolding fieldsOf imageOf controlAt unnamed listOf someBelow pdosFrom wrongLength kindFits pdosFit someManagerWrong someUsageWrong broken someUnnamed sheetData multiplierOf byCoe
-    bitsOf piecesFrom piecesOf own given firstWith usesOf total totalOn sizeOf chunks flat plan someTooMany noEntry cleared tooLong inTheWay dataPass
+    bitsOf piecesFrom piecesOf own given firstWith usesOf total totalOn sizeOf chunks flat plan someTooMany noEntry cleared tooLong badPairs entryFor inTheWay dataPass
 kept-passes =
     record {
+      together = byNumbers (own-numbers Keep);
       between = replicate 16 0 ++ inputBytes ++ replicate 224 0;
       one = record { planned = inputs; says = refl; leaves = refl };
       two = record { planned = outputs; says = refl; leaves = refl };
@@ -155,9 +165,10 @@ movedSheet = set sampleSheet 32 0x84
 
 pub moved-passes : TwoPasses movedSheet lent MasterRead zeros sampleArea
 unfolding fieldsOf imageOf controlAt unnamed listOf someBelow pdosFrom wrongLength kindFits pdosFit someManagerWrong someUsageWrong broken someUnnamed sheetData multiplierOf byCoe
-    bitsOf piecesFrom piecesOf own given firstWith usesOf total totalOn sizeOf chunks flat plan someTooMany noEntry cleared tooLong inTheWay dataPass
+    bitsOf piecesFrom piecesOf own given firstWith usesOf total totalOn sizeOf chunks flat plan someTooMany noEntry cleared tooLong badPairs entryFor inTheWay dataPass
 moved-passes =
     record {
+      together = byNumbers (own-numbers Clear);
       between = replicate 16 0 ++ inputBytes ++ replicate 224 0;
       one = record { planned = inputs; says = refl; leaves = refl };
       two = record { planned = outputs; says = refl; leaves = refl };
@@ -200,9 +211,10 @@ ownArea =
 
 pub own-passes : TwoPasses ownSheet lent MasterWrite zeros ownArea
 unfolding fieldsOf imageOf controlAt unnamed listOf someBelow pdosFrom wrongLength kindFits pdosFit someManagerWrong someUsageWrong broken someUnnamed sheetData multiplierOf byCoe
-    bitsOf piecesFrom piecesOf own given firstWith usesOf total totalOn sizeOf chunks flat plan someTooMany noEntry cleared tooLong inTheWay dataPass
+    bitsOf piecesFrom piecesOf own given firstWith usesOf total totalOn sizeOf chunks flat plan someTooMany noEntry cleared tooLong badPairs entryFor inTheWay dataPass
 own-passes =
     record {
+      together = byNumbers (own-numbers Clear);
       between = ownOutput ++ replicate 208 0;
       one = record { planned = outputs; says = refl; leaves = refl };
       two = record { planned = inputs; says = refl; leaves = refl };
@@ -232,7 +244,7 @@ staleAfter = withZeros (replicate 16 0 ∷ entry 0 8 7 0x2000 1 1 ∷ [])
 
 pub stale-pass : Accepted sampleSheet MasterRead (keptLent MasterRead) staleArea staleAfter
 unfolding fieldsOf imageOf controlAt unnamed listOf someBelow pdosFrom wrongLength kindFits pdosFit someManagerWrong someUsageWrong broken someUnnamed sheetData multiplierOf byCoe
-    bitsOf piecesFrom piecesOf own given firstWith usesOf total totalOn sizeOf chunks flat plan someTooMany noEntry cleared tooLong inTheWay dataPass
+    bitsOf piecesFrom piecesOf own given firstWith usesOf total totalOn sizeOf chunks flat plan someTooMany noEntry cleared tooLong badPairs entryFor inTheWay dataPass
 stale-pass = record { planned = inputs; says = refl; leaves = refl }
 
 -- the bay's first byte is read from the other's, and the first byte of the next bay is answered too
@@ -256,7 +268,7 @@ inputArea = withZeros (replicate 16 0 ∷ inputBytes ∷ [])
 
 pub stale-clean : Accepted sampleSheet MasterRead (lent MasterRead) staleArea inputArea × Accepted sampleSheet MasterRead (lent MasterRead) zeros inputArea
 unfolding fieldsOf imageOf controlAt unnamed listOf someBelow pdosFrom wrongLength kindFits pdosFit someManagerWrong someUsageWrong broken someUnnamed sheetData multiplierOf byCoe
-    bitsOf piecesFrom piecesOf own given firstWith usesOf total totalOn sizeOf chunks flat plan someTooMany noEntry cleared tooLong inTheWay dataPass
+    bitsOf piecesFrom piecesOf own given firstWith usesOf total totalOn sizeOf chunks flat plan someTooMany noEntry cleared tooLong badPairs entryFor inTheWay dataPass
 stale-clean = (record { planned = inputs; says = refl; leaves = refl }, record { planned = inputs; says = refl; leaves = refl })
 
 pub stale-as-zeros : passOf sampleSheet MasterRead (lent MasterRead) staleArea ≡ passOf sampleSheet MasterRead (lent MasterRead) zeros
@@ -271,5 +283,5 @@ stale-agrees = demand-3-of-one sampleSheet MasterRead (lent MasterRead) staleAre
 pub again : Accepted sampleSheet MasterRead (lent MasterRead) inputArea inputArea
     × Accepted sampleSheet MasterRead (keptLent MasterRead) inputArea (withZeros (replicate 16 0 ∷ entry 0 10 7 0x1180 1 1 ∷ []))
 unfolding fieldsOf imageOf controlAt unnamed listOf someBelow pdosFrom wrongLength kindFits pdosFit someManagerWrong someUsageWrong broken someUnnamed sheetData multiplierOf byCoe
-    bitsOf piecesFrom piecesOf own given firstWith usesOf total totalOn sizeOf chunks flat plan someTooMany noEntry cleared tooLong inTheWay dataPass
+    bitsOf piecesFrom piecesOf own given firstWith usesOf total totalOn sizeOf chunks flat plan someTooMany noEntry cleared tooLong badPairs entryFor inTheWay dataPass
 again = (record { planned = inputs; says = refl; leaves = refl }, record { planned = inputs; says = refl; leaves = refl })

@@ -1,6 +1,7 @@
 -- Demand 3 is `Demand3`. It rests on one entry (`Step`), old entries cleared (`Clean`), one pass over any list of uses (`Run`, `Straight`), the uses of a direction
 -- (`Uses`), bytes (`Areas`, `Sheets`) and what an accepted pass tells (`Told`). `Consequences` follow from it, `Contradicted` is about wrong planners. The default
--- beside keeping is `AsKeeping`, a pass made again is `Again` (with `Left` and `Images`). `Bench` and `Examples` are computed.
+-- beside keeping is `AsKeeping`, a pass made again is `Again` (with `Left` and `Images`). `Unread` is about pairs; `Bench`,
+-- `Examples` and `Paired` are computed.
 pub mod Bench
 pub mod Basics
 pub mod Straight
@@ -18,3 +19,5 @@ pub mod Again
 pub mod Consequences
 pub mod Contradicted
 pub mod Examples
+pub mod Unread
+pub mod Paired

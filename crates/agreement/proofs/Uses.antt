@@ -1,7 +1,7 @@
 -- The uses of a direction, on both paths: their entries are entries, stand together, and are no entry of the other direction.
 -- Assumes nothing.
 use mathlib.Core.Path.{_≡_, refl, sym, _∙_, ap, subst}
-use mathlib.Core.Bool.{Bool, true, false, cond, true≢false}
+use mathlib.Core.Bool.{Bool, true, false, cond, _&&_, _||_, true≢false}
 use mathlib.Core.List.{List, [], _∷_}
 use mathlib.Core.Logic.{_≢_, _⊎_, inl, inr, ⊎-elim}
 use mathlib.Core.Option.{some}
@@ -10,23 +10,28 @@ use native.Mathlib.Nat.{not-suc-le-zero, le-of-suc-le-suc}
 use native.Mathlib.Omega.{arith}
 use lib.Dec.{eqb, ltb}
 use lib.ListN.{length, getD}
-use borrow.Author.Tests.{ltb-true, ltb-false, eqb-true, eqb-false}
+use borrow.Author.Tests.{ltb-true, ltb-false, eqb-true, eqb-false, eq-eqb}
 use Rattle.pdi.specs.Unit.{bytesOf}
 use Rattle.sheet.specs.declared.SyncManager.{SyncManager}
 use Rattle.sheet.specs.Device.{Data}
-use Rattle.wire.specs.Lists.{Each, someOf}
-use Rattle.wire.proofs.Lists.{none-of}
+use Rattle.wire.specs.Lists.{Each, someOf, someBelow}
+use Rattle.wire.proofs.Lists.{none-of, none-below, or-none, getD-listOf}
 use Rattle.pdo.specs.declared.PdoDirection.{PdoDirection}
 use Rattle.pdo.specs.declared.PdoDirection.the-variants.{MasterRead, MasterWrite}
 use Rattle.pdo.specs.Direction.{usageOf, fmmuUsageOf, other}
 use Rattle.pdo.specs.Bits.{Piece, byCoe, pathKind, bitsOf, piecesFrom, piecesOf}
-use Rattle.passes.specs.Use.{Use, useOf, own, given, firstWith, coeEntry, usesOf}
+use Rattle.passes.specs.declared.FmmuPair.{FmmuPair}
+use Rattle.passes.specs.declared.FmmuMode.{FmmuMode}
+use Rattle.passes.specs.declared.FmmuMode.the-variants.{OwnNumber, Paired}
+use Rattle.passes.specs.declared.Chosen.{Chosen}
+use Rattle.passes.specs.Use.{Use, useOf, own, given, firstWith, coeEntry, entryFor, pastLast, chosenOf, chosenBy, paired, byMode, usesOf}
+use Rattle.passes.specs.Pairs.{someOn, comesBack, interrupted, badEntry, badPairs}
 use Rattle.passes.specs.Pass.{noEntry}
 use Rattle.translation.specs.Translate.{within, named, orNone}
 use Rattle.counting.specs.Count.{spotAt, spotIn, deviceIn}
 use Rattle.translation.proofs.Lies.{before, behind}
 use Rattle.agreement.proofs.Basics.{either, same-or-not, each-map, each-of, where-is}
-use Rattle.agreement.proofs.Straight.{lay, Fresh, Grouped, Apart, apart-flip}
+use Rattle.agreement.proofs.Straight.{lay, Fresh, Next, Grouped, Apart, apart-flip}
 
 -- what the sheet's rules give of device data
 pub record Bounded (d : Data) : Type 0 where
@@ -120,6 +125,65 @@ module _ (entry : ℕ → ℕ) where
           let y : o + 0 ≡ o = omega arith in
           rw (e, z, n, y) (i o)
 
+-- an entry that isn't come back to is that of the next, or of none
+not-back : (k : ℕ) (us : List Use) → comesBack k us ≡ false → Each (λ (u : Use). 0 < u .size) us → Fresh k us ⊎ Next k us
+not-back k [] e s = inl tt
+not-back k (u ∷ us) e s = go (either (eqb (u .entry) k))
+  where
+    go : (eqb (u .entry) k ≡ true) ⊎ (eqb (u .entry) k ≡ false) → Fresh k (u ∷ us) ⊎ Next k (u ∷ us)
+    go (inl h) = inr (eqb-true (u .entry) k h, s .0)
+    go (inr h) =
+        let f = or-none (someOn k us) (comesBack k us) (rw h at e) in
+        inl (eqb-false (u .entry) k h, none-of (λ (v : Use). eqb (v .entry) k) (λ (v : Use). v .entry ≡ k → ⊥) (λ v z. eqb-false (v .entry) k z) us (f .0))
+
+-- so nonempty uses of which none is interrupted stand together
+whole-runs : (us : List Use) → ((k : ℕ) → k < 16 → interrupted k us ≡ false) → Each (λ (u : Use). u .entry < 16) us → Each (λ (u : Use). 0 < u .size) us → Grouped us
+whole-runs [] w p s = tt
+whole-runs (u ∷ us) w p s =
+    let f : (k : ℕ) → k < 16 → (eqb (u .entry) k && comesBack k us ≡ false) × (interrupted k us ≡ false) =
+    λ k h. or-none (eqb (u .entry) k && comesBack k us) (interrupted k us) (w k h) in
+    let at-mine = f (u .entry) (p .0) .0 in
+    let mine : comesBack (u .entry) us ≡ false = rw (eq-eqb (u .entry) (u .entry) refl) at at-mine in
+    (⊎-elim (λ h. inl h) (λ n. inr (s .0, n)) (not-back (u .entry) us mine (s .1)), whole-runs us (λ k h. f k h .1) (p .1) (s .1))
+
+-- entries used by one list of two alone
+unshared : (all vs : List Use) → ((k : ℕ) → k < 16 → someOn k all && someOn k vs ≡ false) → (us : List Use) → ((k : ℕ) → someOn k us ≡ true → someOn k all ≡ true)
+    → Each (λ (u : Use). u .entry < 16) us → Apart us vs
+unshared all vs n [] w p = tt
+unshared all vs n (u ∷ us) w p =
+    let here : someOn (u .entry) all ≡ true = w (u .entry) (rw (eq-eqb (u .entry) (u .entry) refl) refl) in
+    let at-mine = n (u .entry) (p .0) in
+    let none : someOn (u .entry) vs ≡ false = rw here at at-mine in (
+      none-of (λ (v : Use). eqb (v .entry) (u .entry)) (λ (v : Use). v .entry ≡ u .entry → ⊥) (λ v z. eqb-false (v .entry) (u .entry) z) vs none,
+      unshared all vs n us (λ k h. w k (or-later (eqb (u .entry) k) (someOn k us) h)) (p .1),
+    )
+  where
+    or-later : (a b : Bool) → b ≡ true → a || b ≡ true
+    or-later true b e = refl
+    or-later false b e = e
+
+-- what a list of pairs hands on: where no number is above 15, no entry is
+abbrev pub Listed : Chosen → Type 0
+Listed k = k .above ≡ false → (n : ℕ) → n < 16 → getD (k .entries) n 0 < 16
+
+entry-below : (ps : List FmmuPair) (n : ℕ) → n < 16 → someOf pastLast ps ≡ false → entryFor ps n < 16
+unfolding entryFor
+entry-below [] n h e = h
+entry-below (p ∷ ps) n h e =
+    let f = or-none (pastLast p) (someOf pastLast ps) e in
+    go (eqb (p .«sync_manager») n) (ltb-false 15 (p .fmmu) (or-none (ltb 15 (p .fmmu)) (ltb 15 (p .«sync_manager»)) (f .0) .0)) (entry-below ps n h (f .1))
+  where
+    go : (b : Bool) → p .fmmu ≤ 15 → entryFor ps n < 16 → cond b (p .fmmu) (entryFor ps n) < 16
+    go true l i = omega arith
+    go false l i = i
+
+listed-of : (ps : List FmmuPair) → Listed (chosenOf ps)
+listed-of ps e n h = subst (λ (x : ℕ). x < 16) (sym (getD-listOf (entryFor ps) 16 n 0 h)) (entry-below ps n h e)
+
+pub listed : (mode : FmmuMode) (ps : List FmmuPair) → Listed (chosenBy mode ps)
+listed OwnNumber ps = listed-of []
+listed Paired ps = listed-of ps
+
 -- one after another on one entry
 one-entry : (k : ℕ) (us : List Use) → Each (λ (u : Use). (u .entry ≡ k) × (0 < u .size)) us → Grouped us
 one-entry k [] e = tt
@@ -166,12 +230,18 @@ module _ (d : Data) where
   abbrev coeUses : List ℕ → PdoDirection → List Use
   coeUses ws r = given (λ number. coeEntry d r) (piecesOf d ws r)
 
-  path : (P : List Use → Type 0) (ws : List ℕ) (r : PdoDirection) → (byCoe d ≡ true → P (coeUses ws r)) → (byCoe d ≡ false → P (own (piecesOf d ws r))) → P (usesOf d ws r)
+  path : (P : List Use → Type 0) (mode : FmmuMode) (k : Chosen) (ws : List ℕ) (r : PdoDirection) → (byCoe d ≡ true → P (coeUses ws r)) → (byCoe d ≡ false → P (byMode mode k (piecesOf d ws r)))
+      → P (usesOf mode k d ws r)
   unfolding usesOf
-  path P ws r f g = ⊎-elim (λ e. rw e (f e)) (λ e. rw e (g e)) (either (byCoe d))
+  path P mode k ws r f g = ⊎-elim (λ e. rw e (f e)) (λ e. rw e (g e)) (either (byCoe d))
 
-  pub count-lay : (ws : List ℕ) (r : PdoDirection) (o a : ℕ) → lay o (own (piecesOf d ws r)) a ≡ lay o (usesOf d ws r) a
-  count-lay ws r o a = path (λ us. lay o (own (piecesOf d ws r)) a ≡ lay o us a) ws r (λ c. given-lay (λ number. coeEntry d r) o a (piecesOf d ws r)) (λ c. refl)
+  pub count-lay : (mode : FmmuMode) (k : Chosen) (ws : List ℕ) (r : PdoDirection) (o a : ℕ) → lay o (own (piecesOf d ws r)) a ≡ lay o (usesOf mode k d ws r) a
+  count-lay mode k ws r o a =
+      path (λ us. lay o (own (piecesOf d ws r)) a ≡ lay o us a) mode k ws r (λ c. given-lay (λ number. coeEntry d r) o a (piecesOf d ws r)) (λ c. go mode)
+    where
+      go : (m : FmmuMode) → lay o (own (piecesOf d ws r)) a ≡ lay o (byMode m k (piecesOf d ws r)) a
+      go OwnNumber = refl
+      go Paired = given-lay (λ number. getD (k .entries) number 0) o a (piecesOf d ws r)
 
   -- by refusal 7, an entry that CoE uses is there
   coe-place : (ws : List ℕ) (r : PdoDirection) → byCoe d ≡ true → noEntry d ws r ≡ false → (coeEntry d r < length (d .usages)) ⊎ (coeUses ws r ≡ [])
@@ -199,10 +269,9 @@ module _ (d : Data) where
   usages-differ MasterRead e = omega arith
   usages-differ MasterWrite e = omega arith
 
-  -- by refusal 7 of the one direction alone
-  pub apart : (ws vs : List ℕ) (r : PdoDirection) → noEntry d ws r ≡ false → Apart (usesOf d ws r) (usesOf d vs (other r))
-  unfolding usesOf
-  apart ws vs r n = ⊎-elim (λ c. rw c (by-coe c (same-or-not (coeEntry d r) (coeEntry d (other r))))) (λ c. rw c (own-both ws vs r)) (either (byCoe d))
+  -- on the CoE path by refusal 7 of the one direction alone
+  coe-both : (ws vs : List ℕ) (r : PdoDirection) → byCoe d ≡ true → noEntry d ws r ≡ false → Apart (coeUses ws r) (coeUses vs (other r))
+  coe-both ws vs r c n = by-coe c (same-or-not (coeEntry d r) (coeEntry d (other r)))
     where
       clash : coeEntry d r ≡ coeEntry d (other r) → coeEntry d r < length (d .usages) → ⊥
       clash e h =
@@ -220,7 +289,33 @@ module _ (d : Data) where
           (coeUses vs (other r)) (shared-on (coeEntry d (other r)) (piecesOf d vs (other r))))
           (coeUses ws r) (shared-on (coeEntry d r) (piecesOf d ws r))
 
--- what the general law asks of a list of uses, before any refusal but 7
+-- without 18, on the EEPROM path: no pair number is above 15, and no entry is bad
+module _ (d : Data) (k : Chosen) (ws : List ℕ) (path : byCoe d ≡ false) (good : badPairs Paired k d ws ≡ false) where
+  abbrev inputs : List Use
+  inputs = paired k (piecesOf d ws MasterRead)
+
+  abbrev outputs : List Use
+  outputs = paired k (piecesOf d ws MasterWrite)
+
+  parts : (k .above ≡ false) × (someBelow (badEntry inputs outputs) 16 ≡ false)
+  unfolding badPairs
+  parts = or-none (k .above) (someBelow (badEntry inputs outputs) 16) (rw path at good)
+
+  sound : (j : ℕ) → j < 16 → (someOn j inputs && someOn j outputs ≡ false) × ((interrupted j inputs ≡ false) × (interrupted j outputs ≡ false))
+  sound j h =
+      let f = or-none (someOn j inputs && someOn j outputs) (interrupted j inputs || interrupted j outputs) (none-below (badEntry inputs outputs) 16 (parts .1) j h) in
+      (f .0, or-none (interrupted j inputs) (interrupted j outputs) (f .1))
+
+  -- an entry of each direction
+  whole-at : (r : PdoDirection) (j : ℕ) → j < 16 → interrupted j (paired k (piecesOf d ws r)) ≡ false
+  whole-at MasterRead j h = sound j h .1 .0
+  whole-at MasterWrite j h = sound j h .1 .1
+
+  pairs-both : Each (λ (u : Use). u .entry < 16) inputs → (r : PdoDirection) → Apart (paired k (piecesOf d ws r)) (paired k (piecesOf d ws (other r)))
+  pairs-both p MasterRead = unshared inputs outputs (λ j h. sound j h .0) inputs (λ j h. h) p
+  pairs-both p MasterWrite = apart-flip inputs outputs (unshared inputs outputs (λ j h. sound j h .0) inputs (λ j h. h) p)
+
+-- what the general law asks of a list of uses, before any refusal but 7 and 18
 pub record Sane (us : List Use) : Type 0 where
   pub grouped : Grouped us
   pub places : Each (λ (u : Use). u .entry < 16) us
@@ -256,5 +351,48 @@ module _ (d : Data) (b : Bounded d) (ws : List ℕ) (r : PdoDirection) where
         addresses = given-on (λ number. coeEntry d r) (λ (p : Piece). (p .number < 16) × (p .address < 65536)) (piecesOf d ws r) pieces-bounded (λ (u : Use). u .at < 65536) (λ p h s. h .1);
       }
 
-  pub sane : noEntry d ws r ≡ false → Sane (usesOf d ws r)
-  sane n = path d Sane ws r (λ c. coe-sane c n) (λ c. own-sane)
+  paired-sane : (k : Chosen) → Listed k → byCoe d ≡ false → badPairs Paired k d ws ≡ false → Sane (paired k (piecesOf d ws r))
+  paired-sane k l c g =
+      let entry : ℕ → ℕ = λ number. getD (k .entries) number 0 in
+      let places = given-on entry (λ (p : Piece). (p .number < 16) × (p .address < 65536)) (piecesOf d ws r) pieces-bounded (λ (u : Use). u .entry < 16)
+      (λ p h s. l (parts d k ws c g .0) (p .number) (h .0)) in
+      record {
+        grouped =
+            whole-runs (paired k (piecesOf d ws r)) (whole-at d k ws c g r) places
+            (given-on entry (λ (p : Piece). Unit {0}) (piecesOf d ws r) (each-of (λ (p : Piece). Unit {0}) (λ p. tt) (piecesOf d ws r)) (λ (u : Use). 0 < u .size) (λ p h s. s));
+        places = places;
+        addresses = given-on entry (λ (p : Piece). (p .number < 16) × (p .address < 65536)) (piecesOf d ws r) pieces-bounded (λ (u : Use). u .at < 65536) (λ p h s. h .1);
+      }
+
+  pub sane : (mode : FmmuMode) (k : Chosen) → Listed k → badPairs mode k d ws ≡ false → noEntry d ws r ≡ false → Sane (usesOf mode k d ws r)
+  sane mode k l g n = path d Sane mode k ws r (λ c. coe-sane c n) (λ c. go mode c g)
+    where
+      go : (m : FmmuMode) → byCoe d ≡ false → badPairs m k d ws ≡ false → Sane (byMode m k (piecesOf d ws r))
+      go OwnNumber c g = own-sane
+      go Paired c g = paired-sane k l c g
+
+-- two directions on no entry of both: on the CoE path, by own numbers, or by the same pairs and multipliers
+pub data Chose (d : Data) (m n : FmmuMode) (k l : Chosen) (ws vs : List ℕ) : Type 0 where
+  coePath : byCoe d ≡ true → Chose d m n k l ws vs
+  numbers : m ≡ OwnNumber → n ≡ OwnNumber → Chose d m n k l ws vs
+  alike : m ≡ n → k ≡ l → ws ≡ vs → Chose d m n k l ws vs
+
+module _ (d : Data) (b : Bounded d) where
+  apart-alike : (m : FmmuMode) (k : Chosen) (ws : List ℕ) (r : PdoDirection) → Listed k → badPairs m k d ws ≡ false → byCoe d ≡ false
+      → Apart (byMode m k (piecesOf d ws r)) (byMode m k (piecesOf d ws (other r)))
+  apart-alike OwnNumber k ws r l g c = own-both d ws ws r
+  apart-alike Paired k ws r l g c = pairs-both d k ws c g (paired-sane d b ws MasterRead k l c g .places) r
+
+  pub apart : (m n : FmmuMode) (k l : Chosen) (ws vs : List ℕ) (r : PdoDirection) → Chose d m n k l ws vs → Listed k → badPairs m k d ws ≡ false → noEntry d ws r ≡ false
+      → Apart (usesOf m k d ws r) (usesOf n l d vs (other r))
+  unfolding usesOf
+  apart m n k l ws vs r how listed g e = ⊎-elim (λ c. rw c (coe-both d ws vs r c e)) (λ c. rw c (eeprom c how)) (either (byCoe d))
+    where
+      eeprom : byCoe d ≡ false → Chose d m n k l ws vs → Apart (byMode m k (piecesOf d ws r)) (byMode n l (piecesOf d vs (other r)))
+      eeprom c (coePath p) = absurd (true≢false (sym p ∙ c))
+      eeprom c (numbers p q) = subst (λ (x : FmmuMode). Apart (byMode x k (piecesOf d ws r)) (byMode n l (piecesOf d vs (other r)))) (sym p)
+          (subst (λ (x : FmmuMode). Apart (own (piecesOf d ws r)) (byMode x l (piecesOf d vs (other r)))) (sym q) (own-both d ws vs r))
+      eeprom c (alike p q s) =
+          subst (λ (x : FmmuMode). Apart (byMode m k (piecesOf d ws r)) (byMode x l (piecesOf d vs (other r)))) p
+          (subst (λ (x : Chosen). Apart (byMode m k (piecesOf d ws r)) (byMode m x (piecesOf d vs (other r)))) q
+          (subst (λ (x : List ℕ). Apart (byMode m k (piecesOf d ws r)) (byMode m k (piecesOf d x (other r)))) s (apart-alike m k ws r listed g c)))

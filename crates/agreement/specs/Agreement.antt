@@ -2,7 +2,7 @@
 -- By default it holds on every area; keeping old entries, it needs every entry disabled at the start.
 -- Assumes nothing.
 use mathlib.Core.Path.{_≡_}
-use mathlib.Core.Bool.{Bool, false, cond, _&&_}
+use mathlib.Core.Bool.{Bool, true, false, cond, _&&_}
 use mathlib.Core.List.{List, [], _∷_}
 use mathlib.Core.Logic.{_↔_}
 use mathlib.Core.Option.{Option}
@@ -17,8 +17,11 @@ use Rattle.sheet.specs.Sheet.{sheetData}
 use Rattle.pdo.specs.declared.PdoDirection.{PdoDirection}
 use Rattle.pdo.specs.Direction.{other}
 use Rattle.pdo.specs.declared.Oversampling.{Oversampling}
-use Rattle.pdo.specs.Bits.{multipliersOf, piecesOf}
-use Rattle.passes.specs.Use.{Use, own, usesOf}
+use Rattle.pdo.specs.Bits.{multipliersOf, byCoe, piecesOf}
+use Rattle.passes.specs.Use.{Use, own, chosenBy, usesOf}
+use Rattle.passes.specs.declared.FmmuPair.{FmmuPair}
+use Rattle.passes.specs.declared.FmmuMode.the-variants.{OwnNumber}
+use Rattle.passes.specs.declared.Chosen.{Chosen}
 use Rattle.passes.specs.declared.OldEntries.{OldEntries}
 use Rattle.passes.specs.declared.OldEntries.the-variants.{Clear, Keep}
 use Rattle.passes.specs.declared.Settings.{Settings}
@@ -37,9 +40,10 @@ abbrev pub Needs : OldEntries → List ℕ → Type 0
 Needs Clear area = Unit {0}
 Needs Keep area = EveryDisabled area
 
--- what a pass is lent beside the sheet and the FMMU area; its settings are the group's start and what becomes of old entries
+-- what a pass is lent beside the sheet and the FMMU area; its settings are the group's start, what becomes of old entries, and whether the pairs are read
 pub record Lent : Type 0 where
   pub table : List Oversampling
+  pub pairs : List FmmuPair
   pub offset : ℕ
   pub settings : Settings
   pub channels : List ℕ
@@ -48,18 +52,32 @@ pub record Lent : Type 0 where
 abbrev pub weights : List ℕ → Lent → List ℕ
 weights sheet l = multipliersOf (l .table) (sheetData sheet .pdos)
 
+-- what its pairs hand on
+abbrev pub choice : Lent → Chosen
+choice l = chosenBy (l .settings .mode) (l .pairs)
+
 -- a pass of the sheet over the FMMU bytes `area`
 abbrev pub passOf : List ℕ → PdoDirection → Lent → List ℕ → Outcome Planned
-passOf sheet r l area = dataPass sheet (weights sheet l) r (l .offset) (l .settings) area (l .channels)
+passOf sheet r l area = dataPass sheet (weights sheet l) (choice l) r (l .offset) (l .settings) area (l .channels)
 
 -- it is accepted, and leaves `after`
 pub record Accepted (sheet : List ℕ) (r : PdoDirection) (l : Lent) (area after : List ℕ) : Type 0 where
   pub planned : Planned
   pub says : passOf sheet r l area ≡ accepted planned
-  pub leaves : after ≡ entriesAfter (passOf sheet r l area) (sheetData sheet) (weights sheet l) r (l .offset) (l .settings .old) area
+  pub leaves : after ≡ entriesAfter (passOf sheet r l area) (sheetData sheet) (weights sheet l) (choice l) r (l .offset) (l .settings) area
 
--- one input pass and one output pass of the same sheet, `first` before the other
+-- how two passes of a sheet choose entries: as they like on the CoE path; by own numbers; or by the same pairs with the same table, since 18 of a pass judges
+-- both directions by its own pairs and table
+pub data Together (sheet : List ℕ) (lent : PdoDirection → Lent) : Type 0 where
+  onCoe : byCoe (sheetData sheet) ≡ true → Together sheet lent
+  byNumbers : ((r : PdoDirection) → lent r .settings .mode ≡ OwnNumber) → Together sheet lent
+  byPairs :
+      ((r : PdoDirection) → (lent r .settings .mode ≡ lent (other r) .settings .mode) × (lent r .pairs ≡ lent (other r) .pairs) × (lent r .table ≡ lent (other r) .table))
+      → Together sheet lent
+
+-- one input pass and one output pass of the same sheet, `first` before the other, which choose entries together
 pub record TwoPasses (sheet : List ℕ) (lent : PdoDirection → Lent) (first : PdoDirection) (area after : List ℕ) : Type 0 where
+  pub together : Together sheet lent
   pub between : List ℕ
   pub one : Accepted sheet first (lent first) area between
   pub two : Accepted sheet (other first) (lent (other first)) between after
@@ -85,7 +103,7 @@ EndToEnd us = (k : ℕ) → Chained (sharing k us)
 
 -- the sync managers of a direction's pass, each with its size, its device address and the entry that it uses
 abbrev pub laidBy : List ℕ → PdoDirection → Lent → List Use
-laidBy sheet r l = usesOf (sheetData sheet) (weights sheet l) r
+laidBy sheet r l = usesOf (l .settings .mode) (choice l) (sheetData sheet) (weights sheet l) r
 
 -- the device address by counting from the direction's own start offset
 abbrev pub counted : List ℕ → PdoDirection → Lent → ℕ → Outcome (Option ℕ)
@@ -104,7 +122,7 @@ Demand3OfOne =
     → Needs (l .settings .old) area
     → Agree sheet r l after ↔ EndToEnd (laidBy sheet r l)
 
--- two passes: either order (`first`), either direction (`r`); each has its own table, offset, settings and sync manager area.
+-- two passes: either order (`first`), either direction (`r`); each has its own offset, settings and sync manager area, and, unless they go by pairs, its own table.
 -- Only the direction's own pass needs something of the area at the start, whatever the other one does with old entries
 abbrev pub Demand3 : Type 0
 Demand3 =

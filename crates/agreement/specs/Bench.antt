@@ -16,6 +16,8 @@ use Rattle.pdo.specs.declared.PdoDirection.the-variants.{MasterRead}
 use Rattle.pdo.specs.Bits.{multipliersOf}
 use Rattle.area.specs.Area.{entriesOf}
 use Rattle.passes.specs.declared.Settings.{Settings}
+use Rattle.passes.specs.declared.FmmuMode.the-variants.{OwnNumber}
+use Rattle.passes.specs.Use.{chosenOf}
 use Rattle.passes.specs.Old.{clean, keeping}
 use Rattle.passes.specs.Pass.{dataPass, entriesAfter, channelAreaAfter}
 use Rattle.passes.specs.Entries.{Planned}
@@ -62,17 +64,17 @@ zeroChannels = replicate 128 0
 
 -- the input pass over FMMU bytes, from an offset; in the default with group start 0; and that from offset 0
 abbrev pub inputBy : Settings → ℕ → List ℕ → List ℕ → Outcome Planned
-inputBy settings offset sheet area = dataPass sheet (ones sheet) MasterRead offset settings area zeroChannels
+inputBy settings offset sheet area = dataPass sheet (ones sheet) (chosenOf []) MasterRead offset settings area zeroChannels
 
 abbrev pub inputFrom : ℕ → List ℕ → List ℕ → Outcome Planned
-inputFrom offset sheet area = inputBy (clean 0) offset sheet area
+inputFrom offset sheet area = inputBy (clean OwnNumber 0) offset sheet area
 
 abbrev pub inputPass : List ℕ → List ℕ → Outcome Planned
 inputPass sheet area = inputFrom 0 sheet area
 
 -- the same, keeping old entries
 abbrev pub inputKept : List ℕ → List ℕ → Outcome Planned
-inputKept sheet area = inputBy (keeping 0) 0 sheet area
+inputKept sheet area = inputBy (keeping OwnNumber 0) 0 sheet area
 
 -- an accepted pass: entry k, of so many bytes, of the area that it leaves
 abbrev pub entryOf : ℕ → ℕ → List ℕ → Outcome Planned → Outcome (List ℕ)
@@ -82,7 +84,7 @@ entryOf size k after (accepted p) = accepted (getD (entriesOf size after) k [])
 -- the FMMU entry k, and the image of the sync manager k
 abbrev pub inputEntry : ℕ → List ℕ → List ℕ → Outcome (List ℕ)
 inputEntry k sheet area =
-    entryOf 16 k (entriesAfter (inputPass sheet area) (sheetData sheet) (ones sheet) MasterRead 0 (clean 0 .old) area) (inputPass sheet area)
+    entryOf 16 k (entriesAfter (inputPass sheet area) (sheetData sheet) (ones sheet) (chosenOf []) MasterRead 0 (clean OwnNumber 0) area) (inputPass sheet area)
 
 abbrev pub inputImage : ℕ → List ℕ → Outcome (List ℕ)
 inputImage k sheet =

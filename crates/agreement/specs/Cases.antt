@@ -1,21 +1,25 @@
--- Translation, counting and old entries at their limits, lists of rows as the bench's: who decides, where an entry and a range end, what 11 and 15 look at.
+-- Translation, counting, old entries and pairs at their limits, lists of rows as the bench's: who decides, where an entry and a range end, what 11, 15 and 18 look at.
 -- Assumes nothing.
-use mathlib.Core.List.{List, [], _∷_, _++_}
+use mathlib.Core.List.{List, [], _∷_, _++_, map}
 use mathlib.Core.Option.{Option, none, some}
-use Prim.Native.Nat.{ℕ, _+_, _-_, _*_}
+use Prim.Native.Nat.{ℕ, suc, _+_, _-_, _*_, _/_, _%_}
 use lib.ListN.{length, set, replicate}
 use Rattle.wire.specs.Outcome.{Outcome, refused, accepted}
 use Rattle.wire.specs.Number.{littleOf}
 use Rattle.wire.specs.Lists.{listOf}
 use Rattle.pdo.specs.declared.PdoDirection.the-variants.{MasterRead, MasterWrite}
+use Rattle.sheet.specs.Sheet.{sheetData}
 use Rattle.area.specs.Area.{flat}
 use Rattle.passes.specs.declared.Settings.{Settings}
+use Rattle.passes.specs.declared.FmmuPair.{FmmuPair}
+use Rattle.passes.specs.declared.FmmuMode.the-variants.{OwnNumber, Paired}
+use Rattle.passes.specs.Use.{chosenOf, chosenBy}
 use Rattle.passes.specs.Old.{clean, keeping}
-use Rattle.passes.specs.Pass.{dataPass}
+use Rattle.passes.specs.Pass.{dataPass, entriesAfter}
 use Rattle.translation.specs.Translate.{translate}
 use Rattle.counting.specs.Count.{Spot, count}
 use Rattle.agreement.specs.Clean.{zeroed}
-use Rattle.agreement.specs.Bench.{Row, row, startAndEnd, ones, zeroChannels, inputBy, inputPass, inputEntry, sampleSheet, bitsSheet, fullEntry, noBitsSheet}
+use Rattle.agreement.specs.Bench.{Row, row, startAndEnd, entryOf, ones, zeros, zeroChannels, inputBy, inputPass, inputEntry, sampleSheet, bitsSheet, fullEntry, noBitsSheet}
 
 -- a device address as a list: nothing where it is none
 abbrev pub shown : Option ℕ → List ℕ
@@ -118,7 +122,7 @@ sharedSheet n =
     ++ flat (listOf (λ k. 0x00 ∷ (1 + k) ∷ 0x1a ∷ k ∷ 0x01 ∷ 0x01 ∷ []) n)
 
 abbrev pub sharedBy : Settings → ℕ → List ℕ → Outcome (List ℕ)
-sharedBy settings n area = startAndEnd (dataPass (sharedSheet n) (replicate n 65528) MasterRead 0 settings area zeroChannels)
+sharedBy settings n area = startAndEnd (dataPass (sharedSheet n) (replicate n 65528) (chosenOf []) MasterRead 0 settings area zeroChannels)
 
 abbrev pub oldCases : List Row
 oldCases =
@@ -126,19 +130,95 @@ oldCases =
     ∷ row 2 (inputEntry 15 (bitsSheet 8) (atLast (entry 0 1 7 0x1000 1 1))) (accepted (replicate 16 0))  -- one that isn't wanted is cleared too, all sixteen bytes
     ∷ row 3 (inputEntry 15 (bitsSheet 8) (atLast outputFull)) (accepted outputFull)  -- the other direction's stays
     ∷ row 4 (inputEntry 15 noBitsSheet (atLast (entry 0 1 7 0x1000 1 1))) (accepted (replicate 16 0))  -- cleared also where nothing is mapped
-    ∷ row 5 (oneByte (clean 0) 0 (atFirst outputFull)) (refused 15)  -- the wanted entry is the other direction's: 15, and not 8, which counts from zero
-    ∷ row 6 (oneByte (keeping 0) 0 (atFirst outputFull)) (refused 8)  -- keeping gives 8
-    ∷ row 7 (oneByte (clean 0) 4294967295 (atFirst outputFull)) (refused 9)  -- 9 comes before 15
-    ∷ row 8 (oneByte (keeping 0) 4294967295 (zeroed MasterRead (atFirst outputFull))) (refused 8)  -- where keeping, with old inputs zeroed, gives 8: `AsKeeping` asks for more than 'not answered 15'
-    ∷ row 9 (oneByte (clean 1) 0 (atFirst outputFull)) (refused 10)  -- 10 comes before 15
-    ∷ row 10 (oneByte (clean 0) 0 (atLast bothFull)) (refused 15)  -- both bits, on whatever entry
+    ∷ row 5 (oneByte (clean OwnNumber 0) 0 (atFirst outputFull)) (refused 15)  -- the wanted entry is the other direction's: 15, and not 8, which counts from zero
+    ∷ row 6 (oneByte (keeping OwnNumber 0) 0 (atFirst outputFull)) (refused 8)  -- keeping gives 8
+    ∷ row 7 (oneByte (clean OwnNumber 0) 4294967295 (atFirst outputFull)) (refused 9)  -- 9 comes before 15
+    ∷ row 8 (oneByte (keeping OwnNumber 0) 4294967295 (zeroed MasterRead (atFirst outputFull))) (refused 8)  -- where keeping, with old inputs zeroed, gives 8: `AsKeeping` asks for more than 'not answered 15'
+    ∷ row 9 (oneByte (clean OwnNumber 1) 0 (atFirst outputFull)) (refused 10)  -- 10 comes before 15
+    ∷ row 10 (oneByte (clean OwnNumber 0) 0 (atLast bothFull)) (refused 15)  -- both bits, on whatever entry
     ∷ row 11 (startAndEnd (inputPass noBitsSheet (atFirst bothFull))) (refused 15)  -- also where nothing is mapped
     ∷ row 12 (startAndEnd (inputPass noBitsSheet (atFirst outputFull))) (accepted (0 ∷ 0 ∷ []))  -- where the other direction's isn't in the way
-    ∷ row 13 (oneByte (keeping 0) 0 (atLast bothFull)) (accepted (0 ∷ 1 ∷ []))  -- keeping never gives 15
-    ∷ row 14 (oneByte (clean 0) 0 (atLast (set bothFull 12 0))) (accepted (0 ∷ 1 ∷ []))  -- nor does a disabled entry
-    ∷ row 15 (oneByte (clean 0) 0 (atFirst (entry 0 1 7 0x1000 0 1))) (refused 15)  -- an entry with neither bit isn't cleared
-    ∷ row 16 (oneByte (clean 0) 0 (atLast (entry 0 1 7 0x1000 0 1))) (accepted (0 ∷ 1 ∷ []))  -- and is in the way only if it is wanted
-    ∷ row 17 (sharedBy (clean 0) 8 fullEntry) (accepted (0 ∷ 65528 ∷ []))  -- 8 counts from zero: eight inputs have room
-    ∷ row 18 (sharedBy (clean 0) 9 fullEntry) (refused 8)  -- nine have not
-    ∷ row 19 (sharedBy (clean 0) 9 (atLast bothFull)) (refused 8)  -- 8 comes before 15
+    ∷ row 13 (oneByte (keeping OwnNumber 0) 0 (atLast bothFull)) (accepted (0 ∷ 1 ∷ []))  -- keeping never gives 15
+    ∷ row 14 (oneByte (clean OwnNumber 0) 0 (atLast (set bothFull 12 0))) (accepted (0 ∷ 1 ∷ []))  -- nor does a disabled entry
+    ∷ row 15 (oneByte (clean OwnNumber 0) 0 (atFirst (entry 0 1 7 0x1000 0 1))) (refused 15)  -- an entry with neither bit isn't cleared
+    ∷ row 16 (oneByte (clean OwnNumber 0) 0 (atLast (entry 0 1 7 0x1000 0 1))) (accepted (0 ∷ 1 ∷ []))  -- and is in the way only if it is wanted
+    ∷ row 17 (sharedBy (clean OwnNumber 0) 8 fullEntry) (accepted (0 ∷ 65528 ∷ []))  -- 8 counts from zero: eight inputs have room
+    ∷ row 18 (sharedBy (clean OwnNumber 0) 9 fullEntry) (refused 8)  -- nine have not
+    ∷ row 19 (sharedBy (clean OwnNumber 0) 9 (atLast bothFull)) (refused 8)  -- 8 comes before 15
+    ∷ []
+
+-- a sync manager of an EEPROM bay, at 0x1180, with one PDO of so many bits
+pub record Manager : Type 0 where
+  pub control : ℕ
+  pub usage : ℕ
+  pub kind : ℕ
+  pub bits : ℕ
+
+abbrev pub input : ℕ → Manager
+input bits = record { control = 0x20; usage = 4; kind = 1; bits = bits }
+
+abbrev pub output : ℕ → Manager
+output bits = record { control = 0x64; usage = 3; kind = 2; bits = bits }
+
+abbrev pub managerBytes : Manager → List ℕ
+managerBytes m = 0x11 ∷ 0x80 ∷ m .control ∷ 0x01 ∷ m .usage ∷ []
+
+abbrev pub pdoBytes : ℕ → List Manager → List ℕ
+pdoBytes k [] = []
+pdoBytes k (m ∷ ms) = (m .kind ∷ k ∷ 0x1a ∷ k ∷ 0x02 ∷ m .bits / 256 ∷ m .bits % 256 ∷ []) ++ pdoBytes (suc k) ms
+
+abbrev pub bay : List Manager → List ℕ
+bay ms =
+    (0x00 ∷ (9 + 12 * length ms) ∷ 0x01 ∷ 0x00 ∷ 0x00 ∷ 0x00 ∷ 0x00 ∷ 0x00 ∷ length ms ∷ 0x00 ∷ length ms ∷ [])
+    ++ flat (map managerBytes ms)
+    ++ pdoBytes 0 ms
+
+-- FMMU `f` for the sync manager `m`
+abbrev pub pair : ℕ → ℕ → FmmuPair
+pair f m = record { fmmu = f; «sync_manager» = m }
+
+-- the input pass by pairs, from offset 0 in group 0, with multipliers, over FMMU bytes; without oversampling over zeros; and an entry that it leaves
+abbrev pub pairedOver : Settings → List FmmuPair → List ℕ → List ℕ → List ℕ → Outcome (List ℕ)
+pairedOver settings ps sheet ws area = startAndEnd (dataPass sheet ws (chosenBy (settings .mode) ps) MasterRead 0 settings area zeroChannels)
+
+abbrev pub pairedPass : List FmmuPair → List ℕ → Outcome (List ℕ)
+pairedPass ps sheet = pairedOver (clean Paired 0) ps sheet (ones sheet) zeros
+
+abbrev pub pairedEntry : ℕ → List FmmuPair → List ℕ → Outcome (List ℕ)
+pairedEntry k ps sheet =
+    let o = dataPass sheet (ones sheet) (chosenOf ps) MasterRead 0 (clean Paired 0) zeros zeroChannels in
+    entryOf 16 k (entriesAfter o (sheetData sheet) (ones sheet) (chosenOf ps) MasterRead 0 (clean Paired 0) zeros) o
+
+-- FMMU 0 for the sync managers 1 to n
+abbrev pub onFirst : ℕ → List FmmuPair
+onFirst n = listOf (λ k. pair 0 (suc k)) n
+
+abbrev pub pairCases : List Row
+pairCases =
+    row 1 (pairedEntry 5 (pair 5 0 ∷ pair 6 0 ∷ []) (bay (input 8 ∷ []))) (accepted mappedByte)  -- the first pair for a sync manager decides
+    ∷ row 2 (pairedEntry 6 (pair 5 0 ∷ pair 6 0 ∷ []) (bay (input 8 ∷ []))) (accepted (replicate 16 0))  -- the second doesn't
+    ∷ row 3 (pairedEntry 0 (pair 5 1 ∷ []) (bay (input 8 ∷ []))) (accepted mappedByte)  -- none means its own number
+    ∷ row 4 (pairedEntry 0 [] (bay (input 0 ∷ []))) (accepted (replicate 16 0))  -- 0 bits write no entry, with an empty list too
+    ∷ row 5 (pairedEntry 0 (pair 0 1 ∷ []) (bay (input 8 ∷ input 8 ∷ []))) (accepted (entry 0 2 7 0x1180 1 1))  -- sharing merges
+    ∷ row 6 (pairedPass (pair 16 0 ∷ []) sampleSheet) (accepted (0 ∷ 5 ∷ []))  -- a CoE sheet leaves bad pairs unread
+    ∷ row 7 (pairedOver (clean OwnNumber 0) (pair 16 0 ∷ []) (bay (input 8 ∷ [])) (1 ∷ []) zeros) (accepted (0 ∷ 1 ∷ []))  -- so do own numbers
+    ∷ row 8 (pairedPass (pair 15 0 ∷ []) (bay (input 8 ∷ []))) (accepted (0 ∷ 1 ∷ []))  -- the last FMMU
+    ∷ row 9 (pairedPass (pair 16 0 ∷ []) (bay (input 8 ∷ []))) (refused 18)  -- and one more
+    ∷ row 10 (pairedPass (pair 0 15 ∷ []) (bay (input 8 ∷ []))) (accepted (0 ∷ 1 ∷ []))  -- a sync manager that the sheet hasn't
+    ∷ row 11 (pairedPass (pair 0 0 ∷ pair 0 16 ∷ []) (bay (input 8 ∷ []))) (refused 18)  -- a number above 15 anywhere
+    ∷ row 12 (pairedPass (pair 0 1 ∷ []) (bay (input 8 ∷ output 8 ∷ []))) (refused 18)  -- an entry of both directions
+    ∷ row 13 (pairedPass (pair 0 1 ∷ []) (bay (input 8 ∷ output 0 ∷ []))) (accepted (0 ∷ 1 ∷ []))  -- unless one is empty
+    ∷ row 14 (pairedOver (clean Paired 0) (pair 0 1 ∷ []) (bay (input 8 ∷ output 8 ∷ [])) (1 ∷ 0 ∷ []) zeros) (accepted (0 ∷ 1 ∷ []))  -- by the table too
+    ∷ row 15 (pairedPass (pair 0 2 ∷ []) (bay (input 8 ∷ input 8 ∷ input 8 ∷ []))) (refused 18)  -- one on another entry between
+    ∷ row 16 (pairedPass (pair 0 2 ∷ []) (bay (input 8 ∷ input 0 ∷ input 8 ∷ []))) (accepted (0 ∷ 2 ∷ []))  -- unless it is empty
+    ∷ row 17 (pairedPass (pair 0 2 ∷ []) (bay (input 8 ∷ output 8 ∷ input 8 ∷ []))) (accepted (0 ∷ 2 ∷ []))  -- or of the other direction
+    ∷ row 18 (pairedPass (pair 1 3 ∷ []) (bay (input 8 ∷ output 8 ∷ output 8 ∷ output 8 ∷ []))) (refused 18)  -- the other direction is judged too
+    ∷ row 19 (pairedPass (pair 16 0 ∷ []) (set (bay (input 8 ∷ [])) 13 0x23)) (refused 5)  -- 5 comes before 18
+    ∷ row 20 (pairedPass (pair 16 0 ∷ []) (bay (input 65529 ∷ []))) (refused 18)  -- and 18 before 6
+    ∷ row 21 (pairedOver (keeping Paired 0) (pair 16 0 ∷ []) (bay (input 8 ∷ [])) (1 ∷ []) fullEntry) (refused 18)  -- before 8, keeping
+    ∷ row 22 (pairedOver (clean Paired 1) (pair 16 0 ∷ []) (bay (input 8 ∷ [])) (1 ∷ []) zeros) (refused 18)  -- before 10
+    ∷ row 23 (pairedOver (clean Paired 0) (pair 16 0 ∷ []) (bay (input 8 ∷ [])) (1 ∷ []) (atLast bothFull)) (refused 18)  -- before 15
+    ∷ row 24 (pairedOver (clean Paired 0) (pair 15 0 ∷ []) (bay (input 8 ∷ [])) (1 ∷ []) (atLast outputFull)) (refused 15)  -- the chosen entry is the wanted one
+    ∷ row 25 (pairedOver (clean Paired 0) (onFirst 7) (bay (listOf (λ k. input 1) 8)) (replicate 8 65528) zeros) (accepted (0 ∷ 65528 ∷ []))  -- eight share an entry
+    ∷ row 26 (pairedOver (clean Paired 0) (onFirst 8) (bay (listOf (λ k. input 1) 9)) (replicate 9 65528) zeros) (refused 8)  -- nine have no room
     ∷ []
