@@ -17,20 +17,21 @@ use Rattle.lent.proofs.count as counting
 use Rattle.lent.proofs.Unique.{PassesOn, CountsBy}
 use Rattle.demand3.specs.Calls.{Pass, Translation, Counting}
 
--- `lent::configure_fmmus`, where it answered a segment: sheet, table, FMMU bytes, sync manager bytes, offset, settings, direction
-pub pass-of : (κs : Lfts 5) (a : Args configuring.signature κs) (answer : PdiSegment) (s : AtExit configuring.ended κs) → PassesOn κs a (Segment answer) s
-    → Pass (now (a .0)) (a .1 .1 .1 .1 .1 .1 .0)
+-- `lent::configure_fmmus`, where it answered a segment: sheet, table, pairs, FMMU bytes, sync manager bytes, offset, settings, direction
+pub pass-of : (κs : Lfts 6) (a : Args configuring.signature κs) (answer : PdiSegment) (s : AtExit configuring.ended κs) → PassesOn κs a (Segment answer) s
+    → Pass (now (a .0)) (a .1 .1 .1 .1 .1 .1 .1 .0)
 pass-of κs a answer s kept =
     record {
       table = now (a .1 .0);
-      fmmus = now (a .1 .1 .0);
-      channels = now (a .1 .1 .1 .0);
-      offset = now (a .1 .1 .1 .1 .0);
-      settings = a .1 .1 .1 .1 .1 .0;
+      pairs = now (a .1 .1 .0);
+      fmmus = now (a .1 .1 .1 .0);
+      channels = now (a .1 .1 .1 .1 .0);
+      offset = now (a .1 .1 .1 .1 .1 .0);
+      settings = a .1 .1 .1 .1 .1 .1 .0;
       segment = answer;
-      fmmusThen = now (s .1 .1 .0);
-      channelsThen = now (s .1 .1 .1 .0);
-      offsetThen = now (s .1 .1 .1 .1 .0);
+      fmmusThen = now (s .1 .1 .1 .0);
+      channelsThen = now (s .1 .1 .1 .1 .0);
+      offsetThen = now (s .1 .1 .1 .1 .1 .0);
       promise = kept;
     }
 

@@ -10,6 +10,7 @@ use Rattle.pdi.specs.declared.PdiOffset.{PdiOffset}
 use Rattle.sheet.specs.Sheet.{sheetData}
 use Rattle.pdo.specs.declared.PdoDirection.{PdoDirection}
 use Rattle.pdo.specs.declared.PdoDirection.the-variants.{MasterRead, MasterWrite}
+use Rattle.passes.specs.declared.FmmuMode.the-variants.{OwnNumber}
 use Rattle.passes.specs.Pass.{segmentAlone, offsetAfter, channelAreaAfter}
 use Rattle.translation.specs.declared.Reached.{Reached}
 use Rattle.translation.specs.declared.Reached.the-variants.{Nowhere, At}
@@ -19,10 +20,10 @@ use Rattle.translation.specs.Translate.{reachedOf, translate, translatedOf}
 use Rattle.counting.specs.declared.Counted.{Counted}
 use Rattle.counting.specs.declared.Counted.the-variants as counted
 use Rattle.counting.specs.Count.{Spot, count, countedOf}
-use Rattle.agreement.specs.Agreement.{Lent, weights, passOf, Accepted}
+use Rattle.agreement.specs.Agreement.{Lent, weights, passOf, byNumbers, Accepted}
 use Rattle.agreement.specs.Bench.{sampleSheet}
 use Rattle.agreement.proofs.Examples.{bytes-of, lent, usedArea, sample-passes, sample-end-to-end, sampleArea}
-use Rattle.demand3.specs.Calls.{Pass, Translation, Counting, Call, Calls, AgreeAlone, AgreeEverywhere}
+use Rattle.demand3.specs.Calls.{Pass, lentTo, Translation, Counting, Call, Calls, AgreeAlone, AgreeEverywhere}
 use Rattle.demand3.proofs.Functions.{demand-3-of-one-call-clean, demand-3-of-functions-clean}
 
 -- an answer for whatever a definition says
@@ -61,6 +62,7 @@ module _ (sheet : List ℕ) (r : PdoDirection) (l : Lent) (area after : List ℕ
   could-pass =
       record {
         table = l .table;
+        pairs = l .pairs;
         fmmus = area;
         channels = l .channels;
         offset = from;
@@ -89,11 +91,16 @@ sample-count : (r : PdoDirection) (a : ℕ) → Counting sampleSheet (samplePass
 sample-count MasterRead a = could-count sampleSheet (lent MasterRead) (samplePass MasterRead .offset) MasterRead a
 sample-count MasterWrite a = could-count sampleSheet (lent MasterWrite) (samplePass MasterWrite .offset) MasterWrite a
 
+own-numbers : (r : PdoDirection) → lentTo (samplePass r) .settings .mode ≡ OwnNumber
+own-numbers MasterRead = refl
+own-numbers MasterWrite = refl
+
 pub sample-calls : Calls sampleSheet MasterRead
 sample-calls =
     record {
       bytes = bytes-of sampleSheet tt;
       pass = samplePass;
+      together = byNumbers own-numbers;
       handed-on = refl;
       translating = λ r a h. could-translate sampleArea r a;
       counting = λ r a h. sample-count r a;

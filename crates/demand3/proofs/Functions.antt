@@ -9,11 +9,7 @@ use Rattle.pdo.specs.Direction.{other}
 use Rattle.counting.specs.Count.{deviceAlone}
 use Rattle.agreement.specs.Agreement.{Lent, Accepted, TwoPasses, Agree}
 use Rattle.agreement.proofs.Demand3.{promised, facts, Among, among-alone, among, translated, demand-3-of-one, demand-3, needs-none, needs-disabled}
-use Rattle.demand3.specs.Calls.{Pass, Translation, Counting, Calls, Everywhere, Demand3OfOneCall, Demand3OfFunctions, Demand3OfOneCallClean, Demand3OfFunctionsClean, Demand3OfFunctionsFromDisabled}
-
--- what a call was lent beside the sheet and the FMMU bytes
-abbrev lentTo : {sheet : List ℕ} {r : PdoDirection} → Pass sheet r → Lent
-lentTo p = record { table = p .table; offset = p .offset .«start_address»; settings = p .settings; channels = p .channels }
+use Rattle.demand3.specs.Calls.{Pass, lentTo, Translation, Counting, Calls, Everywhere, Demand3OfOneCall, Demand3OfFunctions, Demand3OfOneCallClean, Demand3OfFunctionsClean, Demand3OfFunctionsFromDisabled}
 
 accepted-pass : (sheet : List ℕ) (r : PdoDirection) (p : Pass sheet r) → Accepted sheet r (lentTo p) (p .fmmus) (p .fmmusThen)
 accepted-pass sheet r p = promised sheet r (lentTo p) (p .fmmus) (p .fmmusThen) (p .channelsThen) (p .segment) (p .offsetThen) (p .promise)
@@ -59,6 +55,7 @@ module _ (sheet : List ℕ) (first : PdoDirection) (calls : Calls sheet first) w
   two-passes : TwoPasses sheet lent first start end
   two-passes =
       record {
+        together = calls .together;
         between = calls .pass first .fmmusThen;
         one = accepted-pass sheet first (calls .pass first);
         two =

@@ -17,19 +17,21 @@ use Rattle.pdo.specs.declared.PdoDirection.{PdoDirection}
 use Rattle.pdo.specs.declared.Oversampling.{Oversampling}
 use Rattle.pdo.specs.Direction.{other}
 use Rattle.pdo.specs.Bits.{multipliersOf}
+use Rattle.passes.specs.declared.FmmuPair.{FmmuPair}
 use Rattle.passes.specs.declared.OldEntries.the-variants.{Clear}
 use Rattle.passes.specs.declared.Settings.{Settings}
-use Rattle.passes.specs.Use.{Use, usesOf}
+use Rattle.passes.specs.Use.{Use, chosenBy}
 use Rattle.passes.specs.Pass.{Passes}
 use Rattle.translation.specs.declared.Translated.{Translated}
 use Rattle.translation.specs.Translate.{translate, translatedOf}
 use Rattle.counting.specs.declared.Counted.{Counted}
 use Rattle.counting.specs.Count.{count, countedOf, deviceAlone}
-use Rattle.agreement.specs.Agreement.{EveryDisabled, Needs, EndToEnd}
+use Rattle.agreement.specs.Agreement.{EveryDisabled, Needs, Lent, Together, EndToEnd, laidBy}
 
 -- a call of `lent::configure_fmmus` that answered a segment: what it was lent beside the sheet, its answer, and what it left
 pub record Pass (sheet : List ℕ) (r : PdoDirection) : Type 0 where
   pub table : List Oversampling
+  pub pairs : List FmmuPair
   pub fmmus : List ℕ
   pub channels : List ℕ
   pub offset : PdiOffset
@@ -38,7 +40,12 @@ pub record Pass (sheet : List ℕ) (r : PdoDirection) : Type 0 where
   pub fmmusThen : List ℕ
   pub channelsThen : List ℕ
   pub offsetThen : PdiOffset
-  pub promise : Passes sheet (multipliersOf table (sheetData sheet .pdos)) r offset settings fmmus channels (Segment segment) offsetThen fmmusThen channelsThen
+  pub promise :
+      Passes sheet (multipliersOf table (sheetData sheet .pdos)) (chosenBy (settings .mode) pairs) r offset settings fmmus channels (Segment segment) offsetThen fmmusThen channelsThen
+
+-- what it was lent beside the sheet and the FMMU bytes
+abbrev pub lentTo : {sheet : List ℕ} {r : PdoDirection} → Pass sheet r → Lent
+lentTo p = record { table = p .table; pairs = p .pairs; offset = p .offset .«start_address»; settings = p .settings; channels = p .channels }
 
 -- a call of `translation::translate` at an address
 pub record Translation (fmmus : List ℕ) (r : PdoDirection) (a : ℕ) : Type 0 where
@@ -58,11 +65,12 @@ pub record Call (sheet : List ℕ) (r : PdoDirection) : Type 0 where
   pub translating : (a : ℕ) → a < 2 ^ 32 → Translation (pass .fmmusThen) r a
   pub counting : (a : ℕ) → a < 2 ^ 32 → Counting sheet (pass .table) (pass .offset) r a
 
--- a pass of each direction, `first` before the other, which is lent what the first left; then, for both directions, translating through the bytes that are left in
--- the end, and counting
+-- a pass of each direction, `first` before the other, which is lent what the first left, and the same pairs and table where they go by pairs; then, for both
+-- directions, translating through the bytes that are left in the end, and counting, which is lent no pairs
 pub record Calls (sheet : List ℕ) (first : PdoDirection) : Type 0 where
   pub bytes : Bytes sheet
   pub pass : (r : PdoDirection) → Pass sheet r
+  pub together : Together sheet (λ r. lentTo (pass r))
   pub handed-on : pass (other first) .fmmus ≡ pass first .fmmusThen
   pub translating : (r : PdoDirection) (a : ℕ) → a < 2 ^ 32 → Translation (pass (other first) .fmmusThen) r a
   pub counting : (r : PdoDirection) (a : ℕ) → a < 2 ^ 32 → Counting sheet (pass r .table) (pass r .offset) r a
@@ -85,7 +93,7 @@ AgreeEverywhere sheet first calls r = Everywhere (λ a h. calls .translating r a
 
 -- the sync managers that a pass laid, each with its size, its device address and the entry that it uses
 abbrev pub laidIn : (sheet : List ℕ) (r : PdoDirection) → Pass sheet r → List Use
-laidIn sheet r p = usesOf (sheetData sheet) (multipliersOf (p .table) (sheetData sheet .pdos)) r
+laidIn sheet r p = laidBy sheet r (lentTo p)
 
 -- one call: the two agree everywhere exactly if the nonempty sync managers that share an entry lie end to end
 abbrev pub Demand3OfOneCall : Type 0

@@ -20,9 +20,12 @@ use Rattle.pdo.specs.declared.PdoDirection.the-variants.{MasterRead, MasterWrit
 use Rattle.pdo.specs.declared.Oversampling.{Oversampling}
 use Rattle.pdo.specs.Bits.{multipliersOf, piecesOf}
 use Rattle.mailboxes.specs.Mailbox.{Recorded, configOf, mailboxPass, mailboxArea}
+use Rattle.passes.specs.declared.Chosen.{Chosen}
+use Rattle.passes.specs.declared.FmmuMode.the-variants.{OwnNumber}
 use Rattle.passes.specs.declared.Settings.{Settings}
 use Rattle.passes.specs.Old.{clean}
-use Rattle.passes.specs.Use.{usesOf, sizeOf}
+use Rattle.passes.specs.Use.{chosenOf, chosenBy, usesOf, sizeOf}
+use Rattle.passes.specs.Pairs.{badPairs}
 use Rattle.passes.specs.Entries.{Planned, entryRefusals}
 use Rattle.passes.specs.Pass.{notAreas, wantedRefusals, plannedOf, dataPass, entriesAfter, channelAreaAfter, segmentAlone, offsetAfter, Passes}
 use Rattle.counting.specs.Count.{Spot, spotIn, count}
@@ -46,14 +49,14 @@ module _ (s : List ℕ) {x : Data} (e : readSheet s ≡ accepted x) where
   unfolding mailboxPass
   mailboxes-of area = ap (λ (o : Outcome Recorded). cond (notChannels area) (refused 1) o) (goes-on (accepted (configOf (sheetData s))) ∙ ap (λ (d : Data). accepted (configOf d)) holds)
 
-  pass-of : (ws : List ℕ) (r : PdoDirection) (offset : ℕ) (settings : Settings) (fmmus channels : List ℕ)
-      → dataPass s ws r offset settings fmmus channels
+  pass-of : (ws : List ℕ) (k : Chosen) (r : PdoDirection) (offset : ℕ) (settings : Settings) (fmmus channels : List ℕ)
+      → dataPass s ws k r offset settings fmmus channels
       ≡ cond (notAreas fmmus channels) (refused 1)
-      (decide (wantedRefusals x ws r ++ entryRefusals (usesOf x ws r) (sizeOf x ws r) r offset settings (entriesOf 16 fmmus)) (plannedOf x ws r offset (settings .group)))
+      (decide (when 18 (badPairs (settings .mode) k x ws) ∷ wantedRefusals x ws r ++ entryRefusals (usesOf (settings .mode) k x ws r) (sizeOf x ws r) r offset settings (entriesOf 16 fmmus)) (plannedOf x ws r offset (settings .group)))
   unfolding dataPass
-  pass-of ws r offset settings fmmus channels =
+  pass-of ws k r offset settings fmmus channels =
       let rest : Data → Outcome Planned =
-      λ d. decide (wantedRefusals d ws r ++ entryRefusals (usesOf d ws r) (sizeOf d ws r) r offset settings (entriesOf 16 fmmus)) (plannedOf d ws r offset (settings .group)) in
+      λ d. decide (when 18 (badPairs (settings .mode) k d ws) ∷ wantedRefusals d ws r ++ entryRefusals (usesOf (settings .mode) k d ws r) (sizeOf d ws r) r offset settings (entriesOf 16 fmmus)) (plannedOf d ws r offset (settings .group)) in
       ap (λ (o : Outcome Planned). cond (notAreas fmmus channels) (refused 1) o) (goes-on (rest (sheetData s)) ∙ ap rest holds)
 
   count-of : (r : PdoDirection) (a : ℕ) (ws : List ℕ) (offset : ℕ)
@@ -82,34 +85,34 @@ module _ (s t : List ℕ) {x : Data} (e : readSheet s ≡ accepted x) (f : readS
   same-mailboxes : (area : List ℕ) → mailboxPass s area ≡ mailboxPass t area
   same-mailboxes area = mailboxes-of s e area ∙ sym (mailboxes-of t f area)
 
-  same-pass : (ws : List ℕ) (r : PdoDirection) (offset : ℕ) (settings : Settings) (fmmus channels : List ℕ)
-      → dataPass s ws r offset settings fmmus channels ≡ dataPass t ws r offset settings fmmus channels
-  same-pass ws r offset settings fmmus channels = pass-of s e ws r offset settings fmmus channels ∙ sym (pass-of t f ws r offset settings fmmus channels)
+  same-pass : (ws : List ℕ) (k : Chosen) (r : PdoDirection) (offset : ℕ) (settings : Settings) (fmmus channels : List ℕ)
+      → dataPass s ws k r offset settings fmmus channels ≡ dataPass t ws k r offset settings fmmus channels
+  same-pass ws k r offset settings fmmus channels = pass-of s e ws k r offset settings fmmus channels ∙ sym (pass-of t f ws k r offset settings fmmus channels)
 
   passes-too :
-      (ws : List ℕ) (r : PdoDirection) (offset : PdiOffset) (settings : Settings) (fmmus channels : List ℕ)
+      (ws : List ℕ) (k : Chosen) (r : PdoDirection) (offset : PdiOffset) (settings : Settings) (fmmus channels : List ℕ)
       (answer : Placed) (offsetThen : PdiOffset) (fmmusThen channelsThen : List ℕ)
-      → Passes s ws r offset settings fmmus channels answer offsetThen fmmusThen channelsThen
-      → Passes t ws r offset settings fmmus channels answer offsetThen fmmusThen channelsThen
-  passes-too ws r offset settings fmmus channels answer offsetThen fmmusThen channelsThen p =
-      let o = same-pass ws r (offset .«start_address») settings fmmus channels in
+      → Passes s ws k r offset settings fmmus channels answer offsetThen fmmusThen channelsThen
+      → Passes t ws k r offset settings fmmus channels answer offsetThen fmmusThen channelsThen
+  passes-too ws k r offset settings fmmus channels answer offsetThen fmmusThen channelsThen p =
+      let o = same-pass ws k r (offset .«start_address») settings fmmus channels in
       record {
         says = p .says ∙ ap segmentAlone o;
         moves = p .moves ∙ ap (λ (o : Outcome Planned). offsetAfter o offset) o;
-        entries = p .entries ∙ ap₂ (λ (o : Outcome Planned) (d : Data). entriesAfter o d ws r (offset .«start_address») (settings .old) fmmus) o same-data;
+        entries = p .entries ∙ ap₂ (λ (o : Outcome Planned) (d : Data). entriesAfter o d ws k r (offset .«start_address») settings fmmus) o same-data;
         images = p .images ∙ ap₂ (λ (o : Outcome Planned) (d : Data). channelAreaAfter o d ws r channels) o same-data;
       }
 
   -- what is printed: the three passes one after the other
   pass-too : (r : PdoDirection) (offset : ℕ) (a : Areas) → pass s r offset a ≡ pass t r offset a
   pass-too r offset a =
-      ap (λ (ws : List ℕ). dataPass s ws r offset (clean 0) (a .fmmus) (a .channels)) (same-multipliers []) ∙ same-pass (once t) r offset (clean 0) (a .fmmus) (a .channels)
+      ap (λ (ws : List ℕ). dataPass s ws (chosenOf []) r offset (clean OwnNumber 0) (a .fmmus) (a .channels)) (same-multipliers []) ∙ same-pass (once t) (chosenOf []) r offset (clean OwnNumber 0) (a .fmmus) (a .channels)
 
   leaves-too : (r : PdoDirection) (offset : ℕ) (a : Areas) (p : Planned) → passLeaves s r offset a p ≡ passLeaves t r offset a p
   leaves-too r offset a p =
       λ i.
       areas
-      (entriesAfter (accepted p) (same-data i) (same-multipliers [] i) r offset (clean 0 .old) (a .fmmus))
+      (entriesAfter (accepted p) (same-data i) (same-multipliers [] i) (chosenOf []) r offset (clean OwnNumber 0) (a .fmmus))
       (channelAreaAfter (accepted p) (same-data i) (same-multipliers [] i) r (a .channels))
 
   outputs-too : (i : Planned) (a : Areas) → withOutputs s i a ≡ withOutputs t i a
@@ -140,9 +143,9 @@ module _ (s t : List ℕ) {x : Data} (e : readSheet s ≡ accepted x) (f : readS
         mailboxes = λ area r after p.
             let o = same-mailboxes area in
             record { says = p .says ∙ o; holds = p .holds ∙ ap₂ (λ (o : Outcome Recorded) (d : Data). mailboxArea o d area) o same-data };
-        passes = λ table r offset settings fmmus channels answer offsetThen fmmusThen channelsThen p.
-            passes-too (multipliersOf table (sheetData t .pdos)) r offset settings fmmus channels answer offsetThen fmmusThen channelsThen
-            (subst (λ (ws : List ℕ). Passes s ws r offset settings fmmus channels answer offsetThen fmmusThen channelsThen) (same-multipliers table) p);
+        passes = λ table pairs r offset settings fmmus channels answer offsetThen fmmusThen channelsThen p.
+            passes-too (multipliersOf table (sheetData t .pdos)) (chosenBy (settings .mode) pairs) r offset settings fmmus channels answer offsetThen fmmusThen channelsThen
+            (subst (λ (ws : List ℕ). Passes s ws (chosenBy (settings .mode) pairs) r offset settings fmmus channels answer offsetThen fmmusThen channelsThen) (same-multipliers table) p);
         counting = λ table r a offset.
             ap (λ (ws : List ℕ). count r a s ws offset) (same-multipliers table)
             ∙ count-of s e r a (multipliersOf table (sheetData t .pdos)) offset

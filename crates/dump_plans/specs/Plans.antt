@@ -14,22 +14,24 @@ use Rattle.pdo.specs.declared.Oversampling.{Oversampling}
 use Rattle.pdo.specs.Bits.{multipliersOf}
 use Rattle.mailboxes.specs.declared.MailboxAnswer.{MailboxAnswer}
 use Rattle.mailboxes.specs.Mailbox.{ConfiguresMailboxes}
+use Rattle.passes.specs.declared.FmmuPair.{FmmuPair}
 use Rattle.passes.specs.declared.Settings.{Settings}
+use Rattle.passes.specs.Use.{chosenBy}
 use Rattle.passes.specs.Pass.{Passes}
 use Rattle.counting.specs.Count.{count}
 use Rattle.report.specs.Plan.{Areas, reportText}
 use Rattle.dump.specs.Calls.{Call, given, sheetFrom}
 
--- what the mailbox pass and a data pass with any table promise for a sheet, what counting answers, and what `lockerplan` prints, they do for the other;
+-- what the mailbox pass and a data pass with any table and pairs promise for a sheet, what counting answers, and what `lockerplan` prints, they do for the other;
 -- and both hold the same data
 pub record PlannedAlike (s t : List ℕ) : Type 0 where
   pub holding : sheetData s ≡ sheetData t
   pub mailboxes : (area : List ℕ) (r : MailboxAnswer) (after : List ℕ) → ConfiguresMailboxes s area r after → ConfiguresMailboxes t area r after
   pub passes :
-      (table : List Oversampling) (r : PdoDirection) (offset : PdiOffset) (settings : Settings) (fmmus channels : List ℕ)
+      (table : List Oversampling) (pairs : List FmmuPair) (r : PdoDirection) (offset : PdiOffset) (settings : Settings) (fmmus channels : List ℕ)
       (answer : Placed) (offsetThen : PdiOffset) (fmmusThen channelsThen : List ℕ)
-      → Passes s (multipliersOf table (sheetData s .pdos)) r offset settings fmmus channels answer offsetThen fmmusThen channelsThen
-      → Passes t (multipliersOf table (sheetData t .pdos)) r offset settings fmmus channels answer offsetThen fmmusThen channelsThen
+      → Passes s (multipliersOf table (sheetData s .pdos)) (chosenBy (settings .mode) pairs) r offset settings fmmus channels answer offsetThen fmmusThen channelsThen
+      → Passes t (multipliersOf table (sheetData t .pdos)) (chosenBy (settings .mode) pairs) r offset settings fmmus channels answer offsetThen fmmusThen channelsThen
   pub counting :
       (table : List Oversampling) (r : PdoDirection) (a offset : ℕ)
       → count r a s (multipliersOf table (sheetData s .pdos)) offset ≡ count r a t (multipliersOf table (sheetData t .pdos)) offset

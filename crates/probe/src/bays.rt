@@ -3,13 +3,15 @@ use crate::parts;
 use crate::say;
 use crate::say::Line;
 use crate::table;
+use crate::table::Begin;
 use crate::table::Passed;
 use counting::Counted;
 use mailboxes::MailboxAnswer;
 use mailboxes::MailboxConfig;
 use mailboxes::Slot;
+use passes::FmmuMode;
+use passes::FmmuPair;
 use passes::OldEntries;
-use passes::Place;
 use passes::Settings;
 use pdi::PdiOffset;
 use pdi::PdiSegment;
@@ -145,35 +147,62 @@ pub fn keeping(request: &[u8]) -> Settings {
     Settings {
         group: parts::number4(request, 8),
         old: OldEntries::Keep,
+        mode: FmmuMode::OwnNumber,
     }
 }
 
-fn data_pass(request: &[u8], fmmus: &mut [u8], channels: &mut [u8], settings: Settings) -> Line {
+fn data_pass(
+    request: &[u8],
+    count: usize,
+    fmmus: &mut [u8],
+    channels: &mut [u8],
+    settings: Settings,
+    direction: PdoDirection,
+) -> Line {
     let done = table::plan(
         parts::sheet(request),
         parts::table(request),
         parts::records(request),
+        parts::pairs(request),
+        count,
         fmmus,
         channels,
-        Place {
+        Begin {
             offset: parts::offset(request),
             settings,
         },
-        parts::direction(request),
+        direction,
     );
     let answer = done.answer;
     passed(answer, done.next.start_address as u64)
 }
 
-// The data pass, over copies of both parts.
-pub fn pass(request: &[u8], settings: Settings) {
+// The data pass, lent so many of the request's pairs, over copies of the FMMU bytes and of the channel part.
+pub fn pass_over(
+    request: &[u8],
+    count: usize,
+    area: &[u8],
+    settings: Settings,
+    direction: PdoDirection,
+) {
     let mut entries = [0u8; 512];
     let mut images = [0u8; 512];
-    let fmmus = parts::copied(parts::fmmus(request), &mut entries);
+    let fmmus = parts::copied(area, &mut entries);
     let channels = parts::copied(parts::channels(request), &mut images);
-    say::line(data_pass(request, fmmus, channels, settings));
+    say::line(data_pass(request, count, fmmus, channels, settings, direction));
     say::then_bytes(fmmus);
     say::then_bytes(channels);
+}
+
+// Lent no pairs.
+pub fn pass(request: &[u8], settings: Settings) {
+    pass_over(
+        request,
+        0,
+        parts::fmmus(request),
+        settings,
+        parts::direction(request),
+    );
 }
 
 // A device address, or none.
@@ -272,24 +301,58 @@ pub fn plan(request: &[u8]) {
     say::text(wire::front(&text, without_end(answer)));
 }
 
+// What a plan is lent beside its sheet.
+struct Lists {
+    table: [Oversampling; 256],
+    records: usize,
+    pairs: [FmmuPair; 256],
+    count: usize,
+    mode: FmmuMode,
+}
+
+// Whether it is lent anything, or reads an empty list of pairs.
+fn lends(lists: Lists) -> bool {
+    if let FmmuMode::Paired = lists.mode {
+        return true;
+    }
+    0 < lists.records
+}
+
 // A data pass of a plan, by default, in group 0.
 fn plan_pass(
     sheet: &[u8],
-    table: [Oversampling; 256],
-    records: usize,
+    lists: Lists,
     fmmus: &mut [u8],
     channels: &mut [u8],
     offset: PdiOffset,
     direction: PdoDirection,
 ) -> Passed {
-    let place = Place {
-        offset,
-        settings: Settings::clean(0),
-    };
-    if records == 0 {
-        return table::plan_without_table(sheet, fmmus, channels, place, direction);
+    if !lends(lists) {
+        let begin = Begin {
+            offset,
+            settings: Settings::clean(0),
+        };
+        return table::plan_without_table(sheet, fmmus, channels, begin, direction);
     }
-    table::plan(sheet, table, records, fmmus, channels, place, direction)
+    let begin = Begin {
+        offset,
+        settings: Settings {
+            group: 0,
+            old: OldEntries::Clear,
+            mode: lists.mode,
+        },
+    };
+    table::plan(
+        sheet,
+        lists.table,
+        lists.records,
+        lists.pairs,
+        lists.count,
+        fmmus,
+        channels,
+        begin,
+        direction,
+    )
 }
 
 // Both segments, or the second pass's refusal.
@@ -306,7 +369,7 @@ fn both(inputs: PdiSegment, second: Placed) -> Line {
 }
 
 // Mailbox, input and output pass over areas of zeros, from offset 0 in group 0, up to the first refusal.
-fn plan_once(sheet: &[u8], table: [Oversampling; 256], records: usize) -> Line {
+fn plan_once(sheet: &[u8], lists: Lists) -> Line {
     let mut fmmus = [0u8; 256];
     let mut channels = [0u8; 128];
     if let MailboxAnswer::Refused(number) = mailboxes::configure_mailboxes(sheet, &mut channels) {
@@ -315,8 +378,7 @@ fn plan_once(sheet: &[u8], table: [Oversampling; 256], records: usize) -> Line {
     let start = PdiOffset { start_address: 0 };
     let first = plan_pass(
         sheet,
-        table,
-        records,
+        lists,
         &mut fmmus,
         &mut channels,
         start,
@@ -328,8 +390,7 @@ fn plan_once(sheet: &[u8], table: [Oversampling; 256], records: usize) -> Line {
         Placed::Segment(inputs) => {
             let second = plan_pass(
                 sheet,
-                table,
-                records,
+                lists,
                 &mut fmmus,
                 &mut channels,
                 next,
@@ -342,15 +403,29 @@ fn plan_once(sheet: &[u8], table: [Oversampling; 256], records: usize) -> Line {
     }
 }
 
+// Byte 1 says whether a plan goes by the pairs at the front of the FMMU part.
+fn lists_of(request: &[u8]) -> Lists {
+    let mode = match parts::direction(request) {
+        PdoDirection::MasterRead => FmmuMode::OwnNumber,
+        PdoDirection::MasterWrite => FmmuMode::Paired,
+    };
+    Lists {
+        table: parts::table(request),
+        records: parts::records(request),
+        pairs: parts::pairs(request),
+        count: parts::pair_count(request),
+        mode,
+    }
+}
+
 // The same plan over and over, for whoever counts its cost.
 pub fn again(request: &[u8]) {
     let sheet = parts::sheet(request);
-    let table = parts::table(request);
-    let records = parts::records(request);
+    let lists = lists_of(request);
     let mut last = say::one(say::NONE);
     let mut left = parts::number4(request, 4);
     while 0 < left {
-        last = plan_once(sheet, table, records);
+        last = plan_once(sheet, lists);
         left -= 1;
     }
     say::line(last);

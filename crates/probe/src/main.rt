@@ -3,6 +3,7 @@ mod arrivals;
 mod bays;
 mod dumps;
 mod numbers;
+mod paired;
 mod parts;
 mod records;
 mod say;
@@ -82,6 +83,8 @@ fn answer(letter: u8, request: &[u8], c: u32, times: u32) {
         b'm' => bays::mailboxes(request),
         b'p' => bays::pass(request, bays::by_default(request)),
         b'K' => bays::pass(request, bays::keeping(request)),
+        b'P' => paired::pass(request),
+        b'M' => paired::mappings(request),
         b'B' => bays::again(request),
         b'L' => bays::plan(request),
         b's' | b'f' | b'W' | b'y' | b'Z' => records::roomed(letter, request),

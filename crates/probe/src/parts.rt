@@ -1,4 +1,5 @@
 // What stands where in a request: a head of 28 bytes, then its parts without gaps.
+use passes::FmmuPair;
 use pdi::PdiOffset;
 use pdo::Oversampling;
 use pdo::PdoDirection;
@@ -98,6 +99,39 @@ pub fn table(request: &[u8]) -> [Oversampling; 256] {
         k += 1;
     }
     table
+}
+
+// How many pairs stand at the front of the FMMU part: as many as the room says, as far as they are whole.
+pub fn pair_count(request: &[u8]) -> usize {
+    wire::least(number2(request, 2) as usize, fmmus(request).len() / 2)
+}
+
+fn pair(bytes: &[u8]) -> FmmuPair {
+    FmmuPair {
+        fmmu: wire::byte_at(bytes, 0),
+        sync_manager: wire::byte_at(bytes, 1),
+    }
+}
+
+// The pairs, of which as many as `pair_count` says are the request's.
+pub fn pairs(request: &[u8]) -> [FmmuPair; 256] {
+    let mut pairs = [FmmuPair {
+        fmmu: 0,
+        sync_manager: 0,
+    }; 256];
+    let from = fmmus(request);
+    let count = wire::least(pair_count(request), 256);
+    let mut k = 0;
+    while k < count {
+        pairs[k] = pair(part(from, 2 * k, 2));
+        k += 1;
+    }
+    pairs
+}
+
+// What stands behind the pairs in the FMMU part.
+pub fn behind_pairs(request: &[u8]) -> &[u8] {
+    part(fmmus(request), 2 * pair_count(request), 512)
 }
 
 pub fn direction(request: &[u8]) -> PdoDirection {

@@ -1,10 +1,19 @@
-// The library's lent forms for a program that holds its offset and its table by value, of which `records` count, or has no table.
+// The library's lent forms for a program that holds its offset, its table and its pairs by value, of which so many count, or has none.
 use counting::Counted;
-use passes::Place;
+use passes::Chosen;
+use passes::FmmuMode;
+use passes::FmmuPair;
+use passes::Settings;
 use pdi::PdiOffset;
 use pdi::Placed;
 use pdo::Oversampling;
 use pdo::PdoDirection;
+
+// Where a pass begins, and how it is made.
+pub struct Begin {
+    pub offset: PdiOffset,
+    pub settings: Settings,
+}
 
 // What a pass hands back: its segment or a refusal, and the offset as it then is.
 pub struct Passed {
@@ -16,20 +25,24 @@ pub fn plan(
     sheet: &[u8],
     table: [Oversampling; 256],
     records: usize,
+    pairs: [FmmuPair; 256],
+    count: usize,
     fmmus: &mut [u8],
     channels: &mut [u8],
-    place: Place,
+    begin: Begin,
     direction: PdoDirection,
 ) -> Passed {
     let k = wire::least(records, 256);
-    let mut offset = place.offset;
+    let n = wire::least(count, 256);
+    let mut offset = begin.offset;
     let answer = lent::configure_fmmus(
         sheet,
         &table[..k],
+        &pairs[..n],
         fmmus,
         channels,
         &mut offset,
-        place.settings,
+        begin.settings,
         direction,
     );
     Passed {
@@ -38,23 +51,25 @@ pub fn plan(
     }
 }
 
-// The same without a table: none is copied to be lent.
+// The same without a table and without pairs: none is copied to be lent.
 pub fn plan_without_table(
     sheet: &[u8],
     fmmus: &mut [u8],
     channels: &mut [u8],
-    place: Place,
+    begin: Begin,
     direction: PdoDirection,
 ) -> Passed {
     let none: [Oversampling; 0] = [];
-    let mut offset = place.offset;
+    let no_pairs: [FmmuPair; 0] = [];
+    let mut offset = begin.offset;
     let answer = lent::configure_fmmus(
         sheet,
         &none,
+        &no_pairs,
         fmmus,
         channels,
         &mut offset,
-        place.settings,
+        begin.settings,
         direction,
     );
     Passed {
@@ -73,4 +88,9 @@ pub fn locate(
 ) -> Counted {
     let k = wire::least(records, 256);
     lent::count(sheet, &table[..k], offset, direction, address)
+}
+
+pub fn mappings(mode: FmmuMode, pairs: [FmmuPair; 256], count: usize) -> Chosen {
+    let n = wire::least(count, 256);
+    pairs::fmmu_mappings(mode, &pairs[..n])
 }
