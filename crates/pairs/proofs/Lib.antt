@@ -1,0 +1,4 @@
+-- Laws that belong to no one function.
+pub mod OneMore
+pub mod Prefix
+pub mod Unique
