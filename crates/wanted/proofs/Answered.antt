@@ -2,18 +2,21 @@
 -- Assumes nothing.
 use mathlib.Core.Path.{_≡_, refl, sym, _∙_, ap}
 use mathlib.Core.Bool.{Bool, true, false, cond}
-use mathlib.Core.List.{List, [], _∷_, _++_}
+use mathlib.Core.List.{List, [], _∷_}
 use Prim.Native.Nat.{ℕ}
-use Rattle.wire.specs.Outcome.{Outcome, refused, accepted, Refusal, first, decide}
+use Rattle.wire.specs.Outcome.{Outcome, refused, accepted, Refusal, when, first, decide}
 use Rattle.wire.proofs.Order.{never}
 use Rattle.sheet.specs.Sheet.{sheetRefusals, sheetData, answerOf}
 use Rattle.sheet.specs.declared.Answer.{Answer}
 use Rattle.sheet.specs.declared.Answer.the-variants.{Accepted, Refused}
 use Rattle.sheet.proofs.Kept.{Accepts, accepted-accepts}
 use Rattle.pdo.specs.declared.PdoDirection.{PdoDirection}
+use Rattle.passes.specs.declared.FmmuMode.{FmmuMode}
+use Rattle.passes.specs.declared.Chosen.{Chosen}
+use Rattle.passes.specs.Pairs.{badPairs}
 use Rattle.passes.specs.Pass.{wantedRefusals}
 use Rattle.wanted.specs.declared.Wanted.{Wanted}
-use Rattle.wanted.specs.Wanted.{wantedFrom, wantedAfter, Wants}
+use Rattle.wanted.specs.Wanted.{wantedFrom, wantedAfter, wantingRefusals, Wants}
 
 -- an answer as an outcome with nothing beside it
 says : {x y : Answer} → x ≡ y → answerOf {A = Unit {0}} x tt ≡ answerOf {A = Unit {0}} y tt
@@ -50,14 +53,18 @@ front {A} (r ∷ rs) o b e = go (r .holds) (front rs o b) e
     go true rest q = absurd (never (sym q))
     go false rest q = rest q
 
-module _ (sheet ws : List ℕ) (r : PdoDirection) (x : Wanted) (h : Wants sheet ws r x) where
-  abbrev pub allRefusals : List Refusal
-  allRefusals = sheetRefusals sheet ++ wantedRefusals (sheetData sheet) ws r
+module _ (mode : FmmuMode) (c : Chosen) (sheet ws : List ℕ) (r : PdoDirection) (x : Wanted) (h : Wants mode c sheet ws r x) where
+  abbrev all : List Refusal
+  all = wantingRefusals mode c sheet ws r
 
-  pub wanted-refused : (n : ℕ) → x .answer ≡ Refused n → refused n ≡ decide {A = Unit {0}} allRefusals tt
-  wanted-refused n e = refused-first allRefusals (wantedFrom (sheetData sheet) ws r) x n refl e h
+  abbrev w : Wanted
+  w = wantedFrom mode c (sheetData sheet) ws r
 
-  pub wanted-accepted : x .answer ≡ Accepted → Accepts sheet × (accepted tt ≡ decide {A = Unit {0}} allRefusals tt) × (x ≡ wantedFrom (sheetData sheet) ws r)
+  pub wanted-refused : (n : ℕ) → x .answer ≡ Refused n → refused n ≡ decide {A = Unit {0}} all tt
+  wanted-refused n e = refused-first all w x n refl e h
+
+  pub wanted-accepted : x .answer ≡ Accepted → Accepts sheet × (accepted tt ≡ decide {A = Unit {0}} all tt) × (x ≡ w)
   wanted-accepted e =
-      let all = accepted-all allRefusals (wantedFrom (sheetData sheet) ws r) x e h in
-      (accepted-accepts {A = Unit {0}} sheet tt tt (front (sheetRefusals sheet) (decide {A = Unit {0}} (wantedRefusals (sheetData sheet) ws r) tt) tt (all .0)), all .0, all .1)
+      let a = accepted-all all w x e h in
+      let later = when 18 (badPairs mode c (sheetData sheet) ws) ∷ wantedRefusals (sheetData sheet) ws r in
+      (accepted-accepts {A = Unit {0}} sheet tt tt (front (sheetRefusals sheet) (decide {A = Unit {0}} later tt) tt (a .0)), a .0, a .1)

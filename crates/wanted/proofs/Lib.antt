@@ -2,6 +2,8 @@
 pub mod Managers
 pub mod Sums
 pub mod Sized
+pub mod Surveying
+pub mod Judging
 pub mod Wanting
 pub mod Answered
 pub mod Unique

@@ -20,27 +20,24 @@ use Rattle.pdo.specs.Bits.{bitsOf}
 use Rattle.pdo.proofs.Bits.{at-most}
 use Rattle.pdo.proofs.Records.{product-bounded}
 use Rattle.pdo.proofs.Sums.{bits-turn, bits-end}
+use Rattle.wanted.specs.ByKind.{bitAt}
 
 abbrev noBits : BitLen
 noBits = record { 0 = 0 }
-
--- what stands for a number
-abbrev pub sumAt : List BitLen → ℕ → ℕ
-sumAt sums k = getD sums k noBits .0
 
 -- a record that fits, by the kind that it is known to have
 pub fits-as : (s : List ℕ) (more at kind : ℕ) → getD s at 0 ≡ kind → Fits s more at → kindFits kind (getD s (at + 4) 0) ≡ true
 fits-as s more at kind e f = subst (λ (k : ℕ). kindFits k (getD s (at + 4) 0) ≡ true) e (f .kind)
 
 -- one of the sums is written
-sum-set : (sums : List BitLen) (slot k v : ℕ) → slot < length sums → sumAt (set sums slot (record { 0 = sumAt sums slot + v })) k ≡ sumAt sums k + cond (eqb slot k) v 0
+sum-set : (sums : List BitLen) (slot k v : ℕ) → slot < length sums → bitAt (set sums slot (record { 0 = bitAt sums slot + v })) k ≡ bitAt sums k + cond (eqb slot k) v 0
 sum-set sums slot k v h = go (eqb slot k) refl
   where
-    go : (t : Bool) → eqb slot k ≡ t → sumAt (set sums slot (record { 0 = sumAt sums slot + v })) k ≡ sumAt sums k + cond t v 0
-    go true e = let s = eqb-true slot k e in rw (← s) (ap (λ (b : BitLen). b .0) (getD-set-same sums slot (record { 0 = sumAt sums slot + v }) noBits h))
+    go : (t : Bool) → eqb slot k ≡ t → bitAt (set sums slot (record { 0 = bitAt sums slot + v })) k ≡ bitAt sums k + cond t v 0
+    go true e = let s = eqb-true slot k e in rw (← s) (ap (λ (b : BitLen). b .0) (getD-set-same sums slot (record { 0 = bitAt sums slot + v }) noBits h))
     go false e =
-        ap (λ (b : BitLen). b .0) (getD-set-other sums slot k (record { 0 = sumAt sums slot + v }) noBits (λ s. eqb-false slot k e (sym s)))
-        ∙ sym (add-zero (sumAt sums k))
+        ap (λ (b : BitLen). b .0) (getD-set-other sums slot k (record { 0 = bitAt sums slot + v }) noBits (λ s. eqb-false slot k e (sym s)))
+        ∙ sym (add-zero (bitAt sums k))
 
 -- what counts or doesn't
 none : (t : Bool) (x : ℕ) → x ≡ 0 → cond t x 0 ≡ 0
@@ -81,13 +78,13 @@ module _ (s ws : List ℕ) (kind : ℕ) (asked : ℕ → Bool) where
     pub long : length sums ≡ 16
     pub within : i ≤ p
     pub fits : pdosFit s (p - i) place ≡ true
-    pub rest : (k : ℕ) → k < 16 → sumAt sums k + cond (asked k) (bitsFrom k (p - i) place i) 0 ≡ cond (asked k) (bitsOf kind k (pdosFrom s p at) ws) 0
-    pub small : (k : ℕ) → k < 16 → sumAt sums k ≤ 16711425 * i
+    pub rest : (k : ℕ) → k < 16 → bitAt sums k + cond (asked k) (bitsFrom k (p - i) place i) 0 ≡ cond (asked k) (bitsOf kind k (pdosFrom s p at) ws) 0
+    pub small : (k : ℕ) → k < 16 → bitAt sums k ≤ 16711425 * i
 
   -- before the first record
   pub tallied-start : (p at place : ℕ) → place ≡ at → pdosFit s p at ≡ true → Tallied p at (replicate 16 noBits) place 0
   tallied-start p at place e h =
-      let z : (k : ℕ) → k < 16 → sumAt (replicate 16 noBits) k ≡ 0 = λ k l. ap (λ (b : BitLen). b .0) (getD-replicate 16 k noBits noBits l) in
+      let z : (k : ℕ) → k < 16 → bitAt (replicate 16 noBits) k ≡ 0 = λ k l. ap (λ (b : BitLen). b .0) (getD-replicate 16 k noBits noBits l) in
       record {
         long = refl;
         within = omega arith;
@@ -117,17 +114,17 @@ module _ (s ws : List ℕ) (kind : ℕ) (asked : ℕ → Bool) where
       -- a record that counts is added to the sync manager that it names, its own bits v being multiplied by w
       pub tallied-here :
           (slot v w : ℕ) (then : List BitLen) → eqb (getD s place 0) kind && asked (getD s (place + 1) 0) ≡ true → slot ≡ getD s (place + 1) 0 → slot < 16
-          → v ≡ sum (pdoAt s place .lengths) → w ≡ getD ws i 1 → v ≤ 65535 → w ≤ 255 → then ≡ set sums slot (record { 0 = sumAt sums slot + v * w })
+          → v ≡ sum (pdoAt s place .lengths) → w ≡ getD ws i 1 → v ≤ 65535 → w ≤ 255 → then ≡ set sums slot (record { 0 = bitAt sums slot + v * w })
           → Tallied p at then next (i + 1)
       tallied-here slot v w then c es low ev ew bv bw e = subst (λ (x : List BitLen). Tallied p at x next (i + 1)) (sym e) more
         where
-          added : (k : ℕ) → sumAt (set sums slot (record { 0 = sumAt sums slot + v * w })) k ≡ sumAt sums k + cond (eqb slot k) (v * w) 0
+          added : (k : ℕ) → bitAt (set sums slot (record { 0 = bitAt sums slot + v * w })) k ≡ bitAt sums k + cond (eqb slot k) (v * w) 0
           added k = sum-set sums slot k (v * w) (omega (arith, t .long))
 
-          more : Tallied p at (set sums slot (record { 0 = sumAt sums slot + v * w })) next (i + 1)
+          more : Tallied p at (set sums slot (record { 0 = bitAt sums slot + v * w })) next (i + 1)
           more =
               record {
-                long = length-set sums slot (record { 0 = sumAt sums slot + v * w }) ∙ t .long;
+                long = length-set sums slot (record { 0 = bitAt sums slot + v * w }) ∙ t .long;
                 within = omega arith;
                 fits = others-fit;
                 rest = λ k h.
@@ -159,5 +156,5 @@ module _ (s ws : List ℕ) (kind : ℕ) (asked : ℕ → Bool) where
         ext-getD noBits sums (listOf f 16) (t .long ∙ sym (length-listOf f 16))
         (λ k l. let n : k < 16 = omega (arith, t .long) in
         let z : cond (asked k) (bitsFrom k (p - i) place i) 0 ≡ 0 = none (asked k) (bitsFrom k (p - i) place i) (bits-end s (drop i ws) kind k (p - i) place e) in
-        let y : sumAt sums k ≡ f k .0 = omega (arith, t .rest k n, z) in
+        let y : bitAt sums k ≡ f k .0 = omega (arith, t .rest k n, z) in
         (λ j. record { 0 = y j }) ∙ sym (getD-listOf f 16 k noBits n))

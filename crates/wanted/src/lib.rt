@@ -3,17 +3,20 @@ ghost use mathlib.Core.Path.{_≡_};
 ghost use mathlib.Core.Bool.{true, false, cond, _&&_};
 ghost use mathlib.Core.List.{[], _∷_};
 ghost use Prim.Native.Nat.{_+_, _≤_};
-ghost use lib.ListN.{length, getD};
+ghost use lib.ListN.{length, getD, set, replicate};
 ghost use lib.Dec.{eqb};
 ghost use Rattle.wire.specs.Lists.{sum};
 ghost use Rattle.wire.specs.Outcome as Outcome;
 ghost use Rattle.wire.specs.Outcome.{when, decide};
-ghost use Rattle.grammar.specs.Grammar.{usageCount, usagesPlace, nextPdo, kindFits, broken};
+ghost use Rattle.grammar.specs.Grammar.{managerCount, usageCount, usagesPlace, nextPdo, kindFits, broken};
 ghost use Rattle.sheet.specs.Device.{pdoAt};
 ghost use Rattle.sheet.specs.Sheet.{sheetData, answerOf};
+ghost use Rattle.pdo.specs.Direction as Direction;
+ghost use Rattle.pdo.specs.Direction.{usageOf, kindOf};
 ghost use Rattle.passes.specs.Use.{firstWith};
 ghost use Rattle.passes.specs.Handed.{hasUsage, routeBy};
 ghost use Rattle.wanted.specs.ByKind.{bitsIn, someTooWide, sizesIn, someSize, routedOf};
+ghost use Rattle.wanted.specs.Judged.{pairsRead, usesIn, comesAgain, withUse, Surveys, someShared, badChoice};
 ghost use Rattle.wanted.specs.Wanted.{noSizes, wantedAfter, Wants};
 use passes::Chosen;
 use passes::FmmuMode;
@@ -131,7 +134,8 @@ struct Sizes {
 }
 
 fn sizes_of(sheet: &[u8], bits: [BitLen; 16]) -> Sizes
-    requires { ⌜ (length (now sheet) ≤ 16386) × (broken (now sheet) ≡ false) ⌝ }
+    requires { ⌜ broken (now sheet) ≡ false ⌝ }
+    ensures { λ r. ⌜ (answerOf {A = Unit {0}} (r .answer) tt ≡ decide (when 6 (someTooWide bits (managerCount (now (sheet .entry)))) ∷ []) tt) × (r .list ≡ cond (someTooWide bits (managerCount (now (sheet .entry)))) noSizes (sizesIn bits (managerCount (now (sheet .entry))))) ⌝ }
 {
     let mut list = [ByteLen(0); 16];
     let n = wire::wide(grammar::manager_count(sheet));
@@ -210,10 +214,13 @@ fn route_by(mode: FmmuMode, chosen: Chosen) -> Route
             own: true,
             entries: [0u8; 16],
         },
-        FmmuMode::Paired => Route {
-            own: false,
-            entries: chosen.entries,
-        },
+        FmmuMode::Paired => {
+            let entries = chosen.entries;
+            Route {
+                own: false,
+                entries,
+            }
+        }
     }
 }
 
@@ -225,12 +232,15 @@ fn routed(
     sizes: [ByteLen; 16],
     mode: FmmuMode,
     chosen: Chosen,
-) -> Wanted {
+) -> Wanted
+    ensures { λ r. ⌜ r ≡ routedOf «coe» (eqb (firstWith usage (sheetData (now (sheet .entry)) .usages)) (usageCount (now (sheet .entry))) && someSize sizes) (record { own = false; entries = replicate 16 (firstWith usage (sheetData (now (sheet .entry)) .usages)) }) (routeBy mode chosen) sizes ⌝ }
+{
     if !coe {
+        let route = route_by(mode, chosen);
         return Wanted {
             answer: Answer::Accepted,
             sizes,
-            route: route_by(mode, chosen),
+            route,
         };
     }
     let entry = first_with(sheet, usage);
@@ -248,7 +258,9 @@ fn routed(
 }
 
 // Whether pairs are looked at: in the mode that reads them, on the EEPROM path.
-fn pairs_read(coe: bool, mode: FmmuMode) -> bool {
+fn pairs_read(coe: bool, mode: FmmuMode) -> bool
+    ensures { λ r. ⌜ r ≡ pairsRead «coe» mode ⌝ }
+{
     match mode {
         FmmuMode::OwnNumber => false,
         FmmuMode::Paired => !coe,
@@ -256,45 +268,95 @@ fn pairs_read(coe: bool, mode: FmmuMode) -> bool {
 }
 
 // The other direction.
-fn other(direction: PdoDirection) -> PdoDirection {
+fn other(direction: PdoDirection) -> PdoDirection
+    ensures { λ r. ⌜ r ≡ Direction.other direction ⌝ }
+{
     match direction {
         PdoDirection::MasterRead => PdoDirection::MasterWrite,
         PdoDirection::MasterWrite => PdoDirection::MasterRead,
     }
 }
 
-// The entries of a direction's sync managers that have bits: which are used, and whether one is left for another and used again.
+// The uses of entries that are seen so far: which entries are used, the first one's, and whether one is left for another and come back to.
 struct Entered {
     used: [bool; 16],
+    first: u8,
     interrupted: bool,
 }
 
+// Whether an entry is used; a number past the last one is no entry.
+fn is_used(used: [bool; 16], entry: u8) -> bool
+    ensures { λ r. ⌜ r ≡ getD used entry false ⌝ }
+{
+    if 15 < entry {
+        return false;
+    }
+    used[wire::wide(entry)]
+}
+
+// Whether an entry is come back to, once a use of one is seen in front of the others.
+fn comes_again(seen: Entered, entry: u8) -> bool
+    ensures { λ r. ⌜ r ≡ comesAgain seen entry ⌝ }
+{
+    if seen.interrupted {
+        return true;
+    }
+    if seen.first == entry {
+        return false;
+    }
+    let used = seen.used;
+    is_used(used, entry)
+}
+
+// The entries that are used once one more is.
+fn with_entry(used: [bool; 16], entry: u8) -> [bool; 16]
+    ensures { λ r. ⌜ r ≡ set used entry true ⌝ }
+{
+    let mut after = used;
+    if 15 < entry {
+        return after;
+    }
+    after[wire::wide(entry)] = true;
+    after
+}
+
+// What is known once a use is seen in front of the others.
+fn with_use(seen: Entered, entry: u8) -> Entered
+    ensures { λ r. ⌜ r ≡ withUse seen entry ⌝ }
+{
+    let used = seen.used;
+    let after = with_entry(used, entry);
+    let interrupted = comes_again(seen, entry);
+    Entered {
+        used: after,
+        first: entry,
+        interrupted,
+    }
+}
+
 // The entry of each number that has bits, from the last number to the first.
-fn survey(bits: [BitLen; 16], entries: [u8; 16]) -> Entered {
-    let mut used = [false; 16];
-    let mut interrupted = false;
-    let mut next = 0;
+fn survey(bits: [BitLen; 16], entries: [u8; 16]) -> Entered
+    ensures { λ r. ⌜ Surveys (usesIn entries bits) r ⌝ }
+{
+    let mut seen = Entered {
+        used: [false; 16],
+        first: 0,
+        interrupted: false,
+    };
     let mut k = 16;
     while 0 < k {
         k -= 1;
         if 0 < bits[k].0 {
-            let e = entries[k];
-            if e < 16 {
-                if used[wire::wide(e)] {
-                    if next != e {
-                        interrupted = true;
-                    }
-                }
-                used[wire::wide(e)] = true;
-            }
-            next = e;
+            seen = with_use(seen, entries[k]);
         }
     }
-    Entered { used, interrupted }
+    seen
 }
 
 // Whether some entry is used by both.
-fn some_shared(one: [bool; 16], two: [bool; 16]) -> bool {
+fn some_shared(one: [bool; 16], two: [bool; 16]) -> bool
+    ensures { λ r. ⌜ r ≡ someShared one two ⌝ }
+{
     let mut k = 0;
     while k < 16 {
         if one[k] {
@@ -307,7 +369,7 @@ fn some_shared(one: [bool; 16], two: [bool; 16]) -> bool {
     false
 }
 
-// 18: a number above 15, an entry of both directions, or one of a direction left for another and used again. Lent the bits of one direction.
+// 18: a number above 15, an entry of both directions, or one of a direction left for another and come back to. Given the bits of one direction.
 fn bad_pairs(
     sheet: &[u8],
     multipliers: &[u8],
@@ -316,21 +378,25 @@ fn bad_pairs(
     chosen: Chosen,
 ) -> bool
     requires { ⌜ (length (now sheet) ≤ 16386) × (broken (now sheet) ≡ false) ⌝ }
+    ensures { λ r. ⌜ r ≡ badChoice chosen bits (bitsIn (now (sheet .entry)) (kindOf (Direction.other direction)) (usageOf (Direction.other direction)) (now (multipliers .entry))) ⌝ }
 {
     if chosen.above {
         return true;
     }
-    let these = survey(bits, chosen.entries);
+    let entries = chosen.entries;
+    let these = survey(bits, entries);
     if these.interrupted {
         return true;
     }
     let terms = other(direction).filter_terms();
     let others = tally(sheet, terms.kind, terms.usage, multipliers);
-    let those = survey(others, chosen.entries);
+    let those = survey(others, entries);
     if those.interrupted {
         return true;
     }
-    some_shared(these.used, those.used)
+    let one = these.used;
+    let two = those.used;
+    some_shared(one, two)
 }
 
 // What a direction's pass of a sheet wants. Lent a multiplier for each PDO; one that is lacking is 1.
@@ -344,8 +410,8 @@ pub fn wanted_of(
     ensures { λ r. ⌜ Wants mode chosen (now (sheet .entry)) (now (multipliers .entry)) direction r ⌝ }
 {
     let sound = sheet::check(sheet);
-    if let Answer::Refused(number) = sound {
-        return refused(number);
+    if let Answer::Refused(broken) = sound {
+        return refused(broken);
     }
     let terms = direction.filter_terms();
     let coe = pdo::coe_on(sheet);
