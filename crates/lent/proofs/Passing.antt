@@ -8,6 +8,7 @@ use Rattle.pdi.specs.declared.PdiOffset.{PdiOffset}
 use Rattle.pdi.specs.declared.PdiSegment.{PdiSegment}
 use Rattle.pdi.specs.declared.Placed.the-variants.{Segment, Refused}
 use Rattle.pdo.specs.declared.PdoDirection.{PdoDirection}
+use Rattle.passes.specs.declared.Chosen.{Chosen}
 use Rattle.passes.specs.declared.Configured.{Configured}
 use Rattle.passes.specs.declared.Configured.the-variants.{Mapped}
 use Rattle.passes.specs.declared.Configured.the-variants.{Refused as Stopped}
@@ -15,14 +16,14 @@ use Rattle.passes.specs.declared.Settings.{Settings}
 use Rattle.passes.specs.Entries.{Planned, configuredOf}
 use Rattle.passes.specs.Pass.{Configures, Passes, segmentAlone, offsetAfter}
 
-module _ {sheet ws : List ℕ} {r : PdoDirection} (offset : PdiOffset) {settings : Settings} {fmmus channels : List ℕ} {answer : Configured} {fmmusThen channelsThen : List ℕ}
-    (c : Configures sheet ws r (offset .«start_address») settings fmmus channels answer fmmusThen channelsThen) where
-  pub mapped : (s : PdiSegment) (next : PdiOffset) → answer ≡ Mapped s next → Passes sheet ws r offset settings fmmus channels (Segment s) next fmmusThen channelsThen
+module _ {sheet ws : List ℕ} {k : Chosen} {r : PdoDirection} (offset : PdiOffset) {settings : Settings} {fmmus channels : List ℕ} {answer : Configured} {fmmusThen channelsThen : List ℕ}
+    (c : Configures sheet ws k r (offset .«start_address») settings fmmus channels answer fmmusThen channelsThen) where
+  pub mapped : (s : PdiSegment) (next : PdiOffset) → answer ≡ Mapped s next → Passes sheet ws k r offset settings fmmus channels (Segment s) next fmmusThen channelsThen
   mapped s next e =
       let o = sym (ap configuredOf e) ∙ c .says in
       record { says = ap segmentAlone o; moves = ap (λ (p : Outcome Planned). offsetAfter p offset) o; entries = c .entries; images = c .images }
 
-  pub stopped : (n : ℕ) → answer ≡ Stopped n → Passes sheet ws r offset settings fmmus channels (Refused n) offset fmmusThen channelsThen
+  pub stopped : (n : ℕ) → answer ≡ Stopped n → Passes sheet ws k r offset settings fmmus channels (Refused n) offset fmmusThen channelsThen
   stopped n e =
       let o = sym (ap configuredOf e) ∙ c .says in
       record { says = ap segmentAlone o; moves = ap (λ (p : Outcome Planned). offsetAfter p offset) o; entries = c .entries; images = c .images }

@@ -10,6 +10,7 @@ use Rattle.sheet.specs.Sheet.{sheetData}
 use Rattle.pdi.specs.declared.PdiOffset.{PdiOffset}
 use Rattle.pdi.specs.declared.Placed.{Placed}
 use Rattle.pdo.specs.Bits.{multipliersOf}
+use Rattle.passes.specs.Use.{chosenBy}
 use Rattle.passes.specs.Pass.{Passes}
 use Rattle.passes.proofs.Once.{passes-once}
 use Rattle.counting.specs.Count as meaning
@@ -24,14 +25,14 @@ leaves r o fmmus channels = (r, o, fmmus, channels)
 
 abbrev pub PassesOn : Saying configure-fmmus.ended
 PassesOn κs a r s =
-    Passes (now (a .0)) (multipliersOf (now (a .1 .0)) (sheetData (now (a .0)) .pdos)) (a .1 .1 .1 .1 .1 .1 .0) (now (a .1 .1 .1 .1 .0)) (a .1 .1 .1 .1 .1 .0) (now (a .1 .1 .0)) (now (a .1 .1 .1 .0))
-    r (now (s .1 .1 .1 .1 .0)) (now (s .1 .1 .0)) (now (s .1 .1 .1 .0))
+    Passes (now (a .0)) (multipliersOf (now (a .1 .0)) (sheetData (now (a .0)) .pdos)) (chosenBy (a .1 .1 .1 .1 .1 .1 .0 .mode) (now (a .1 .1 .0))) (a .1 .1 .1 .1 .1 .1 .1 .0)
+    (now (a .1 .1 .1 .1 .1 .0)) (a .1 .1 .1 .1 .1 .1 .0) (now (a .1 .1 .1 .0)) (now (a .1 .1 .1 .1 .0)) r (now (s .1 .1 .1 .1 .1 .0)) (now (s .1 .1 .1 .0)) (now (s .1 .1 .1 .1 .0))
 
 pub configure-fmmus-states : States configure-fmmus.ended (λ M 𝓤 H. configure-fmmus.clauses 𝓤 H) PassesOn
 configure-fmmus-states M 𝓤 H A mem run κs a r s g = refl
 
-pub configure-fmmus-pins : Pins PassesOn (λ κs r s. leaves r (now (s .1 .1 .1 .1 .0)) (now (s .1 .1 .0)) (now (s .1 .1 .1 .0)))
-configure-fmmus-pins κs a x y s t p q = passes-once _ _ _ _ _ _ _ x y _ _ _ _ _ _ p q
+pub configure-fmmus-pins : Pins PassesOn (λ κs r s. leaves r (now (s .1 .1 .1 .1 .1 .0)) (now (s .1 .1 .1 .0)) (now (s .1 .1 .1 .1 .0)))
+configure-fmmus-pins κs a x y s t p q = passes-once _ _ _ _ _ _ _ _ x y _ _ _ _ _ _ p q
 
 abbrev pub CountsBy : Saying count.ended
 CountsBy κs a r s = countedOf r ≡ meaning.count (a .1 .1 .1 .0) (a .1 .1 .1 .1 .0) (now (a .0)) (multipliersOf (now (a .1 .0)) (sheetData (now (a .0)) .pdos)) (a .1 .1 .0 .«start_address»)

@@ -1,4 +1,4 @@
-// What `lockerplan` prints of a bay: its sheet is planned over the areas that it hands over, from offset 0 in group 0, with no oversampling.
+// What `lockerplan` prints of a bay: its sheet is planned over the areas that it hands over, from offset 0 in group 0, with no oversampling and no pairs.
 ghost use mathlib.Core.Path.{_≡_};
 ghost use mathlib.Core.List.{[]};
 ghost use Rattle.wire.specs.Room.{InRoom, textIn};
@@ -24,7 +24,7 @@ enum Plan {
     Refused(u8),
 }
 
-// A data pass by default, in group 0, with no oversampling.
+// A data pass by default, in group 0, with no oversampling and no pairs.
 fn data_pass(
     sheet: &[u8],
     fmmus: &mut [u8],

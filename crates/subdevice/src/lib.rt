@@ -23,7 +23,9 @@ pub fn pass(
         return Configured::Refused(1);
     }
     let settings = place.settings;
-    let wanted = wanted::wanted_of(sheet, multipliers, direction, settings.mode, place.chosen);
+    let mode = settings.mode;
+    let chosen = place.chosen;
+    let wanted = wanted::wanted_of(sheet, multipliers, direction, mode, chosen);
     let answer = wanted.answer;
     if let Answer::Refused(number) = answer {
         return Configured::Refused(number);

@@ -1,4 +1,4 @@
--- `subdevice::pass`: 1, then what the pass wants decides 2 to 7, then the entries decide; the images are written last.
+-- `subdevice::pass`: 1, then what the pass wants decides 2 to 7 and 18, then the entries decide; the images are written last.
 -- Assumes nothing.
 use mathlib.Core.Path.{ap}
 use denote.Ref.{now}
@@ -8,22 +8,25 @@ use Rattle.subdevice.proofs.Passing.{entries-wrong, channels-wrong, one
 use Rattle.subdevice.proofs.pass.Statement.{statement}
 use Rattle.subdevice.proofs.pass.Tie as tie
 
--- where the call began
+-- where both lengths are right, and where the call began
+abbrev lengths : tie.After-wanted-of → tie.Else2
+lengths c = c .before .before .before
+
 abbrev start : tie.After-wanted-of → tie.Start
-start c = c .before .before .before .before .before .before .before
+start c = lengths c .before .before .before .before .before .before
 
 returns : tie.Need-returns
 returns c =
     let s = c .before .before .before .before .before in
     let a = s .args in
-    one-configures (now (a .sheet)) (now (a .multipliers)) (a .direction) (a .place .offset .«start_address») (a .place .settings) (now (a .fmmus)) (now (a .channels))
+    one-configures (now (a .sheet)) (now (a .multipliers)) (a .place .chosen) (a .direction) (a .place .offset .«start_address») (a .place .settings) (now (a .fmmus)) (now (a .channels))
     (entries-wrong (now (a .fmmus)) (now (a .channels)) (c .if1 .taken))
 
 returns-2 : tie.Need-returns-2
 returns-2 c =
     let s = c .before .before .before .before .before .before in
     let a = s .args in
-    one-configures (now (a .sheet)) (now (a .multipliers)) (a .direction) (a .place .offset .«start_address») (a .place .settings) (now (a .fmmus)) (now (a .channels))
+    one-configures (now (a .sheet)) (now (a .multipliers)) (a .place .chosen) (a .direction) (a .place .offset .«start_address») (a .place .settings) (now (a .fmmus)) (now (a .channels))
     (channels-wrong (now (a .fmmus)) (now (a .channels)) (c .before .if1 .left) (c .if2 .taken))
 
 wanted-of-requires : tie.Need-wanted-of-requires
@@ -37,8 +40,8 @@ returns-3 c =
     let v = c .before .before .before in
     let a = start v .args in
     let n = c .before .answer .given in
-    unwanted-configures (now (a .sheet)) (now (a .multipliers)) (a .direction) (a .place .offset .«start_address») (a .place .settings) (now (a .fmmus)) (now (a .channels))
-    (v .before .before .if1 .left) (v .before .if2 .left) (v .wanted-of .result) (v .wanted-of .ensures) (n .0 .0) (n .1)
+    unwanted-configures (now (a .sheet)) (now (a .multipliers)) (a .place .chosen) (a .direction) (a .place .offset .«start_address») (a .place .settings) (now (a .fmmus)) (now (a .channels))
+    (lengths v .before .if1 .left) (lengths v .if2 .left) (v .wanted-of .result) (v .wanted-of .ensures) (n .0 .0) (n .1)
 
 enum-told : tie.Need-enum-told
 enum-told c = search needs
@@ -73,8 +76,8 @@ returns-4 c =
     let v = e .before .before in
     let a = start v .args in
     let s = g .segment .given in
-    mapped-configures (now (a .sheet)) (now (a .multipliers)) (a .direction) (a .place .offset .«start_address») (a .place .settings) (now (a .fmmus)) (now (a .channels))
-    (v .before .before .if1 .left) (v .before .if2 .left) (v .wanted-of .result) (v .wanted-of .ensures) (e .enum-told .given .1)
+    mapped-configures (now (a .sheet)) (now (a .multipliers)) (a .place .chosen) (a .direction) (a .place .offset .«start_address») (a .place .settings) (now (a .fmmus)) (now (a .channels))
+    (lengths v .before .if1 .left) (lengths v .if2 .left) (v .wanted-of .result) (v .wanted-of .ensures) (e .enum-told .given .1)
     (w .write-entries .last .0) (w .write-entries .result) (w .write-entries .ensures)
     (s .0 .0) (s .0 .1 .0) (i .write-channels .last .0) (s .1) (ap (λ (t : Terms). t .usage) (i .before .filter-terms .ensures)) (i .write-channels .ensures)
 
@@ -88,8 +91,8 @@ returns-5 c =
     let v = e .before .before in
     let a = start v .args in
     let n = c .before .number .given in
-    refused-configures (now (a .sheet)) (now (a .multipliers)) (a .direction) (a .place .offset .«start_address») (a .place .settings) (now (a .fmmus)) (now (a .channels))
-    (v .before .before .if1 .left) (v .before .if2 .left) (v .wanted-of .result) (v .wanted-of .ensures) (e .enum-told .given .1)
+    refused-configures (now (a .sheet)) (now (a .multipliers)) (a .place .chosen) (a .direction) (a .place .offset .«start_address») (a .place .settings) (now (a .fmmus)) (now (a .channels))
+    (lengths v .before .if1 .left) (lengths v .if2 .left) (v .wanted-of .result) (v .wanted-of .ensures) (e .enum-told .given .1)
     (w .write-entries .last .0) (w .write-entries .result) (w .write-entries .ensures) (n .0 .0) (n .1)
 
 pub pass-spec : {M : Type 1} → statement M

@@ -172,7 +172,7 @@ module _ {M : Type 1} (𝓤 : URA M) (H : Heap 𝓤) (A : Atoms 𝓤) (W : Given
 
   -- what the pass says
   abbrev Said : List ℕ → Done → List ℕ → List ℕ → Type 0
-  Said ws r fs cs = Passes (x .now) ws d (at .offset) (at .settings) (y .now) (z .now) (r .answer) (r .next) fs cs
+  Said ws r fs cs = Passes (x .now) ws (at .chosen) d (at .offset) (at .settings) (y .now) (z .now) (r .answer) (r .next) fs cs
 
   -- what is had at exit
   abbrev left-with : Done → Val → List ℕ → List ℕ → List (Item 𝓤)
