@@ -1,7 +1,7 @@
 """Requests to data passes that go by pairs (document 02, 6/13): what a list chooses, and what the passes then write.
 
 The first pair for a sync manager, none for it, sync managers of 0 bits, sharing, lists that aren't read, 8 and 15 by what a
-pair chooses, old entries, passes one after another, the old mode.
+pair chooses, old entries, passes one after another, the old mode; ask_eighteen.py has 18.
 """
 
 from ask_old import BOTH, MIXED, left, left_by, other, own

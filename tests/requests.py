@@ -10,6 +10,7 @@ import sys
 from pathlib import Path
 
 import ask_dump
+import ask_eighteen
 import ask_old
 import ask_pairs
 import ask_passes
@@ -96,7 +97,7 @@ def others():
 
 def ask():
     """Each request with its name, in the order of the stream."""
-    sheets, passes = (ask_sheets, ask_portions, ask_writer, ask_dump), (ask_passes, ask_old, ask_pairs)
+    sheets, passes = (ask_sheets, ask_portions, ask_writer, ask_dump), (ask_passes, ask_old, ask_pairs, ask_eighteen)
     files = (ask_registers, *sheets, *passes, ask_sides)
     for part in (*(file.ask for file in files), lessons, programs, crate, others):
         yield from part()
