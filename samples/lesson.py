@@ -8,8 +8,12 @@
     python3 samples/lesson.py group         an input pass in a group that doesn't begin at 0
     python3 samples/lesson.py exercise-6    the pass of docs/EXERCISES.md's exercise 6
     python3 samples/lesson.py exercise-7    that of exercise 7
+    python3 samples/lesson.py exercise-10   those of exercise 10
     python3 samples/lesson.py portions      the sheet of bay.hex in portions, one of them into too short a room
     python3 samples/lesson.py write         the sheet of bay.hex written from its data, and what writing again changes
+    python3 samples/lesson.py pairs-chosen  which FMMU each sync manager of a bay has by a list of pairs
+    python3 samples/lesson.py pairs         two inputs on one FMMU by a pair, end to end and with a gap
+    python3 samples/lesson.py pairs-refused pairs that can't be planned by, and how to mend them
     python3 samples/lesson.py refused       the smallest calls for the numbers that a sheet alone can't cause
 
 The program is built first where that is needed, which takes minutes the first time.
@@ -76,19 +80,24 @@ def outcome(line):
     return " ".join(line.split()[:2]) if line.startswith("refused") else segment(line)
 
 
-def entry_one(line):
+def entry_text(e, line):
     """An answer of the letter R."""
-    return "FMMU1: " + Fmmu(*map(int, line.split())).text()
+    return f"FMMU{e}: " + Fmmu(*map(int, line.split())).text()
 
 
 def fmmus_after(line):
     return bytes.fromhex(line.split()[4])
 
 
+def image(fmmus, e):
+    """The sixteen bytes of an entry."""
+    return fmmus[16 * e : 16 * e + 16]
+
+
 # ---- the lessons: each asks, and yields lines
 
 
-DEFAULT, KEEPING = "p", "K"
+DEFAULT, KEEPING, BY_PAIRS = "p", "K", "P"
 WAYS = {"keeping": KEEPING, "by default": DEFAULT}
 
 
@@ -104,15 +113,23 @@ def gap(ask):
     yield from map(both_ways, lines)
 
 
+def outcomes(ask, asked):
+    """The segment of each pass, or its refusal."""
+    for (name, _), [line] in zip(asked, ask(asked)):
+        yield f"{name}: {outcome(line)}"
+
+
 def both_ways_on(ask, name, inputs, bay):
-    """An input pass that is accepted: its segment, entry 1, and both ways for a bay's sheet, counted from an offset."""
+    """An input pass that is accepted: its segment, its entries, and both ways for a bay's sheet, counted from an offset."""
     [[passed]] = ask([(f"{name}: the input pass", inputs)])
     after = fmmus_after(passed)
     offset, counted = bay
     both = Request("A", a=offset, times=inputs.a + 7, sheet=counted, fmmus=after)
-    [[read], lines] = ask([(f"{name}: entry 1", Request("R", fmmus=after[16:32])), (f"{name}: both ways", both)])
+    written = [e for e in range(16) if any(image(after, e))]
+    entries = [(f"{name}: entry {e}", Request("R", fmmus=image(after, e))) for e in written]
+    *read, lines = ask([*entries, (f"{name}: both ways", both)])
     yield segment(passed)
-    yield entry_one(read)
+    yield from (entry_text(e, line) for e, [line] in zip(written, read))
     yield from map(both_ways, lines)
 
 
@@ -137,9 +154,7 @@ OLD = [
 
 
 def in_the_way(ask):
-    asked = [(name, input_pass(fmmus, a=5, sheet=SAMPLE)) for name, fmmus in OLD]
-    for (name, _), [line] in zip(OLD, ask(asked)):
-        yield f"{name}: {outcome(line)}"
+    return outcomes(ask, [(name, input_pass(fmmus, a=5, sheet=SAMPLE)) for name, fmmus in OLD])
 
 
 # a board of two bytes behind SM4 of bay.hex: a sheet that plans it alone, and one of the whole bay
@@ -151,10 +166,10 @@ WITH_BOARD = on_coe(coe(3, 0x1A00, 17), coe(4, 0x1A01, 9), coe(5, 0x1A02, 16), r
 
 def repair(ask):
     [[passed]] = ask([("repair: the bay in service", input_pass(sheet=SAMPLE))])
-    [[read]] = ask([("repair: entry 1 in service", Request("R", fmmus=fmmus_after(passed)[16:32]))])
+    [[read]] = ask([("repair: entry 1 in service", Request("R", fmmus=image(fmmus_after(passed), 1)))])
     yield "in service:"
     yield segment(passed)
-    yield entry_one(read)
+    yield entry_text(1, read)
     for name, way in WAYS.items():
         yield f"{name}:"
         board = input_pass(fmmus_after(passed), way, a=5, sheet=BOARD_ALONE)
@@ -163,9 +178,9 @@ def repair(ask):
 
 def in_group(ask, start, offset):
     [[passed]] = ask([(f"group {start}: the input pass", input_pass(a=offset, b=start, sheet=SAMPLE))])
-    [[read]] = ask([(f"group {start}: entry 1", Request("R", fmmus=fmmus_after(passed)[16:32]))])
+    [[read]] = ask([(f"group {start}: entry 1", Request("R", fmmus=image(fmmus_after(passed), 1)))])
     yield segment(passed)
-    yield entry_one(read)
+    yield entry_text(1, read)
 
 
 def group(ask):
@@ -236,8 +251,105 @@ def write(ask):
     yield f"bay.hex with n raised to 17: {said(raised)}"
 
 
-# one input of one bit, on entry 0
-ONE_BIT = on_eeprom(eeprom(1, 0, 0x1A00, 1), rows=managers((0x1180, 0x20, 1, 4)))
+# ---- pairs: each an FMMU's number and a sync manager's
+
+
+def listed(lent):
+    return bytes(number for pair in lent for number in pair)
+
+
+def in_words(lent):
+    return ", ".join(f"FMMU{fmmu} for SM{manager}" for fmmu, manager in lent)
+
+
+def by_pairs(lent, data):
+    """An input pass on fresh registers, which stand behind the pairs."""
+    return input_pass(listed(lent) + area(), BY_PAIRS, room=len(lent), sheet=data)
+
+
+def with_start(data, manager, start):
+    """A sheet in which a sync manager starts elsewhere: a record has five bytes, and the first stands behind eleven."""
+    at = 11 + 5 * manager
+    return data[:at] + packed([start], [2]) + data[at + 2 :]
+
+
+def with_pdo(data, pdo):
+    """A sheet with one PDO more, which L and p count."""
+    length = packed([len(data) - 2 + len(pdo)], [2])
+    return length + data[2:10] + bytes([data[10] + 1]) + data[11:] + pdo
+
+
+LISTS = [[(1, 2)], [(2, 1)], [(5, 2)], [(2, 5)], [(5, 2), (1, 2)]]
+
+
+def pairs_chosen(ask):
+    """As the lists are written, and what they give to a bay of three sync managers."""
+    asked = [(f"the list {in_words(lent)}", Request("M", room=len(lent), fmmus=listed(lent))) for lent in LISTS]
+    for lent, [line] in zip(LISTS, ask(asked)):
+        written = ", ".join(f"{fmmu} {manager}" for fmmu, manager in lent)
+        given = ", ".join(f"SM{manager} on FMMU{fmmu}" for manager, fmmu in enumerate(line.split()[:3]))
+        yield f"{written}: {given}"
+
+
+GAP = sample("gap-eeprom")
+CLOSED = with_start(GAP, 2, 0x1183)
+TO_SHARE, TO_MOVE = [(1, 2)], [(5, 2)]
+PLANNED = [
+    ("by own numbers, SM2 at 0x1183", input_pass(sheet=CLOSED)),
+    (f"{in_words(TO_SHARE)}, SM2 at 0x1183", by_pairs(TO_SHARE, CLOSED)),
+    (f"{in_words(TO_SHARE)}, SM2 at 0x1190", by_pairs(TO_SHARE, GAP)),
+    (f"{in_words(TO_MOVE)}, SM2 at 0x1190", by_pairs(TO_MOVE, GAP)),
+]
+
+
+def pairs(ask):
+    for name, inputs in PLANNED:
+        yield f"{name}:"
+        yield from both_ways_on(ask, name, inputs, (0, inputs.sheet))
+
+
+# a third input behind the two: SM3, a byte at 0x1185
+THIRD = on_eeprom(
+    eeprom(1, 1, 0x1A00, 17),
+    eeprom(1, 2, 0x1A01, 9),
+    eeprom(1, 3, 0x1A02, 8),
+    eeprom(2, 0, 0x1600, 16),
+    rows=managers((0x1100, 0x64, 1, 3), (0x1180, 0x20, 1, 4), (0x1183, 0x20, 1, 4), (0x1185, 0x20, 1, 4)),
+)
+TRIED = [[(16, 2)], [(1, 16)], [(0, 1)], [(0, 1), (1, 0)], [(1, 3)], [(1, 2), (1, 3)]]
+
+
+def pairs_refused(ask):
+    return outcomes(ask, [(in_words(lent), by_pairs(lent, THIRD)) for lent in TRIED])
+
+
+# eeprom.hex, the same with SM5 elsewhere, and with bits for SM4
+EMPTY_BETWEEN = sample("eeprom")
+NEARER = with_start(EMPTY_BETWEEN, 5, 0x1202)
+FILLED = with_pdo(EMPTY_BETWEEN, eeprom(1, 4, 0x1A02, 8))
+SHARED = [(3, 5)]
+
+
+def exercise_10(ask):
+    for name, data in ((in_words(SHARED), EMPTY_BETWEEN), (f"{in_words(SHARED)}, SM5 at 0x1202", NEARER)):
+        yield f"{name}:"
+        yield from both_ways_on(ask, name, by_pairs(SHARED, data), (0, data))
+    tried = [
+        ("", [(2, 5)], EMPTY_BETWEEN),
+        (", SM4 of 8 bits", SHARED, FILLED),
+        (", SM4 of 8 bits", [(3, 4), *SHARED], FILLED),
+    ]
+    yield from outcomes(ask, [(in_words(lent) + told, by_pairs(lent, data)) for told, lent, data in tried])
+
+
+# ---- refusals
+
+
+# sync managers of one bit each: an input, an input and an output, three inputs
+BIT_IN, BIT_OUT = (0x1180, 0x20, 1, 4), (0x1100, 0x64, 1, 3)
+ONE_BIT = on_eeprom(eeprom(1, 0, 0x1A00, 1), rows=managers(BIT_IN))
+BIT_EACH = on_eeprom(eeprom(1, 0, 0x1A00, 1), eeprom(2, 1, 0x1600, 1), rows=managers(BIT_IN, BIT_OUT))
+THREE_BITS = on_eeprom(*[eeprom(1, k, 0x1A00 + k, 1) for k in range(3)], rows=managers(*[BIT_IN] * 3))
 NO_PARTS = sheet(0, 0, 0)
 FULL, BOTH_BITS, OUTPUTS = (area(entry(0, length, 0, rights)) for length, rights in ((65_535, 1), (0, 3), (0, 2)))
 START_BIT_8 = packed([0, 0, 8, 0, 0, 0, 0, 0, 0], FMMU_RECORD)
@@ -258,6 +370,9 @@ CALLS = [
     ("portions::end with room of 16,385 bytes", Request("t", room=KEPT - 1)),
     ("an input pass of nothing beside an enabled entry with both bits", input_pass(BOTH_BITS, sheet=NO_PARTS)),
     ("an input pass of 1 bit on an enabled entry of outputs", input_pass(OUTPUTS, sheet=ONE_BIT)),
+    ("an input pass of nothing by a pair with the number 16", by_pairs([(16, 0)], NO_PARTS)),
+    ("an input pass by a pair that gives an output the entry of an input", by_pairs([(0, 1)], BIT_EACH)),
+    ("an input pass by a pair that gives the third input the entry of the first", by_pairs([(0, 2)], THREE_BITS)),
 ]
 
 
@@ -274,8 +389,12 @@ LESSONS = {
     "group": group,
     "exercise-6": exercise_6,
     "exercise-7": exercise_7,
+    "exercise-10": exercise_10,
     "portions": portions,
     "write": write,
+    "pairs-chosen": pairs_chosen,
+    "pairs": pairs,
+    "pairs-refused": pairs_refused,
     "refused": refused,
 }
 
