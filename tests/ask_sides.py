@@ -169,13 +169,19 @@ def sharing_by_table():
 
 
 def other_pairs():
-    """Keeping, an output pass by other pairs adds to the inputs' entry; counting takes no pairs, bad ones neither."""
+    """Keeping, an output pass by other pairs, or another table, adds to the inputs' entry; counting takes no pairs."""
     data, passes = lined("r17 r9 w8"), [(0, 3), (1, 8)]
     ways = {"other pairs": by_pairs([(7, 2)]), "other pairs, keeping": by_pairs([(5, 2), (6, 0)], OldEntries.KEEP)}
     for name, settings in ways.items():
         inputs = planned(data, passes[:1], settings=by_pairs([(5, 0), (5, 1)]))
         after = planned(data, passes[1:], inputs, settings=settings)
         yield from both_sides(f"the outputs by {name}", data, passes, after, (0, 16), "A")
+    one, after, settings = lined("r17 w8"), area(), by_pairs([(5, 0), (5, 1)], OldEntries.KEEP)
+    muted = [(INDEX + 1, 0)], [(INDEX, 0)]  # each pass mutes the other direction, so that they don't meet in either
+    for write, offset in passes:
+        after = planned(one, [(write, offset)], after, muted[write], settings)
+    for write, offset in passes:
+        yield from both_sides("another table, keeping", one, [(write, offset)], after, (0, 16), "A", muted[write])
     for write in (0, 1):
         bad = Request("C", write, room=1, a=3, times=16, sheet=data, fmmus=bytes([16, 255]))
         yield f"counting, a bad pair in a part that it doesn't take, {write}", bad
