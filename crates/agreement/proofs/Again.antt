@@ -20,9 +20,9 @@ use Rattle.area.specs.Area.{entriesOf, flat}
 use Rattle.area.proofs.Flat.{length-chunks}
 use Rattle.channels.specs.Channels.{channelsAfter}
 use Rattle.passes.specs.declared.OldEntries.the-variants.{Clear}
-use Rattle.passes.specs.declared.FmmuPair.{FmmuPair}
+use Rattle.passes.specs.declared.Chosen.{Chosen}
 use Rattle.passes.specs.declared.FmmuMode.{FmmuMode}
-use Rattle.passes.specs.Use.{Use, chosenBy, usesOf}
+use Rattle.passes.specs.Use.{Use, usesOf}
 use Rattle.passes.specs.Old.{clean, cleared, bothBits, someEnabled, inTheWay}
 use Rattle.passes.specs.Entries.{plan, tooLong, Planned}
 use Rattle.passes.specs.Pass.{notAreas, passRefusals, plannedOf, dataPass, dataSize, entriesAfter, channelAreaAfter, segmentAlone, offsetAfter, Passes}
@@ -36,7 +36,7 @@ use Rattle.agreement.proofs.Clean.{cleared-twice}
 use Rattle.agreement.proofs.Run.{Placed, Start, clean-start, plan-leaves}
 use Rattle.agreement.proofs.Left.{Ours, fresh-or, LeftOf, left-at, laid-left, SameBut, plan-same}
 use Rattle.agreement.proofs.Sheets.{bounded}
-use Rattle.agreement.proofs.Uses.{listed, sane}
+use Rattle.agreement.proofs.Uses.{sane}
 use Rattle.agreement.proofs.Images.{images-long, images-stay}
 use Rattle.agreement.proofs.Told.{answered, none-holds, channels-long, Told, told}
 
@@ -109,25 +109,25 @@ module _ (r : PdoDirection) (q : ℕ) (us : List Use) (area : List (List ℕ)) (
       refl
 
 -- the whole call
-module _ (sheet ws : List ℕ) (mode : FmmuMode) (pairs : List FmmuPair) (r : PdoDirection) (offset group : ℕ) (fmmus channels fmmusThen channelsThen : List ℕ) (bytes : Bytes sheet)
-    (p : Planned) (says : byDefault sheet ws mode (chosenBy mode pairs) r offset group fmmus channels ≡ accepted p)
-    (entries : fmmusThen ≡ entriesAfter (byDefault sheet ws mode (chosenBy mode pairs) r offset group fmmus channels) (sheetData sheet) ws (chosenBy mode pairs) r offset (clean mode group) fmmus)
-    (images : channelsThen ≡ channelAreaAfter (byDefault sheet ws mode (chosenBy mode pairs) r offset group fmmus channels) (sheetData sheet) ws r channels) where
+module _ (sheet ws : List ℕ) (mode : FmmuMode) (chosen : Chosen) (r : PdoDirection) (offset group : ℕ) (fmmus channels fmmusThen channelsThen : List ℕ) (bytes : Bytes sheet)
+    (p : Planned) (says : byDefault sheet ws mode chosen r offset group fmmus channels ≡ accepted p)
+    (entries : fmmusThen ≡ entriesAfter (byDefault sheet ws mode chosen r offset group fmmus channels) (sheetData sheet) ws chosen r offset (clean mode group) fmmus)
+    (images : channelsThen ≡ channelAreaAfter (byDefault sheet ws mode chosen r offset group fmmus channels) (sheetData sheet) ws r channels) where
   abbrev us : List Use
-  us = usesOf mode (chosenBy mode pairs) (sheetData sheet) ws r
+  us = usesOf mode chosen (sheetData sheet) ws r
 
-  c : NoneHolds (passRefusals sheet ws (chosenBy mode pairs) r offset (clean mode group) fmmus channels)
-  c = none-holds sheet ws (chosenBy mode pairs) r offset (clean mode group) fmmus channels p says
+  c : NoneHolds (passRefusals sheet ws chosen r offset (clean mode group) fmmus channels)
+  c = none-holds sheet ws chosen r offset (clean mode group) fmmus channels p says
 
-  t : Told sheet ws (chosenBy mode pairs) r offset (clean mode group) fmmus fmmusThen
-  t = told sheet ws (chosenBy mode pairs) r offset (clean mode group) fmmus channels fmmusThen p says entries
+  t : Told sheet ws chosen r offset (clean mode group) fmmus fmmusThen
+  t = told sheet ws chosen r offset (clean mode group) fmmus channels fmmusThen p says entries
 
   places : Each (λ (u : Use). u .entry < 16) us
-  places = sane (sheetData sheet) (bounded sheet bytes (t .sheet-kept)) ws r mode (chosenBy mode pairs) (listed mode pairs) (t .pairs) (t .entry) .places
+  places = sane (sheetData sheet) (bounded sheet bytes (t .sheet-kept)) ws r mode chosen (t .pairs) (t .entry) .places
 
   -- the sync manager area
   long : length channels ≡ 128
-  long = channels-long sheet ws (chosenBy mode pairs) r offset (clean mode group) fmmus channels c
+  long = channels-long sheet ws chosen r offset (clean mode group) fmmus channels c
 
   abbrev write : List ℕ → List ℕ
   write area = flat (channelsAfter (dataSize (sheetData sheet) ws r) 0 (sheetData sheet .managers) (entriesOf 8 area))
@@ -140,7 +140,7 @@ module _ (sheet ws : List ℕ) (mode : FmmuMode) (pairs : List FmmuPair) (r : Pd
 
   -- the FMMU area
   fmmus-are : fmmusThen ≡ flat (plan r offset us (map (cleared r) (entriesOf 16 fmmus)))
-  fmmus-are = entries ∙ ap (λ (o : Outcome Planned). entriesAfter o (sheetData sheet) ws (chosenBy mode pairs) r offset (clean mode group) fmmus) says
+  fmmus-are = entries ∙ ap (λ (o : Outcome Planned). entriesAfter o (sheetData sheet) ws chosen r offset (clean mode group) fmmus) says
 
   fmmus-kept : flat (plan r offset us (map (cleared r) (entriesOf 16 fmmusThen))) ≡ fmmusThen
   fmmus-kept =
@@ -152,41 +152,41 @@ module _ (sheet ws : List ℕ) (mode : FmmuMode) (pairs : List FmmuPair) (r : Pd
   both-long : notAreas fmmusThen channelsThen ≡ false
   both-long = rw (t .after-long, ap length channels-are ∙ images-long (dataSize (sheetData sheet) ws r) (sheetData sheet .managers) channels long) refl
 
-  none-again : NoneHolds (passRefusals sheet ws (chosenBy mode pairs) r offset (clean mode group) fmmusThen channelsThen)
+  none-again : NoneHolds (passRefusals sheet ws chosen r offset (clean mode group) fmmusThen channelsThen)
   unfolding tooLong
   none-again =
       let s = c .1 .1 .1 .1 .1 in
       let free = ap (inTheWay Clear r us) (t .leaves) ∙ free-again r offset us (entriesOf 16 fmmus) (length-chunks 16 16 fmmus) places (t .free) in
       (both-long, (c .1 .0, (c .1 .1 .0, (c .1 .1 .1 .0, (c .1 .1 .1 .1 .0, (s .0, (s .1 .0, (s .1 .1 .0, (s .1 .1 .1 .0, (s .1 .1 .1 .1 .0, (s .1 .1 .1 .1 .1 .0, (free, tt))))))))))))
 
-  pub outcome-again : byDefault sheet ws mode (chosenBy mode pairs) r offset group fmmusThen channelsThen ≡ accepted p
+  pub outcome-again : byDefault sheet ws mode chosen r offset group fmmusThen channelsThen ≡ accepted p
   unfolding dataPass
   outcome-again =
       let x = plannedOf (sheetData sheet) ws r offset group in
-      none-accepted (passRefusals sheet ws (chosenBy mode pairs) r offset (clean mode group) fmmusThen channelsThen) x none-again
-      ∙ sym (none-accepted (passRefusals sheet ws (chosenBy mode pairs) r offset (clean mode group) fmmus channels) x c)
+      none-accepted (passRefusals sheet ws chosen r offset (clean mode group) fmmusThen channelsThen) x none-again
+      ∙ sym (none-accepted (passRefusals sheet ws chosen r offset (clean mode group) fmmus channels) x c)
       ∙ says
 
-  pub entries-again : fmmusThen ≡ entriesAfter (byDefault sheet ws mode (chosenBy mode pairs) r offset group fmmusThen channelsThen) (sheetData sheet) ws (chosenBy mode pairs) r offset (clean mode group) fmmusThen
-  entries-again = sym (ap (λ (o : Outcome Planned). entriesAfter o (sheetData sheet) ws (chosenBy mode pairs) r offset (clean mode group) fmmusThen) outcome-again ∙ fmmus-kept)
+  pub entries-again : fmmusThen ≡ entriesAfter (byDefault sheet ws mode chosen r offset group fmmusThen channelsThen) (sheetData sheet) ws chosen r offset (clean mode group) fmmusThen
+  entries-again = sym (ap (λ (o : Outcome Planned). entriesAfter o (sheetData sheet) ws chosen r offset (clean mode group) fmmusThen) outcome-again ∙ fmmus-kept)
 
-  pub channels-again : channelsThen ≡ channelAreaAfter (byDefault sheet ws mode (chosenBy mode pairs) r offset group fmmusThen channelsThen) (sheetData sheet) ws r channelsThen
+  pub channels-again : channelsThen ≡ channelAreaAfter (byDefault sheet ws mode chosen r offset group fmmusThen channelsThen) (sheetData sheet) ws r channelsThen
   channels-again = sym (ap (λ (o : Outcome Planned). channelAreaAfter o (sheetData sheet) ws r channelsThen) outcome-again ∙ channels-kept)
 
 -- what it left, with the same answer and offset, keeps the promise of the pass made again; and the promise leaves one answer
 kept-again :
-    (sheet ws : List ℕ) (mode : FmmuMode) (pairs : List FmmuPair) (r : PdoDirection) (offset : PdiOffset) (group : ℕ) (fmmus channels : List ℕ) (s : PdiSegment) (o : PdiOffset) (f g : List ℕ)
-    → Bytes sheet → Passes sheet ws (chosenBy mode pairs) r offset (clean mode group) fmmus channels (Segment s) o f g → Passes sheet ws (chosenBy mode pairs) r offset (clean mode group) f g (Segment s) o f g
-kept-again sheet ws mode pairs r offset group fmmus channels s o f g bytes k =
-    let a = answered (byDefault sheet ws mode (chosenBy mode pairs) r (offset .«start_address») group fmmus channels) s (k .says) in
-    let same = a .says ∙ sym (outcome-again sheet ws mode pairs r (offset .«start_address») group fmmus channels f g bytes (a .planned) (a .says) (k .entries) (k .images)) in
+    (sheet ws : List ℕ) (mode : FmmuMode) (chosen : Chosen) (r : PdoDirection) (offset : PdiOffset) (group : ℕ) (fmmus channels : List ℕ) (s : PdiSegment) (o : PdiOffset) (f g : List ℕ)
+    → Bytes sheet → Passes sheet ws chosen r offset (clean mode group) fmmus channels (Segment s) o f g → Passes sheet ws chosen r offset (clean mode group) f g (Segment s) o f g
+kept-again sheet ws mode chosen r offset group fmmus channels s o f g bytes k =
+    let a = answered (byDefault sheet ws mode chosen r (offset .«start_address») group fmmus channels) s (k .says) in
+    let same = a .says ∙ sym (outcome-again sheet ws mode chosen r (offset .«start_address») group fmmus channels f g bytes (a .planned) (a .says) (k .entries) (k .images)) in
     record {
       says = k .says ∙ ap segmentAlone same;
       moves = k .moves ∙ ap (λ (x : Outcome Planned). offsetAfter x offset) same;
-      entries = entries-again sheet ws mode pairs r (offset .«start_address») group fmmus channels f g bytes (a .planned) (a .says) (k .entries) (k .images);
-      images = channels-again sheet ws mode pairs r (offset .«start_address») group fmmus channels f g bytes (a .planned) (a .says) (k .entries) (k .images);
+      entries = entries-again sheet ws mode chosen r (offset .«start_address») group fmmus channels f g bytes (a .planned) (a .says) (k .entries) (k .images);
+      images = channels-again sheet ws mode chosen r (offset .«start_address») group fmmus channels f g bytes (a .planned) (a .says) (k .entries) (k .images);
     }
 
 pub made-again : MadeAgain
-made-again sheet ws mode pairs r offset group fmmus channels s o f g answer o′ f′ g′ bytes k again =
-    passes-once sheet ws (chosenBy mode pairs) r offset (clean mode group) f g answer (Segment s) o′ o f′ f g′ g again (kept-again sheet ws mode pairs r offset group fmmus channels s o f g bytes k)
+made-again sheet ws mode chosen r offset group fmmus channels s o f g answer o′ f′ g′ bytes k again =
+    passes-once sheet ws chosen r offset (clean mode group) f g answer (Segment s) o′ o f′ f g′ g again (kept-again sheet ws mode chosen r offset group fmmus channels s o f g bytes k)

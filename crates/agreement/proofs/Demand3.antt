@@ -38,7 +38,7 @@ use Rattle.agreement.proofs.Straight.{lay, Apart, Lays, apart-flip}
 use Rattle.passes.proofs.Cleared.{Off, nil-off}
 use Rattle.agreement.proofs.Step.{off-silent}
 use Rattle.agreement.proofs.Run.{Start, clean-start, Alike, agree-iff, none-odd, other-after, other-before}
-use Rattle.agreement.proofs.Uses.{spot-lay, listed, count-lay, Sane, sane, Chose, coePath, numbers, alike, apart}
+use Rattle.agreement.proofs.Uses.{spot-lay, count-lay, Sane, sane, Chose, coePath, numbers, alike, apart}
 use Rattle.area.proofs.Flat.{length-chunks}
 use Rattle.agreement.proofs.Told.{answered, Told, told}
 use Rattle.agreement.proofs.Sheets.{bounded}
@@ -64,7 +64,7 @@ facts sheet r l area after a = told sheet (weights sheet l) (choice l) r (l .off
 -- and so what is needed to lay its sync managers, and what counting answers
 module _ (sheet : List ℕ) (bytes : Bytes sheet) (r : PdoDirection) (l : Lent) (area after : List ℕ) (f : Facts sheet r l area after) where
   pub sane-uses : Sane (laidBy sheet r l)
-  sane-uses = sane (sheetData sheet) (bounded sheet bytes (f .sheet-kept)) (weights sheet l) r (l .settings .mode) (choice l) (listed (l .settings .mode) (l .pairs)) (f .pairs) (f .entry)
+  sane-uses = sane (sheetData sheet) (bounded sheet bytes (f .sheet-kept)) (weights sheet l) r (l .settings .mode) (choice l) (f .pairs) (f .entry)
 
   room-on : (k : ℕ) → k < 16 → totalOn k (laidBy sheet r l) ≤ 65535
   unfolding tooLong
@@ -120,7 +120,7 @@ chose-of sheet lent (byPairs s) r =
 pub apart-of : (sheet : List ℕ) → Bytes sheet → (r : PdoDirection) (l m : Lent) → ChoseOf sheet l m → (area after : List ℕ) → Facts sheet r l area after → Apart (laidBy sheet r l) (laidBy sheet (other r) m)
 apart-of sheet bytes r l m how area after f =
     apart (sheetData sheet) (bounded sheet bytes (f .sheet-kept)) (l .settings .mode) (m .settings .mode) (choice l) (choice m) (weights sheet l) (weights sheet m) r how
-    (listed (l .settings .mode) (l .pairs)) (f .pairs) (f .entry)
+    (f .pairs) (f .entry)
 
 -- a direction's pass, alone or among two: what it began with, and that translation sees nothing else in the end
 pub record Among (sheet : List ℕ) (r : PdoDirection) (l : Lent) (final : List ℕ) : Type 0 where

@@ -1,8 +1,7 @@
 -- Demand 3 by pairs isn't empty: two inputs that share an entry by a pair, end to end, on which the two agree, and the second a byte higher, on which they don't. And
--- 18 needs its two rules: the smallest sheets on which demand 3 would be false without them.
+-- what it needs: the smallest sheets on which it would be false without 18's two rules on entries, or with two tables.
 -- Assumes nothing.
 use mathlib.Core.Path.{_≡_, refl, sym, _∙_}
-use mathlib.Core.Bool.{false, _||_}
 use mathlib.Core.List.{List, [], _∷_, _++_}
 use mathlib.Core.Option.{Option, none, some}
 use Prim.Native.Nat.{ℕ}
@@ -18,6 +17,7 @@ use Rattle.sheet.specs.Sheet.{wrongLength, kindFits, pdosFit, someManagerWrong,
 use Rattle.pdi.specs.Segment.{segment}
 use Rattle.pdo.specs.declared.PdoDirection.{PdoDirection}
 use Rattle.pdo.specs.declared.PdoDirection.the-variants.{MasterRead, MasterWrite}
+use Rattle.pdo.specs.declared.Oversampling.{Oversampling}
 use Rattle.pdo.specs.Direction.{other}
 use Rattle.pdo.specs.Bits.{multiplierOf, byCoe, bitsOf, piecesFrom, piecesOf}
 use Rattle.area.specs.Area.{chunks, flat}
@@ -26,24 +26,20 @@ use Rattle.passes.specs.declared.FmmuMode.the-variants.{Paired}
 use Rattle.passes.specs.declared.OldEntries.the-variants.{Clear, Keep}
 use Rattle.passes.specs.declared.Settings.{Settings}
 use Rattle.passes.specs.Use.{own, given, firstWith, entryFor, usesOf, total, totalOn, sizeOf}
-use Rattle.passes.specs.Pairs.{interrupted, badPairs}
+use Rattle.passes.specs.Pairs.{sharedByBoth, oneBetween, badPairs}
 use Rattle.passes.specs.Old.{clean, keeping, cleared, inTheWay}
 use Rattle.passes.specs.Entries.{plan, Planned, tooLong}
 use Rattle.passes.specs.Pass.{someTooMany, noEntry, dataPass}
 use Rattle.translation.specs.Translate.{carries, odd, says, firstSaid, translate}
 use Rattle.counting.specs.Count.{spotIn, count}
-use Rattle.agreement.specs.Agreement.{Lent, passOf, choice, Together, byPairs, TwoPasses, sharing, EndToEnd, laidBy, counted, Agree}
-use Rattle.agreement.specs.Paired.{Unjudged, usesBy, WithoutBetween, WithoutBoth}
+use Rattle.agreement.specs.Agreement.{Lent, passOf, Accepted, Together, byPairs, TwoPasses, sharing, EndToEnd, laidBy, counted, Agree}
+use Rattle.agreement.specs.Paired.{AcceptedIf, badFor, WithoutBetween, WithoutBoth, WithoutTable}
 use Rattle.agreement.specs.Bench.{zeros}
-use Rattle.agreement.specs.Cases.{entry, withZeros}
+use Rattle.agreement.specs.Cases.{entry, withZeros, pair}
 use Rattle.agreement.proofs.Basics.{never-none}
 use Rattle.agreement.proofs.Straight.{follows-iff}
 use Rattle.agreement.proofs.Demand3.{demand-3-clean, demand-3-from-disabled}
 use Rattle.agreement.proofs.Examples.{bytes-of, all-disabled}
-
--- FMMU `f` for the sync manager `m`
-abbrev pair : ℕ → ℕ → FmmuPair
-pair f m = record { fmmu = f; «sync_manager» = m }
 
 -- what both passes are lent: no table, these pairs, group start 0; the inputs from 0, the outputs from 8
 abbrev lentBy : List FmmuPair → Settings → PdoDirection → Lent
@@ -85,11 +81,11 @@ old access = entry 3 9 7 0x2000 access 1
 abbrev usedEntries : List ℕ
 usedEntries = withZeros (old 2 ∷ old 1 ∷ old 1 ∷ [])
 
-abbrev inputEntry : List ℕ
-inputEntry = entry 0 3 7 0x1180 1 1
+abbrev sharedInput : List ℕ
+sharedInput = entry 0 3 7 0x1180 1 1
 
 abbrev pub sharedArea : List ℕ
-sharedArea = withZeros (entry 8 2 7 0x1100 2 1 ∷ inputEntry ∷ [])
+sharedArea = withZeros (entry 8 2 7 0x1100 2 1 ∷ sharedInput ∷ [])
 
 abbrev inputs : Planned
 inputs = record { segment = segment 0 3; next = 3 }
@@ -104,7 +100,7 @@ unfolding fieldsOf imageOf controlAt unnamed listOf someBelow pdosFrom wrongLeng
 shared-passes =
     record {
       together = alike (pair 1 2 ∷ []) (clean Paired 0) sharingSheet;
-      between = withZeros (old 2 ∷ inputEntry ∷ []);
+      between = withZeros (old 2 ∷ sharedInput ∷ []);
       one = record { planned = inputs; says = refl; leaves = refl };
       two = record { planned = outputs; says = refl; leaves = refl };
     }
@@ -134,27 +130,27 @@ shared-kept-agrees =
     demand-3-from-disabled sharingSheet sharedKept MasterWrite zeros sharedArea (bytes-of sharingSheet tt) shared-kept all-disabled MasterRead .1 shared-end-to-end
 
 -- the last sync manager a byte higher, at 0x1183: the same bytes, and they don't
-abbrev movedSheet : List ℕ
-movedSheet = set sharingSheet 22 0x83
+abbrev apartSheet : List ℕ
+apartSheet = set sharingSheet 22 0x83
 
-pub moved-passes : TwoPasses movedSheet sharedLent MasterRead usedEntries sharedArea
+pub apart-passes : TwoPasses apartSheet sharedLent MasterRead usedEntries sharedArea
 unfolding fieldsOf imageOf controlAt unnamed listOf someBelow pdosFrom wrongLength kindFits pdosFit someManagerWrong someUsageWrong broken someUnnamed sheetData multiplierOf byCoe
     bitsOf piecesFrom piecesOf own given firstWith entryFor usesOf total totalOn sizeOf chunks flat plan someTooMany noEntry cleared tooLong badPairs inTheWay dataPass
-moved-passes =
+apart-passes =
     record {
-      together = alike (pair 1 2 ∷ []) (clean Paired 0) movedSheet;
-      between = withZeros (old 2 ∷ inputEntry ∷ []);
+      together = alike (pair 1 2 ∷ []) (clean Paired 0) apartSheet;
+      between = withZeros (old 2 ∷ sharedInput ∷ []);
       one = record { planned = inputs; says = refl; leaves = refl };
       two = record { planned = outputs; says = refl; leaves = refl };
     }
 
-moved-apart : EndToEnd (laidBy movedSheet MasterRead (sharedLent MasterRead)) → ⊥
+not-end-to-end : EndToEnd (laidBy apartSheet MasterRead (sharedLent MasterRead)) → ⊥
 unfolding controlAt listOf pdosFrom sheetData multiplierOf byCoe bitsOf piecesFrom piecesOf own given firstWith entryFor usesOf sharing
-moved-apart e = let z : _≡_ {A = ℕ} 0x1183 0x1182 = follows-iff (laidBy movedSheet MasterRead (sharedLent MasterRead)) .0 e .0 (lit< tt) in omega arith
+not-end-to-end e = let z : _≡_ {A = ℕ} 0x1183 0x1182 = follows-iff (laidBy apartSheet MasterRead (sharedLent MasterRead)) .0 e .0 (lit< tt) in omega arith
 
-pub moved-disagrees : Agree movedSheet MasterRead (sharedLent MasterRead) sharedArea → ⊥
-moved-disagrees h =
-    moved-apart (demand-3-clean movedSheet sharedLent MasterRead usedEntries sharedArea (bytes-of movedSheet tt) moved-passes MasterRead (in-default MasterRead) .0 h)
+pub apart-disagrees : Agree apartSheet MasterRead (sharedLent MasterRead) sharedArea → ⊥
+apart-disagrees h =
+    not-end-to-end (demand-3-clean apartSheet sharedLent MasterRead usedEntries sharedArea (bytes-of apartSheet tt) apart-passes MasterRead (in-default MasterRead) .0 h)
 
 -- the smallest sheet against 'between': three inputs of one bit, at 0x1000, 0x2000 and 0x1001, and FMMU 0 for the last too
 abbrev pub betweenSheet : List ℕ
@@ -176,10 +172,10 @@ between-refused = refl
 abbrev betweenArea : List ℕ
 betweenArea = withZeros (entry 0 2 7 0x1000 1 1 ∷ entry 1 1 7 0x2000 1 1 ∷ [])
 
-between-unjudged : Unjudged betweenSheet MasterRead betweenLent zeros betweenArea
+between-accepted : AcceptedIf (badFor sharedByBoth betweenSheet betweenLent) betweenSheet MasterRead betweenLent zeros betweenArea
 unfolding fieldsOf imageOf controlAt unnamed listOf someBelow pdosFrom wrongLength kindFits pdosFit someManagerWrong someUsageWrong broken someUnnamed sheetData multiplierOf byCoe
     bitsOf piecesFrom piecesOf own given firstWith entryFor usesOf total totalOn sizeOf chunks flat plan someTooMany noEntry cleared tooLong badPairs inTheWay dataPass
-between-unjudged = record { planned = record { segment = segment 0 3; next = 3 }; says = refl; leaves = refl }
+between-accepted = record { planned = record { segment = segment 0 3; next = 3 }; says = refl; leaves = refl }
 
 -- the second byte is the second input's, and would be read from behind the first one's
 pub between-names : (translate MasterRead betweenArea 1 ≡ accepted (some 0x1001)) × (counted betweenSheet MasterRead betweenLent 1 ≡ accepted (some 0x2000))
@@ -193,7 +189,7 @@ unfolding sharing fieldsOf imageOf controlAt unnamed listOf someBelow pdosFrom w
     bitsOf piecesFrom piecesOf own given firstWith entryFor usesOf total totalOn sizeOf chunks flat plan someTooMany noEntry cleared tooLong badPairs inTheWay dataPass
 between-needed demanded =
     let straight : EndToEnd (laidBy betweenSheet MasterRead betweenLent) = follows-iff (laidBy betweenSheet MasterRead betweenLent) .1 (λ h. refl, (λ h. tt, (λ h. tt, tt))) in
-    let agree = demanded betweenSheet MasterRead betweenLent zeros betweenArea (bytes-of betweenSheet tt) between-unjudged refl refl tt .1 straight in
+    let agree = demanded betweenSheet MasterRead betweenLent zeros betweenArea (bytes-of betweenSheet tt) between-accepted tt .1 straight in
     let e : _≡_ {A = Outcome (Option ℕ)} (accepted (some 0x1001)) (accepted (some 0x2000)) = sym (between-names .0) ∙ agree 1 (lit< tt) ∙ between-names .1 in
     let z : _≡_ {A = ℕ} 0x1001 0x2000 = cc in
     omega arith
@@ -220,12 +216,12 @@ bothBetween = withZeros (entry 0 1 7 0x1000 1 1 ∷ [])
 abbrev bothArea : List ℕ
 bothArea = withZeros (entry 0 2 7 0x1000 1 1 ∷ [])
 
-both-one : Unjudged bothSheet MasterRead (bothLent MasterRead) zeros bothBetween
+both-one : AcceptedIf (badFor oneBetween bothSheet (bothLent MasterRead)) bothSheet MasterRead (bothLent MasterRead) zeros bothBetween
 unfolding fieldsOf imageOf controlAt unnamed listOf someBelow pdosFrom wrongLength kindFits pdosFit someManagerWrong someUsageWrong broken someUnnamed sheetData multiplierOf byCoe
     bitsOf piecesFrom piecesOf own given firstWith entryFor usesOf total totalOn sizeOf chunks flat plan someTooMany noEntry cleared tooLong badPairs inTheWay dataPass
 both-one = record { planned = record { segment = segment 0 1; next = 1 }; says = refl; leaves = refl }
 
-both-two : Unjudged bothSheet MasterWrite (bothLent MasterWrite) bothBetween bothArea
+both-two : AcceptedIf (badFor oneBetween bothSheet (bothLent MasterWrite)) bothSheet MasterWrite (bothLent MasterWrite) bothBetween bothArea
 unfolding fieldsOf imageOf controlAt unnamed listOf someBelow pdosFrom wrongLength kindFits pdosFit someManagerWrong someUsageWrong broken someUnnamed sheetData multiplierOf byCoe
     bitsOf piecesFrom piecesOf own given firstWith entryFor usesOf total totalOn sizeOf chunks flat plan someTooMany noEntry cleared tooLong badPairs inTheWay dataPass
 both-two = record { planned = record { segment = segment 8 9; next = 9 }; says = refl; leaves = refl }
@@ -237,25 +233,60 @@ unfolding fieldsOf chunks flat carries says odd firstSaid translate controlAt un
     count
 both-names = (refl, refl)
 
+-- two that keep
+kept : (l : PdoDirection → Lent) → l MasterRead .settings .old ≡ Keep → l MasterWrite .settings .old ≡ Keep → (r : PdoDirection) → l r .settings .old ≡ Keep
+kept l a b MasterRead = a
+kept l a b MasterWrite = b
+
+-- an address is named and counted as none
+differ : (x y : Outcome (Option ℕ)) → x ≡ accepted (some 0x1001) → y ≡ accepted none → x ≡ y → ⊥
+differ x y a b e =
+    let f : _≡_ {A = Outcome (Option ℕ)} (accepted (some 0x1001)) (accepted none) = sym a ∙ e ∙ b in
+    let z : _≡_ {A = Option ℕ} (some 0x1001) none = cc in
+    never-none z
+
 pub both-needed : WithoutBoth → ⊥
 unfolding sharing fieldsOf imageOf controlAt unnamed listOf someBelow pdosFrom wrongLength kindFits pdosFit someManagerWrong someUsageWrong broken someUnnamed sheetData multiplierOf byCoe
     bitsOf piecesFrom piecesOf own given firstWith entryFor usesOf total totalOn sizeOf chunks flat plan someTooMany noEntry cleared tooLong badPairs inTheWay dataPass
 both-needed demanded =
     let straight : EndToEnd (laidBy bothSheet MasterRead (bothLent MasterRead)) = follows-iff (laidBy bothSheet MasterRead (bothLent MasterRead)) .1 (λ h. tt, tt) in
-    let agree = demanded bothSheet bothLent MasterRead zeros bothBetween bothArea (bytes-of bothSheet tt) (alike (pair 0 1 ∷ []) (keeping Paired 0) bothSheet) kept both-one both-two numbers whole
-    all-disabled MasterRead .1 straight in
-    let e : _≡_ {A = Outcome (Option ℕ)} (accepted (some 0x1001)) (accepted none) = sym (both-names .0) ∙ agree 1 (lit< tt) ∙ both-names .1 in
-    let z : _≡_ {A = Option ℕ} (some 0x1001) none = cc in
-    never-none z
+    let agree = demanded bothSheet bothLent MasterRead zeros bothBetween bothArea (bytes-of bothSheet tt) (alike (pair 0 1 ∷ []) (keeping Paired 0) bothSheet)
+    (kept bothLent refl refl) both-one both-two all-disabled MasterRead .1 straight in
+    differ (translate MasterRead bothArea 1) (counted bothSheet MasterRead (bothLent MasterRead) 1) (both-names .0) (both-names .1) (agree 1 (lit< tt))
+
+-- the same sheet and pairs with two tables, each of which silences the other direction's PDO: 18 of either pass sees one sync manager on the entry
+abbrev tableOf : PdoDirection → List Oversampling
+tableOf MasterRead = record { «pdo_index» = 0x1600; multiplier = 0 } ∷ []
+tableOf MasterWrite = record { «pdo_index» = 0x1a00; multiplier = 0 } ∷ []
+
+abbrev tablesLent : PdoDirection → Lent
+tablesLent MasterRead = record { table = tableOf MasterRead; pairs = pair 0 1 ∷ []; offset = 0; settings = keeping Paired 0; channels = replicate 128 0 }
+tablesLent MasterWrite = record { table = tableOf MasterWrite; pairs = pair 0 1 ∷ []; offset = 8; settings = keeping Paired 0; channels = replicate 128 0 }
+
+tables-one : Accepted bothSheet MasterRead (tablesLent MasterRead) zeros bothBetween
+unfolding fieldsOf imageOf controlAt unnamed listOf someBelow pdosFrom wrongLength kindFits pdosFit someManagerWrong someUsageWrong broken someUnnamed sheetData multiplierOf byCoe
+    bitsOf piecesFrom piecesOf own given firstWith entryFor usesOf total totalOn sizeOf chunks flat plan someTooMany noEntry cleared tooLong badPairs inTheWay dataPass
+tables-one = record { planned = record { segment = segment 0 1; next = 1 }; says = refl; leaves = refl }
+
+tables-two : Accepted bothSheet MasterWrite (tablesLent MasterWrite) bothBetween bothArea
+unfolding fieldsOf imageOf controlAt unnamed listOf someBelow pdosFrom wrongLength kindFits pdosFit someManagerWrong someUsageWrong broken someUnnamed sheetData multiplierOf byCoe
+    bitsOf piecesFrom piecesOf own given firstWith entryFor usesOf total totalOn sizeOf chunks flat plan someTooMany noEntry cleared tooLong badPairs inTheWay dataPass
+tables-two = record { planned = record { segment = segment 8 9; next = 9 }; says = refl; leaves = refl }
+
+pub tables-name : (translate MasterRead bothArea 1 ≡ accepted (some 0x1001)) × (counted bothSheet MasterRead (tablesLent MasterRead) 1 ≡ accepted none)
+unfolding fieldsOf chunks flat carries says odd firstSaid translate controlAt unnamed listOf someBelow pdosFrom wrongLength kindFits pdosFit someManagerWrong someUsageWrong broken
+    someUnnamed sheetData multiplierOf byCoe bitsOf piecesFrom piecesOf own given firstWith usesOf total sizeOf someTooMany noEntry spotIn
+    count
+tables-name = (refl, refl)
+
+pub table-needed : WithoutTable → ⊥
+unfolding sharing fieldsOf imageOf controlAt unnamed listOf someBelow pdosFrom wrongLength kindFits pdosFit someManagerWrong someUsageWrong broken someUnnamed sheetData multiplierOf byCoe
+    bitsOf piecesFrom piecesOf own given firstWith entryFor usesOf total totalOn sizeOf chunks flat plan someTooMany noEntry cleared tooLong badPairs inTheWay dataPass
+table-needed demanded =
+    let straight : EndToEnd (laidBy bothSheet MasterRead (tablesLent MasterRead)) = follows-iff (laidBy bothSheet MasterRead (tablesLent MasterRead)) .1 (λ h. tt, tt) in
+    let agree = demanded bothSheet tablesLent MasterRead zeros bothBetween bothArea (bytes-of bothSheet tt) same (kept tablesLent refl refl) tables-one tables-two all-disabled MasterRead .1 straight in
+    differ (translate MasterRead bothArea 1) (counted bothSheet MasterRead (tablesLent MasterRead) 1) (tables-name .0) (tables-name .1) (agree 1 (lit< tt))
   where
-    kept : (r : PdoDirection) → bothLent r .settings .old ≡ Keep
-    kept MasterRead = refl
-    kept MasterWrite = refl
-
-    numbers : (r : PdoDirection) → choice (bothLent r) .above ≡ false
-    numbers MasterRead = refl
-    numbers MasterWrite = refl
-
-    whole : (r : PdoDirection) → someBelow (λ k. interrupted k (usesBy bothSheet MasterRead (bothLent r)) || interrupted k (usesBy bothSheet MasterWrite (bothLent r))) 16 ≡ false
-    whole MasterRead = refl
-    whole MasterWrite = refl
+    same : (r : PdoDirection) → (tablesLent r .settings .mode ≡ tablesLent (other r) .settings .mode) × (tablesLent r .pairs ≡ tablesLent (other r) .pairs)
+    same MasterRead = (refl, refl)
+    same MasterWrite = (refl, refl)

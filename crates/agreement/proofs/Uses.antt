@@ -1,7 +1,7 @@
 -- The uses of a direction, on both paths: their entries are entries, stand together, and are no entry of the other direction.
 -- Assumes nothing.
 use mathlib.Core.Path.{_≡_, refl, sym, _∙_, ap, subst}
-use mathlib.Core.Bool.{Bool, true, false, cond, _&&_, _||_, true≢false}
+use mathlib.Core.Bool.{Bool, true, false, cond, not, _&&_, _||_, and-false, true≢false}
 use mathlib.Core.List.{List, [], _∷_}
 use mathlib.Core.Logic.{_≢_, _⊎_, inl, inr, ⊎-elim}
 use mathlib.Core.Option.{some}
@@ -10,22 +10,21 @@ use native.Mathlib.Nat.{not-suc-le-zero, le-of-suc-le-suc}
 use native.Mathlib.Omega.{arith}
 use lib.Dec.{eqb, ltb}
 use lib.ListN.{length, getD}
-use borrow.Author.Tests.{ltb-true, ltb-false, eqb-true, eqb-false, eq-eqb}
+use borrow.Author.Tests.{ltb-true, ltb-false, eqb-true, eqb-false, eq-eqb, ne-eqb}
 use Rattle.pdi.specs.Unit.{bytesOf}
 use Rattle.sheet.specs.declared.SyncManager.{SyncManager}
 use Rattle.sheet.specs.Device.{Data}
-use Rattle.wire.specs.Lists.{Each, someOf, someBelow}
-use Rattle.wire.proofs.Lists.{none-of, none-below, or-none, getD-listOf}
+use Rattle.wire.specs.Lists.{Each, listOf, someOf, someBelow}
+use Rattle.wire.proofs.Lists.{none-of, none-below, some-none, of-none, or-none, getD-listOf}
 use Rattle.pdo.specs.declared.PdoDirection.{PdoDirection}
 use Rattle.pdo.specs.declared.PdoDirection.the-variants.{MasterRead, MasterWrite}
 use Rattle.pdo.specs.Direction.{usageOf, fmmuUsageOf, other}
 use Rattle.pdo.specs.Bits.{Piece, byCoe, pathKind, bitsOf, piecesFrom, piecesOf}
-use Rattle.passes.specs.declared.FmmuPair.{FmmuPair}
 use Rattle.passes.specs.declared.FmmuMode.{FmmuMode}
 use Rattle.passes.specs.declared.FmmuMode.the-variants.{OwnNumber, Paired}
 use Rattle.passes.specs.declared.Chosen.{Chosen}
-use Rattle.passes.specs.Use.{Use, useOf, own, given, firstWith, coeEntry, entryFor, pastLast, chosenOf, chosenBy, paired, byMode, usesOf}
-use Rattle.passes.specs.Pairs.{someOn, comesBack, interrupted, badEntry, badPairs}
+use Rattle.passes.specs.Use.{Use, useOf, own, given, firstWith, coeEntry, entryFor, chosenOf, paired, byMode, usesOf}
+use Rattle.passes.specs.Pairs.{numberAbove, someOn, comesBack, interrupted, badEntry, badPairs}
 use Rattle.passes.specs.Pass.{noEntry}
 use Rattle.translation.specs.Translate.{within, named, orNone}
 use Rattle.counting.specs.Count.{spotAt, spotIn, deviceIn}
@@ -162,28 +161,6 @@ unshared all vs n (u ∷ us) w p =
     or-later true b e = refl
     or-later false b e = e
 
--- what a list of pairs hands on: where no number is above 15, no entry is
-abbrev pub Listed : Chosen → Type 0
-Listed k = k .above ≡ false → (n : ℕ) → n < 16 → getD (k .entries) n 0 < 16
-
-entry-below : (ps : List FmmuPair) (n : ℕ) → n < 16 → someOf pastLast ps ≡ false → entryFor ps n < 16
-unfolding entryFor
-entry-below [] n h e = h
-entry-below (p ∷ ps) n h e =
-    let f = or-none (pastLast p) (someOf pastLast ps) e in
-    go (eqb (p .«sync_manager») n) (ltb-false 15 (p .fmmu) (or-none (ltb 15 (p .fmmu)) (ltb 15 (p .«sync_manager»)) (f .0) .0)) (entry-below ps n h (f .1))
-  where
-    go : (b : Bool) → p .fmmu ≤ 15 → entryFor ps n < 16 → cond b (p .fmmu) (entryFor ps n) < 16
-    go true l i = omega arith
-    go false l i = i
-
-listed-of : (ps : List FmmuPair) → Listed (chosenOf ps)
-listed-of ps e n h = subst (λ (x : ℕ). x < 16) (sym (getD-listOf (entryFor ps) 16 n 0 h)) (entry-below ps n h e)
-
-pub listed : (mode : FmmuMode) (ps : List FmmuPair) → Listed (chosenBy mode ps)
-listed OwnNumber ps = listed-of []
-listed Paired ps = listed-of ps
-
 -- one after another on one entry
 one-entry : (k : ℕ) (us : List Use) → Each (λ (u : Use). (u .entry ≡ k) × (0 < u .size)) us → Grouped us
 one-entry k [] e = tt
@@ -289,6 +266,72 @@ module _ (d : Data) where
           (coeUses vs (other r)) (shared-on (coeEntry d (other r)) (piecesOf d vs (other r))))
           (coeUses ws r) (shared-on (coeEntry d r) (piecesOf d ws r))
 
+-- an empty list: each on its own number, so that no entry is interrupted or of both directions
+none-below-it : (k : ℕ) (us : List Use) → Each (λ (u : Use). k < u .entry) us → someOn k us ≡ false
+none-below-it k [] e = refl
+none-below-it k (u ∷ us) e = let h = e .0 in rw (ne-eqb (u .entry) k (λ z. omega arith), none-below-it k us (e .1)) refl
+
+never-back : (k : ℕ) (us : List Use) → Each (λ (u : Use). k < u .entry) us → comesBack k us ≡ false
+never-back k [] e = refl
+never-back k (u ∷ us) e =
+    (λ i. (not (eqb (u .entry) k) && none-below-it k us (e .1) i) || never-back k us (e .1) i) ∙ ap (λ (b : Bool). b || false) (and-false (not (eqb (u .entry) k)))
+
+one-more : (k : ℕ) (u : Use) (us : List Use) → Each (λ (v : Use). u .entry < v .entry) us → interrupted k us ≡ false → interrupted k (u ∷ us) ≡ false
+one-more k u us e i = ⊎-elim here (λ h. rw h i) (either (eqb (u .entry) k))
+  where
+    here : eqb (u .entry) k ≡ true → interrupted k (u ∷ us) ≡ false
+    here h =
+        let back = never-back k us (subst (λ (n : ℕ). Each (λ (v : Use). n < v .entry) us) (eqb-true (u .entry) k h) e) in
+        (λ j. (eqb (u .entry) k && back j) || i j) ∙ ap (λ (b : Bool). b || false) (and-false (eqb (u .entry) k))
+
+abbrev ownNumber : ℕ → ℕ
+ownNumber n = n
+
+rising : (w : ℕ) (bits : ℕ → ℕ) (i : ℕ) (ms : List SyncManager) → Each (λ (u : Use). i < u .entry) (given ownNumber (piecesFrom w bits (suc i) ms))
+rising w bits i ms =
+    given-on ownNumber (λ (p : Piece). suc i ≤ p .number) (piecesFrom w bits (suc i) ms)
+    (pieces-each w bits (λ (p : Piece). suc i ≤ p .number) (suc i) ms (λ m. Unit {0}) (each-of (λ (m : SyncManager). Unit {0}) (λ m. tt) ms) (λ k m h g e. h))
+    (λ (u : Use). i < u .entry) (λ p h s. h)
+
+with-piece : (k : ℕ) (p : Piece) (ps : List Piece) → Each (λ (u : Use). p .number < u .entry) (given ownNumber ps) → interrupted k (given ownNumber ps) ≡ false
+    → interrupted k (given ownNumber (p ∷ ps)) ≡ false
+unfolding given
+with-piece k p ps e h = go (ltb 0 (p .bits))
+  where
+    go : (b : Bool) → interrupted k (cond b (useOf (p .number) p ∷ given ownNumber ps) (given ownNumber ps)) ≡ false
+    go true = one-more k (useOf (p .number) p) (given ownNumber ps) e h
+    go false = h
+
+never-interrupted : (w : ℕ) (bits : ℕ → ℕ) (k i : ℕ) (ms : List SyncManager) → interrupted k (given ownNumber (piecesFrom w bits i ms)) ≡ false
+unfolding piecesFrom given
+never-interrupted w bits k i [] = refl
+never-interrupted w bits k i (m ∷ ms) = go (eqb (m .«usage_type») w) (never-interrupted w bits k (suc i) ms)
+  where
+    go : (b : Bool) → interrupted k (given ownNumber (piecesFrom w bits (suc i) ms)) ≡ false
+        → interrupted k (given ownNumber (cond b (record { number = i; bits = bits i; address = m .«start_addr» } ∷ piecesFrom w bits (suc i) ms) (piecesFrom w bits (suc i) ms))) ≡ false
+    go true h = with-piece k (record { number = i; bits = bits i; address = m .«start_addr» }) (piecesFrom w bits (suc i) ms) (rising w bits i ms) h
+    go false h = h
+
+-- what every use by own numbers has, every nonempty one has
+nonempty-too : (P : Use → Type 0) (ps : List Piece) → Each P (own ps) → Each P (given ownNumber ps)
+unfolding own given
+nonempty-too P [] e = tt
+nonempty-too P (p ∷ ps) e = go (ltb 0 (p .bits)) (nonempty-too P ps (e .1))
+  where
+    go : (b : Bool) → Each P (given ownNumber ps) → Each P (cond b (useOf (p .number) p ∷ given ownNumber ps) (given ownNumber ps))
+    go true r = (e .0, r)
+    go false r = r
+
+never-shared : (k : ℕ) (us vs : List Use) → Apart us vs → someOn k us && someOn k vs ≡ false
+never-shared k [] vs a = refl
+never-shared k (u ∷ us) vs a = ⊎-elim (λ h. here h) (λ h. rw h (never-shared k us vs (a .1))) (either (eqb (u .entry) k))
+  where
+    here : eqb (u .entry) k ≡ true → someOn k (u ∷ us) && someOn k vs ≡ false
+    here h =
+        let free = subst (λ (n : ℕ). Fresh n vs) (eqb-true (u .entry) k h) (a .0) in
+        ap (λ (b : Bool). someOn k (u ∷ us) && b) (of-none (λ (v : Use). eqb (v .entry) k) (λ (v : Use). v .entry ≡ k → ⊥) (λ v z. ne-eqb (v .entry) k z) vs free)
+        ∙ and-false (someOn k (u ∷ us))
+
 -- without 18, on the EEPROM path: no pair number is above 15, and no entry is bad
 module _ (d : Data) (k : Chosen) (ws : List ℕ) (path : byCoe d ≡ false) (good : badPairs Paired k d ws ≡ false) where
   abbrev inputs : List Use
@@ -297,9 +340,15 @@ module _ (d : Data) (k : Chosen) (ws : List ℕ) (path : byCoe d ≡ false) (goo
   abbrev outputs : List Use
   outputs = paired k (piecesOf d ws MasterWrite)
 
-  parts : (k .above ≡ false) × (someBelow (badEntry inputs outputs) 16 ≡ false)
+  parts : (numberAbove k ≡ false) × (someBelow (badEntry inputs outputs) 16 ≡ false)
   unfolding badPairs
-  parts = or-none (k .above) (someBelow (badEntry inputs outputs) 16) (rw path at good)
+  parts = or-none (numberAbove k) (someBelow (badEntry inputs outputs) 16) (rw path at good)
+
+  entry-below : (n : ℕ) → n < 16 → getD (k .entries) n 0 < 16
+  entry-below n h =
+      let past : ℕ → Bool = λ j. ltb 15 (getD (k .entries) j 0) in
+      let e = ltb-false 15 (getD (k .entries) n 0) (none-below past 16 (or-none (k .above) (someBelow past 16) (parts .0) .1) n h) in
+      omega arith
 
   sound : (j : ℕ) → j < 16 → (someOn j inputs && someOn j outputs ≡ false) × ((interrupted j inputs ≡ false) × (interrupted j outputs ≡ false))
   sound j h =
@@ -314,6 +363,52 @@ module _ (d : Data) (k : Chosen) (ws : List ℕ) (path : byCoe d ≡ false) (goo
   pairs-both : Each (λ (u : Use). u .entry < 16) inputs → (r : PdoDirection) → Apart (paired k (piecesOf d ws r)) (paired k (piecesOf d ws (other r)))
   pairs-both p MasterRead = unshared inputs outputs (λ j h. sound j h .0) inputs (λ j h. h) p
   pairs-both p MasterWrite = apart-flip inputs outputs (unshared inputs outputs (λ j h. sound j h .0) inputs (λ j h. h) p)
+
+-- so an empty list of pairs gives no 18
+module _ (d : Data) (few : length (d .managers) ≤ 16) (ws : List ℕ) where
+  numbers-below : (r : PdoDirection) → Each (λ (p : Piece). p .number < 16) (piecesOf d ws r)
+  unfolding piecesOf
+  numbers-below r =
+      pieces-each (usageOf r) (λ k. bitsOf (pathKind d r) k (d .pdos) ws) (λ (p : Piece). p .number < 16) 0 (d .managers) (λ m. Unit {0}) (each-of (λ (m : SyncManager). Unit {0}) (λ m. tt) (d .managers))
+      (λ k m h g e. omega arith)
+
+  number-is : (n : ℕ) → n < 16 → getD (chosenOf [] .entries) n 0 ≡ n
+  unfolding entryFor
+  number-is n h = getD-listOf (entryFor []) 16 n 0 h
+
+  -- no pair means the own number
+  pub no-pairs : (r : PdoDirection) → paired (chosenOf []) (piecesOf d ws r) ≡ given ownNumber (piecesOf d ws r)
+  unfolding given
+  no-pairs r = go (piecesOf d ws r) (numbers-below r)
+    where
+      go : (ps : List Piece) → Each (λ (p : Piece). p .number < 16) ps → paired (chosenOf []) ps ≡ given ownNumber ps
+      go [] e = refl
+      go (p ∷ ps) e = λ i. cond (ltb 0 (p .bits)) (useOf (number-is (p .number) (e .0) i) p ∷ go ps (e .1) i) (go ps (e .1) i)
+
+  whole : (r : PdoDirection) (k : ℕ) → interrupted k (paired (chosenOf []) (piecesOf d ws r)) ≡ false
+  unfolding piecesOf
+  whole r k = ap (interrupted k) (no-pairs r) ∙ never-interrupted (usageOf r) (λ j. bitsOf (pathKind d r) j (d .pdos) ws) k 0 (d .managers)
+
+  unmet : (k : ℕ) → someOn k (paired (chosenOf []) (piecesOf d ws MasterRead)) && someOn k (paired (chosenOf []) (piecesOf d ws MasterWrite)) ≡ false
+  unmet k =
+      (λ i. someOn k (no-pairs MasterRead i) && someOn k (no-pairs MasterWrite i))
+      ∙ never-shared k (given ownNumber (piecesOf d ws MasterRead)) (given ownNumber (piecesOf d ws MasterWrite))
+      (nonempty-too (λ (u : Use). Fresh (u .entry) (given ownNumber (piecesOf d ws MasterWrite))) (piecesOf d ws MasterRead)
+      (each-map (λ (u : Use). Fresh (u .entry) (own (piecesOf d ws MasterWrite))) (λ (u : Use). Fresh (u .entry) (given ownNumber (piecesOf d ws MasterWrite)))
+      (λ u f. nonempty-too (λ (v : Use). v .entry ≡ u .entry → ⊥) (piecesOf d ws MasterWrite) f)
+      (own (piecesOf d ws MasterRead)) (own-both d ws ws MasterRead)))
+
+  none-above : numberAbove (chosenOf []) ≡ false
+  unfolding someBelow listOf entryFor
+  none-above = refl
+
+  pub none-bad : badPairs Paired (chosenOf []) d ws ≡ false
+  unfolding badPairs
+  none-bad =
+      let us = paired (chosenOf []) (piecesOf d ws MasterRead) in
+      let vs = paired (chosenOf []) (piecesOf d ws MasterWrite) in
+      let fine = some-none (badEntry us vs) 16 (λ k h. λ i. unmet k i || (whole MasterRead k i || whole MasterWrite k i)) in
+      (λ i. not (byCoe d) && (none-above i || fine i)) ∙ and-false (not (byCoe d))
 
 -- what the general law asks of a list of uses, before any refusal but 7 and 18
 pub record Sane (us : List Use) : Type 0 where
@@ -351,11 +446,11 @@ module _ (d : Data) (b : Bounded d) (ws : List ℕ) (r : PdoDirection) where
         addresses = given-on (λ number. coeEntry d r) (λ (p : Piece). (p .number < 16) × (p .address < 65536)) (piecesOf d ws r) pieces-bounded (λ (u : Use). u .at < 65536) (λ p h s. h .1);
       }
 
-  paired-sane : (k : Chosen) → Listed k → byCoe d ≡ false → badPairs Paired k d ws ≡ false → Sane (paired k (piecesOf d ws r))
-  paired-sane k l c g =
+  paired-sane : (k : Chosen) → byCoe d ≡ false → badPairs Paired k d ws ≡ false → Sane (paired k (piecesOf d ws r))
+  paired-sane k c g =
       let entry : ℕ → ℕ = λ number. getD (k .entries) number 0 in
       let places = given-on entry (λ (p : Piece). (p .number < 16) × (p .address < 65536)) (piecesOf d ws r) pieces-bounded (λ (u : Use). u .entry < 16)
-      (λ p h s. l (parts d k ws c g .0) (p .number) (h .0)) in
+      (λ p h s. entry-below d k ws c g (p .number) (h .0)) in
       record {
         grouped =
             whole-runs (paired k (piecesOf d ws r)) (whole-at d k ws c g r) places
@@ -364,12 +459,12 @@ module _ (d : Data) (b : Bounded d) (ws : List ℕ) (r : PdoDirection) where
         addresses = given-on entry (λ (p : Piece). (p .number < 16) × (p .address < 65536)) (piecesOf d ws r) pieces-bounded (λ (u : Use). u .at < 65536) (λ p h s. h .1);
       }
 
-  pub sane : (mode : FmmuMode) (k : Chosen) → Listed k → badPairs mode k d ws ≡ false → noEntry d ws r ≡ false → Sane (usesOf mode k d ws r)
-  sane mode k l g n = path d Sane mode k ws r (λ c. coe-sane c n) (λ c. go mode c g)
+  pub sane : (mode : FmmuMode) (k : Chosen) → badPairs mode k d ws ≡ false → noEntry d ws r ≡ false → Sane (usesOf mode k d ws r)
+  sane mode k g n = path d Sane mode k ws r (λ c. coe-sane c n) (λ c. go mode c g)
     where
       go : (m : FmmuMode) → byCoe d ≡ false → badPairs m k d ws ≡ false → Sane (byMode m k (piecesOf d ws r))
       go OwnNumber c g = own-sane
-      go Paired c g = paired-sane k l c g
+      go Paired c g = paired-sane k c g
 
 -- two directions on no entry of both: on the CoE path, by own numbers, or by the same pairs and multipliers
 pub data Chose (d : Data) (m n : FmmuMode) (k l : Chosen) (ws vs : List ℕ) : Type 0 where
@@ -378,15 +473,15 @@ pub data Chose (d : Data) (m n : FmmuMode) (k l : Chosen) (ws vs : List ℕ) : T
   alike : m ≡ n → k ≡ l → ws ≡ vs → Chose d m n k l ws vs
 
 module _ (d : Data) (b : Bounded d) where
-  apart-alike : (m : FmmuMode) (k : Chosen) (ws : List ℕ) (r : PdoDirection) → Listed k → badPairs m k d ws ≡ false → byCoe d ≡ false
+  apart-alike : (m : FmmuMode) (k : Chosen) (ws : List ℕ) (r : PdoDirection) → badPairs m k d ws ≡ false → byCoe d ≡ false
       → Apart (byMode m k (piecesOf d ws r)) (byMode m k (piecesOf d ws (other r)))
-  apart-alike OwnNumber k ws r l g c = own-both d ws ws r
-  apart-alike Paired k ws r l g c = pairs-both d k ws c g (paired-sane d b ws MasterRead k l c g .places) r
+  apart-alike OwnNumber k ws r g c = own-both d ws ws r
+  apart-alike Paired k ws r g c = pairs-both d k ws c g (paired-sane d b ws MasterRead k c g .places) r
 
-  pub apart : (m n : FmmuMode) (k l : Chosen) (ws vs : List ℕ) (r : PdoDirection) → Chose d m n k l ws vs → Listed k → badPairs m k d ws ≡ false → noEntry d ws r ≡ false
+  pub apart : (m n : FmmuMode) (k l : Chosen) (ws vs : List ℕ) (r : PdoDirection) → Chose d m n k l ws vs → badPairs m k d ws ≡ false → noEntry d ws r ≡ false
       → Apart (usesOf m k d ws r) (usesOf n l d vs (other r))
   unfolding usesOf
-  apart m n k l ws vs r how listed g e = ⊎-elim (λ c. rw c (coe-both d ws vs r c e)) (λ c. rw c (eeprom c how)) (either (byCoe d))
+  apart m n k l ws vs r how g e = ⊎-elim (λ c. rw c (coe-both d ws vs r c e)) (λ c. rw c (eeprom c how)) (either (byCoe d))
     where
       eeprom : byCoe d ≡ false → Chose d m n k l ws vs → Apart (byMode m k (piecesOf d ws r)) (byMode n l (piecesOf d vs (other r)))
       eeprom c (coePath p) = absurd (true≢false (sym p ∙ c))
@@ -395,4 +490,4 @@ module _ (d : Data) (b : Bounded d) where
       eeprom c (alike p q s) =
           subst (λ (x : FmmuMode). Apart (byMode m k (piecesOf d ws r)) (byMode x l (piecesOf d vs (other r)))) p
           (subst (λ (x : Chosen). Apart (byMode m k (piecesOf d ws r)) (byMode m x (piecesOf d vs (other r)))) q
-          (subst (λ (x : List ℕ). Apart (byMode m k (piecesOf d ws r)) (byMode m k (piecesOf d x (other r)))) s (apart-alike m k ws r listed g c)))
+          (subst (λ (x : List ℕ). Apart (byMode m k (piecesOf d ws r)) (byMode m k (piecesOf d x (other r)))) s (apart-alike m k ws r g c)))

@@ -1,12 +1,13 @@
 -- Translation, counting, old entries and pairs at their limits, lists of rows as the bench's: who decides, where an entry and a range end, what 11, 15 and 18 look at.
 -- Assumes nothing.
-use mathlib.Core.List.{List, [], _∷_, _++_, map}
+use mathlib.Core.List.{List, [], _∷_, _++_}
 use mathlib.Core.Option.{Option, none, some}
 use Prim.Native.Nat.{ℕ, suc, _+_, _-_, _*_, _/_, _%_}
 use lib.ListN.{length, set, replicate}
 use Rattle.wire.specs.Outcome.{Outcome, refused, accepted}
 use Rattle.wire.specs.Number.{littleOf}
 use Rattle.wire.specs.Lists.{listOf}
+use Rattle.pdo.specs.declared.PdoDirection.{PdoDirection}
 use Rattle.pdo.specs.declared.PdoDirection.the-variants.{MasterRead, MasterWrite}
 use Rattle.sheet.specs.Sheet.{sheetData}
 use Rattle.area.specs.Area.{flat}
@@ -147,7 +148,7 @@ oldCases =
     ∷ row 19 (sharedBy (clean OwnNumber 0) 9 (atLast bothFull)) (refused 8)  -- 8 comes before 15
     ∷ []
 
--- a sync manager of an EEPROM bay, at 0x1180, with one PDO of so many bits
+-- a sync manager of an EEPROM bay with one PDO of so many bits; the first is at 0x1180, each other 16 bytes behind the one before
 pub record Manager : Type 0 where
   pub control : ℕ
   pub usage : ℕ
@@ -160,8 +161,9 @@ input bits = record { control = 0x20; usage = 4; kind = 1; bits = bits }
 abbrev pub output : ℕ → Manager
 output bits = record { control = 0x64; usage = 3; kind = 2; bits = bits }
 
-abbrev pub managerBytes : Manager → List ℕ
-managerBytes m = 0x11 ∷ 0x80 ∷ m .control ∷ 0x01 ∷ m .usage ∷ []
+abbrev pub managerBytes : ℕ → List Manager → List ℕ
+managerBytes k [] = []
+managerBytes k (m ∷ ms) = (0x11 ∷ (0x80 + 16 * k) ∷ m .control ∷ 0x01 ∷ m .usage ∷ []) ++ managerBytes (suc k) ms
 
 abbrev pub pdoBytes : ℕ → List Manager → List ℕ
 pdoBytes k [] = []
@@ -170,16 +172,19 @@ pdoBytes k (m ∷ ms) = (m .kind ∷ k ∷ 0x1a ∷ k ∷ 0x02 ∷ m .bits / 256
 abbrev pub bay : List Manager → List ℕ
 bay ms =
     (0x00 ∷ (9 + 12 * length ms) ∷ 0x01 ∷ 0x00 ∷ 0x00 ∷ 0x00 ∷ 0x00 ∷ 0x00 ∷ length ms ∷ 0x00 ∷ length ms ∷ [])
-    ++ flat (map managerBytes ms)
+    ++ managerBytes 0 ms
     ++ pdoBytes 0 ms
 
 -- FMMU `f` for the sync manager `m`
 abbrev pub pair : ℕ → ℕ → FmmuPair
 pair f m = record { fmmu = f; «sync_manager» = m }
 
--- the input pass by pairs, from offset 0 in group 0, with multipliers, over FMMU bytes; without oversampling over zeros; and an entry that it leaves
+-- a pass by pairs with multipliers, from an offset, over FMMU bytes; the input pass from 0; without oversampling over zeros; and an entry that it leaves
+abbrev pub pairedFrom : PdoDirection → ℕ → Settings → List FmmuPair → List ℕ → List ℕ → List ℕ → Outcome (List ℕ)
+pairedFrom r offset settings ps sheet ws area = startAndEnd (dataPass sheet ws (chosenBy (settings .mode) ps) r offset settings area zeroChannels)
+
 abbrev pub pairedOver : Settings → List FmmuPair → List ℕ → List ℕ → List ℕ → Outcome (List ℕ)
-pairedOver settings ps sheet ws area = startAndEnd (dataPass sheet ws (chosenBy (settings .mode) ps) MasterRead 0 settings area zeroChannels)
+pairedOver = pairedFrom MasterRead 0
 
 abbrev pub pairedPass : List FmmuPair → List ℕ → Outcome (List ℕ)
 pairedPass ps sheet = pairedOver (clean Paired 0) ps sheet (ones sheet) zeros
@@ -199,7 +204,7 @@ pairCases =
     ∷ row 2 (pairedEntry 6 (pair 5 0 ∷ pair 6 0 ∷ []) (bay (input 8 ∷ []))) (accepted (replicate 16 0))  -- the second doesn't
     ∷ row 3 (pairedEntry 0 (pair 5 1 ∷ []) (bay (input 8 ∷ []))) (accepted mappedByte)  -- none means its own number
     ∷ row 4 (pairedEntry 0 [] (bay (input 0 ∷ []))) (accepted (replicate 16 0))  -- 0 bits write no entry, with an empty list too
-    ∷ row 5 (pairedEntry 0 (pair 0 1 ∷ []) (bay (input 8 ∷ input 8 ∷ []))) (accepted (entry 0 2 7 0x1180 1 1))  -- sharing merges
+    ∷ row 5 (pairedEntry 0 (pair 0 1 ∷ []) (bay (input 8 ∷ input 8 ∷ []))) (accepted (entry 0 2 7 0x1180 1 1))  -- sharing merges, and the first one's address stays
     ∷ row 6 (pairedPass (pair 16 0 ∷ []) sampleSheet) (accepted (0 ∷ 5 ∷ []))  -- a CoE sheet leaves bad pairs unread
     ∷ row 7 (pairedOver (clean OwnNumber 0) (pair 16 0 ∷ []) (bay (input 8 ∷ [])) (1 ∷ []) zeros) (accepted (0 ∷ 1 ∷ []))  -- so do own numbers
     ∷ row 8 (pairedPass (pair 15 0 ∷ []) (bay (input 8 ∷ []))) (accepted (0 ∷ 1 ∷ []))  -- the last FMMU
@@ -221,4 +226,10 @@ pairCases =
     ∷ row 24 (pairedOver (clean Paired 0) (pair 15 0 ∷ []) (bay (input 8 ∷ [])) (1 ∷ []) (atLast outputFull)) (refused 15)  -- the chosen entry is the wanted one
     ∷ row 25 (pairedOver (clean Paired 0) (onFirst 7) (bay (listOf (λ k. input 1) 8)) (replicate 8 65528) zeros) (accepted (0 ∷ 65528 ∷ []))  -- eight share an entry
     ∷ row 26 (pairedOver (clean Paired 0) (onFirst 8) (bay (listOf (λ k. input 1) 9)) (replicate 9 65528) zeros) (refused 8)  -- nine have no room
+    ∷ row 27 (pairedPass (pair 5 0 ∷ pair 16 0 ∷ []) (bay (input 8 ∷ []))) (refused 18)  -- a number above 15 in a pair that doesn't decide
+    ∷ row 28 (pairedPass (pair 16 0 ∷ []) (bay [])) (refused 18)  -- and where nothing is mapped
+    ∷ row 29 (pairedOver (clean Paired 0) (pair 16 0 ∷ []) (bay (input 8 ∷ [])) (1 ∷ []) []) (refused 1)  -- 1 comes before 18
+    ∷ row 30 (pairedFrom MasterRead 4294967295 (clean Paired 0) (pair 16 0 ∷ []) (bay (input 8 ∷ [])) (1 ∷ []) zeros) (refused 18)  -- and 18 before 9
+    ∷ row 31 (pairedFrom MasterWrite 0 (clean Paired 0) (pair 0 1 ∷ []) (bay (input 8 ∷ output 8 ∷ [])) (1 ∷ 1 ∷ []) zeros) (refused 18)  -- the output pass gives what the input pass gives
+    ∷ row 32 (pairedFrom MasterWrite 0 (clean Paired 0) (pair 5 1 ∷ []) (bay (input 8 ∷ output 16 ∷ [])) (1 ∷ 1 ∷ []) zeros) (accepted (0 ∷ 2 ∷ []))  -- and maps the outputs
     ∷ []

@@ -15,10 +15,9 @@ use Rattle.sheet.specs.Sheet.{sheetData}
 use Rattle.pdo.specs.declared.PdoDirection.{PdoDirection}
 use Rattle.area.specs.Area.{entriesOf, flat, notEntries}
 use Rattle.passes.specs.declared.OldEntries.the-variants.{Clear}
-use Rattle.passes.specs.declared.FmmuPair.{FmmuPair}
 use Rattle.passes.specs.declared.FmmuMode.{FmmuMode}
 use Rattle.passes.specs.declared.Chosen.{Chosen}
-use Rattle.passes.specs.Use.{chosenBy, usesOf}
+use Rattle.passes.specs.Use.{usesOf}
 use Rattle.passes.specs.Old.{clean, keeping, cleared, inTheWay}
 use Rattle.passes.specs.Entries.{Planned}
 use Rattle.passes.specs.Pass.{dataPass, entriesAfter, channelAreaAfter, Passes}
@@ -84,10 +83,10 @@ AsFromZeros =
 -- a pass in the default that answered a segment, made again from the same offset over what it left, answers the same and leaves the same
 abbrev pub MadeAgain : Type 0
 MadeAgain =
-    (sheet ws : List ℕ) (mode : FmmuMode) (pairs : List FmmuPair) (r : PdoDirection) (offset : PdiOffset) (group : ℕ) (fmmus channels : List ℕ)
+    (sheet ws : List ℕ) (mode : FmmuMode) (c : Chosen) (r : PdoDirection) (offset : PdiOffset) (group : ℕ) (fmmus channels : List ℕ)
     (segment : PdiSegment) (offsetThen : PdiOffset) (fmmusThen channelsThen : List ℕ)
     (answer : Placed) (offsetAgain : PdiOffset) (fmmusAgain channelsAgain : List ℕ)
     → Bytes sheet
-    → Passes sheet ws (chosenBy mode pairs) r offset (clean mode group) fmmus channels (Segment segment) offsetThen fmmusThen channelsThen
-    → Passes sheet ws (chosenBy mode pairs) r offset (clean mode group) fmmusThen channelsThen answer offsetAgain fmmusAgain channelsAgain
+    → Passes sheet ws c r offset (clean mode group) fmmus channels (Segment segment) offsetThen fmmusThen channelsThen
+    → Passes sheet ws c r offset (clean mode group) fmmusThen channelsThen answer offsetAgain fmmusAgain channelsAgain
     → _≡_ {A = Placed × PdiOffset × List ℕ × List ℕ} (answer, offsetAgain, fmmusAgain, channelsAgain) (Segment segment, offsetThen, fmmusThen, channelsThen)

@@ -45,12 +45,16 @@ noEntry d ws r = byCoe d && (someOf (λ (p : Piece). ltb 0 (p .bits)) (piecesOf 
 abbrev pub wantedRefusals : Data → List ℕ → PdoDirection → List Refusal
 wantedRefusals d ws r = when 6 (someTooMany d ws r) ∷ when 7 (noEntry d ws r) ∷ []
 
--- all, in their order; counting takes no pairs, so 18, which comes before those, is a pass's alone
-abbrev pub passRefusals : List ℕ → List ℕ → Chosen → PdoDirection → ℕ → Settings → List ℕ → List ℕ → List Refusal
-passRefusals sheet ws c r offset settings fmmus channels =
+-- all, in their order, where 18 is given if `bad`; counting takes no pairs, so 18 is a pass's alone
+abbrev pub refusalsIf : Bool → List ℕ → List ℕ → Chosen → PdoDirection → ℕ → Settings → List ℕ → List ℕ → List Refusal
+refusalsIf bad sheet ws c r offset settings fmmus channels =
     when 1 (notAreas fmmus channels)
-    ∷ sheetRefusals sheet ++ (when 18 (badPairs (settings .mode) c (sheetData sheet) ws) ∷ wantedRefusals (sheetData sheet) ws r
+    ∷ sheetRefusals sheet ++ (when 18 bad ∷ wantedRefusals (sheetData sheet) ws r
     ++ entryRefusals (usesOf (settings .mode) c (sheetData sheet) ws r) (sizeOf (sheetData sheet) ws r) r offset settings (entriesOf 16 fmmus))
+
+-- it is given for bad pairs
+abbrev pub passRefusals : List ℕ → List ℕ → Chosen → PdoDirection → ℕ → Settings → List ℕ → List ℕ → List Refusal
+passRefusals sheet ws c r offset settings fmmus channels = refusalsIf (badPairs (settings .mode) c (sheetData sheet) ws) sheet ws c r offset settings fmmus channels
 
 -- an accepted pass
 abbrev pub plannedOf : Data → List ℕ → PdoDirection → ℕ → ℕ → Planned

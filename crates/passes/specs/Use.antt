@@ -1,4 +1,4 @@
--- Which sync manager uses which entry: the one place that knows the path.
+-- Which sync manager uses which entry, by the path, the mode and what pairs chose.
 -- Assumes nothing.
 use mathlib.Core.Bool.{Bool, cond, _||_}
 use mathlib.Core.List.{List, [], _∷_}

@@ -23,12 +23,30 @@ use Rattle.passes.specs.declared.FmmuMode.{FmmuMode}
 use Rattle.passes.specs.declared.FmmuMode.the-variants.{OwnNumber, Paired}
 use Rattle.passes.specs.declared.Chosen.{Chosen}
 use Rattle.passes.specs.Use.{Use, useOf, given, paired}
-use Rattle.passes.specs.Pairs.{someOn, comesBack, interrupted, badEntry, badPairs}
+use Rattle.passes.specs.Pairs.{numberAbove, someOn, comesBack, interrupted, badEntry, badPairs}
 use Rattle.passes.specs.Handed.{hasUsage}
 use Rattle.wanted.specs.declared.Entered.{Entered}
 use Rattle.wanted.specs.ByKind.{bitsAt, bitsIn, bitAt}
-use Rattle.wanted.specs.Judged.{pairsRead, numbersFrom, usesIn, Surveys, someShared, badChoice}
+use Rattle.wanted.specs.Judged.{pairsRead, numbersFrom, usesIn, Surveys, somePastLast, someShared, badChoice}
 use Rattle.wanted.proofs.Surveying.{some-or}
+
+-- whether an entry of sixteen is above 15: none so far, one that is, one more that isn't, none of sixteen
+module _ (entries : List ℕ) where
+  abbrev past : ℕ → Bool
+  past k = ltb 15 (getD entries k 0)
+
+  pub none-past-start : someBelow past 0 ≡ false
+  unfolding someBelow
+  none-past-start = refl
+
+  pub past-here : (k : ℕ) → k < 16 → 15 < getD entries k 0 → true ≡ somePastLast entries
+  past-here k h e = sym (some-hit past k 16 h (lt-ltb 15 (getD entries k 0) e))
+
+  pub past-not-here : (k : ℕ) → someBelow past k ≡ false → getD entries k 0 ≤ 15 → someBelow past (k + 1) ≡ false
+  past-not-here k h e = some-miss past k h (le-ltb 15 (getD entries k 0) e)
+
+  pub past-nowhere : (k : ℕ) → k ≡ 16 → someBelow past k ≡ false → false ≡ somePastLast entries
+  past-nowhere k e h = sym h ∙ ap (someBelow past) e
 
 -- whether an entry is used by both: none so far, one that is, one more that isn't, none of sixteen
 module _ (one two : List Bool) where
@@ -172,7 +190,7 @@ module _ (s ws : List ℕ) (c : Chosen) (few : length (sheetData s .managers) �
       → badPairs mode c d ws ≡ pairsRead (byCoe d) mode && badChoice c (bitsBy r) (bitsIn s (kindOf (other r)) (usageOf (other r)) ws)
   unfolding badPairs badChoice
   bad-pairs OwnNumber r = refl
-  bad-pairs Paired r = ap (λ (b : Bool). not (byCoe d) && (c .above || b)) (whichever r ∙ bad-by r (other r)) ∙ go (byCoe d) refl
+  bad-pairs Paired r = ap (λ (b : Bool). not (byCoe d) && (numberAbove c || b)) (whichever r ∙ bad-by r (other r)) ∙ go (byCoe d) refl
     where
       go : (b : Bool) → byCoe d ≡ b → not (byCoe d) && badChoice c (bitsBy r) (bitsBy (other r)) ≡ not (byCoe d) && badChoice c (bitsBy r) (bitsIn s (kindOf (other r)) (usageOf (other r)) ws)
       go true e = rw e
@@ -195,14 +213,14 @@ module _ (c : Chosen) (these those : List BitLen) where
   abbrev both : Bool
   both = someBelow (λ k. someOn k us && someOn k vs) 16
 
-  parts : badChoice c these those ≡ c .above || (both || (one || two))
+  parts : badChoice c these those ≡ numberAbove c || (both || (one || two))
   unfolding badChoice
   parts =
-      ap (λ (b : Bool). c .above || b)
+      ap (λ (b : Bool). numberAbove c || b)
       (some-or (λ k. someOn k us && someOn k vs) (λ k. interrupted k us || interrupted k vs) 16
       ∙ ap (λ (b : Bool). both || b) (some-or (λ k. interrupted k us) (λ k. interrupted k vs) 16))
 
-  pub above-bad : c .above ≡ true → true ≡ badChoice c these those
+  pub above-bad : numberAbove c ≡ true → true ≡ badChoice c these those
   above-bad e = sym (parts ∙ rw e)
 
   module _ (x : Entered) (h : Surveys us x) where
@@ -213,7 +231,7 @@ module _ (c : Chosen) (these those : List BitLen) where
       pub two-bad : y .interrupted ≡ true → true ≡ badChoice c these those
       two-bad e = let t : two ≡ true = sym (g .breaks) ∙ e in sym (parts ∙ rw (t, or-true, or-true, or-true))
 
-      pub shared-bad : (r : Bool) → c .above ≡ false → x .interrupted ≡ false → y .interrupted ≡ false → r ≡ someShared (x .used) (y .used) → r ≡ badChoice c these those
+      pub shared-bad : (r : Bool) → numberAbove c ≡ false → x .interrupted ≡ false → y .interrupted ≡ false → r ≡ someShared (x .used) (y .used) → r ≡ badChoice c these those
       unfolding someShared
       shared-bad r a e f q =
           let o : one ≡ false = sym (h .breaks) ∙ e in

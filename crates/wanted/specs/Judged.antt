@@ -5,7 +5,7 @@ use mathlib.Core.Bool.{Bool, true, false, not, _&&_, _||_}
 use mathlib.Core.List.{List, [], _∷_}
 use Prim.Native.Nat.{ℕ, zero, suc}
 use lib.ListN.{getD, set}
-use lib.Dec.{eqb}
+use lib.Dec.{eqb, ltb}
 use Rattle.wire.specs.Lists.{listOf, someBelow}
 use Rattle.pdi.specs.declared.BitLen.{BitLen}
 use Rattle.pdo.specs.Bits.{Piece}
@@ -13,7 +13,7 @@ use Rattle.passes.specs.declared.FmmuMode.{FmmuMode}
 use Rattle.passes.specs.declared.FmmuMode.the-variants.{OwnNumber, Paired}
 use Rattle.passes.specs.declared.Chosen.{Chosen}
 use Rattle.passes.specs.Use.{Use, given}
-use Rattle.passes.specs.Pairs.{someOn, interrupted, badEntry}
+use Rattle.passes.specs.Pairs.{numberAbove, someOn, interrupted, badEntry}
 use Rattle.wanted.specs.declared.Entered.{Entered}
 use Rattle.wanted.specs.ByKind.{bitAt}
 
@@ -43,10 +43,14 @@ pub record Surveys (us : List Use) (x : Entered) : Type 0 where
   pub uses : x .used ≡ listOf (λ k. someOn k us) 16
   pub breaks : x .interrupted ≡ someBelow (λ k. interrupted k us) 16
 
+-- an entry above 15 among sixteen
+abbrev pub somePastLast : List ℕ → Bool
+somePastLast entries = someBelow (λ k. ltb 15 (getD entries k 0)) 16
+
 -- an entry of both
 unfoldable pub someShared : List Bool → List Bool → Bool
 someShared one two = someBelow (λ k. getD one k false && getD two k false) 16
 
 -- 18 by the bits of two directions, where pairs are read
 unfoldable pub badChoice : Chosen → List BitLen → List BitLen → Bool
-badChoice c these those = c .above || someBelow (badEntry (usesIn (c .entries) these) (usesIn (c .entries) those)) 16
+badChoice c these those = numberAbove c || someBelow (badEntry (usesIn (c .entries) these) (usesIn (c .entries) those)) 16

@@ -1,4 +1,4 @@
--- What a data pass wants of a sheet: the size of each wanted sync manager, and the path; or the first of its refusals.
+-- What a data pass wants of a sheet: the size of each wanted sync manager, and the route; or the first of its refusals.
 -- Assumes nothing.
 use mathlib.Core.Path.{_≡_}
 use mathlib.Core.Bool.{true}

@@ -14,9 +14,10 @@ ghost use Rattle.sheet.specs.Sheet.{sheetData, answerOf};
 ghost use Rattle.pdo.specs.Direction as Direction;
 ghost use Rattle.pdo.specs.Direction.{usageOf, kindOf};
 ghost use Rattle.passes.specs.Use.{firstWith};
+ghost use Rattle.passes.specs.Pairs.{numberAbove};
 ghost use Rattle.passes.specs.Handed.{hasUsage, routeBy};
 ghost use Rattle.wanted.specs.ByKind.{bitsIn, someTooWide, sizesIn, someSize, routedOf};
-ghost use Rattle.wanted.specs.Judged.{pairsRead, usesIn, comesAgain, withUse, Surveys, someShared, badChoice};
+ghost use Rattle.wanted.specs.Judged.{pairsRead, usesIn, comesAgain, withUse, Surveys, somePastLast, someShared, badChoice};
 ghost use Rattle.wanted.specs.Wanted.{noSizes, wantedAfter, Wants};
 use passes::Chosen;
 use passes::FmmuMode;
@@ -369,6 +370,31 @@ fn some_shared(one: [bool; 16], two: [bool; 16]) -> bool
     false
 }
 
+// Whether an entry of the sixteen is none.
+fn some_past_last(entries: [u8; 16]) -> bool
+    ensures { λ r. ⌜ r ≡ somePastLast entries ⌝ }
+{
+    let mut k = 0;
+    while k < 16 {
+        if 15 < entries[k] {
+            return true;
+        }
+        k += 1;
+    }
+    false
+}
+
+// Whether a number above 15 was handed on.
+fn number_above(chosen: Chosen) -> bool
+    ensures { λ r. ⌜ r ≡ numberAbove chosen ⌝ }
+{
+    if chosen.above {
+        return true;
+    }
+    let entries = chosen.entries;
+    some_past_last(entries)
+}
+
 // 18: a number above 15, an entry of both directions, or one of a direction left for another and come back to. Given the bits of one direction.
 fn bad_pairs(
     sheet: &[u8],
@@ -380,7 +406,7 @@ fn bad_pairs(
     requires { ⌜ (length (now sheet) ≤ 16386) × (broken (now sheet) ≡ false) ⌝ }
     ensures { λ r. ⌜ r ≡ badChoice chosen bits (bitsIn (now (sheet .entry)) (kindOf (Direction.other direction)) (usageOf (Direction.other direction)) (now (multipliers .entry))) ⌝ }
 {
-    if chosen.above {
+    if number_above(chosen) {
         return true;
     }
     let entries = chosen.entries;

@@ -1,6 +1,6 @@
 -- `wanted::bad_pairs`: a number above 15, either direction by itself, then both.
 -- Assumes nothing.
-use mathlib.Core.Path.{_≡_, _∙_, ap, subst}
+use mathlib.Core.Path.{_≡_, sym, _∙_, ap, subst}
 use mathlib.Core.List.{List}
 use denote.Ref.{now}
 use borrow.Author.Needs.{needs}
@@ -17,8 +17,14 @@ use Rattle.wanted.proofs.bad_pairs.Tie as tie
 abbrev others : tie.Start → List BitLen
 others c = bitsIn (now (c .args .sheet)) (kindOf (other (c .args .direction))) (usageOf (other (c .args .direction))) (now (c .args .multipliers))
 
+number-above-requires : tie.Need-number-above-requires
+number-above-requires c κs = search needs
+
 returns : tie.Need-returns
-returns c = let b = c .before .before .before in above-bad (b .args .chosen) (b .args .bits) (others b) (c .if1 .taken)
+returns c =
+    let n = c .before in
+    let b = n .before .before .before in
+    above-bad (b .args .chosen) (b .args .bits) (others b) (sym (n .number-above .ensures) ∙ c .if1 .taken)
 
 survey-requires : tie.Need-survey-requires
 survey-requires c κs = search needs
@@ -26,7 +32,7 @@ survey-requires c κs = search needs
 returns-2 : tie.Need-returns-2
 returns-2 c =
     let s = c .before in
-    let b = s .before .before .before .before .before in
+    let b = s .before .before .before .before .before .before in
     one-bad (b .args .chosen) (b .args .bits) (others b) (s .survey .result) (s .survey .ensures) (c .if2 .taken)
 
 other-requires : tie.Need-other-requires
@@ -36,14 +42,14 @@ filter-terms-requires : tie.Need-filter-terms-requires
 filter-terms-requires c κs = search needs
 
 tally-requires : tie.Need-tally-requires
-tally-requires c κs = c .before .before .before .before .before .before .before .before .pre
+tally-requires c κs = c .before .before .before .before .before .before .before .before .before .pre
 
 survey-requires-2 : tie.Need-survey-requires-2
 survey-requires-2 c κs = search needs
 
 -- where the call began, and what the second survey finds
 abbrev start : tie.After-survey2 → tie.Start
-start c = c .before .before .before .before .before .before .before .before .before .before
+start c = c .before .before .before .before .before .before .before .before .before .before .before
 
 there : (c : tie.After-survey2) → Surveys (usesIn (start c .args .chosen .entries) (others (start c))) (c .survey2 .result)
 there c =
@@ -72,12 +78,13 @@ returns-4 c =
     let o = p .before in
     let b = start s in
     shared-bad (b .args .chosen) (b .args .bits) (others b) (o .survey .result) (o .survey .ensures) (s .survey2 .result) (there s) (c .some-shared .result)
-    (o .before .before .if1 .left) (p .if2 .left) (e .if3 .left) (c .some-shared .ensures)
+    (sym (o .before .before .before .number-above .ensures) ∙ o .before .before .if1 .left) (p .if2 .left) (e .if3 .left) (c .some-shared .ensures)
 
 pub bad-pairs-spec : {M : Type 1} → statement M
 bad-pairs-spec =
     tie.close
     (tie.spec
+    number-above-requires
     returns
     survey-requires
     returns-2
