@@ -64,7 +64,7 @@ sharingSheet =
     ++ (0x01 ∷ 0x01 ∷ 0x1a ∷ 0x00 ∷ 0x02 ∷ 0x00 ∷ 0x0c ∷ 0x01 ∷ 0x02 ∷ 0x1a ∷ 0x01 ∷ 0x02 ∷ 0x00 ∷ 0x08 ∷ [])
 
 -- the last sync manager uses FMMU 1 too, that of the one before it
-abbrev sharedLent : PdoDirection → Lent
+abbrev pub sharedLent : PdoDirection → Lent
 sharedLent r = lentBy (pair 1 2 ∷ []) (clean Paired 0) r
 
 abbrev sharedKept : PdoDirection → Lent
@@ -78,7 +78,7 @@ in-default MasterWrite = refl
 abbrev old : ℕ → List ℕ
 old access = entry 3 9 7 0x2000 access 1
 
-abbrev usedEntries : List ℕ
+abbrev pub usedEntries : List ℕ
 usedEntries = withZeros (old 2 ∷ old 1 ∷ old 1 ∷ [])
 
 abbrev sharedInput : List ℕ
@@ -116,7 +116,7 @@ shared-kept =
       two = record { planned = inputs; says = refl; leaves = refl };
     }
 
-shared-end-to-end : EndToEnd (laidBy sharingSheet MasterRead (sharedLent MasterRead))
+pub shared-end-to-end : EndToEnd (laidBy sharingSheet MasterRead (sharedLent MasterRead))
 unfolding controlAt listOf pdosFrom sheetData multiplierOf byCoe bitsOf piecesFrom piecesOf own given firstWith entryFor usesOf sharing
 shared-end-to-end = follows-iff (laidBy sharingSheet MasterRead (sharedLent MasterRead)) .1 (λ h. refl, (λ h. tt, tt))
 

@@ -58,12 +58,11 @@ empty-list sheet ws r offset settings fmmus channels few full =
     let d = sheetData sheet in
     let bad : badPairs Paired (chosenOf []) d ws ≡ false = none-bad d few ws in
     let same = no-pairs d few ws r ∙ all-there (piecesOf d ws r) full in
-    let uses : usesOf Paired (chosenOf []) d ws r ≡ usesOf OwnNumber (chosenOf []) d ws r = rw same refl in
-    (
+    let uses : usesOf Paired (chosenOf []) d ws r ≡ usesOf OwnNumber (chosenOf []) d ws r = rw same refl in (
       (λ i.
-      decide
-      (when 1 (notAreas fmmus channels) ∷ sheetRefusals sheet ++ (when 18 (bad i) ∷ wantedRefusals d ws r
-      ++ entryRefusals (uses i) (sizeOf d ws r) r offset settings (entriesOf 16 fmmus)))
-      (plannedOf d ws r offset (settings .group))),
+          decide
+          (when 1 (notAreas fmmus channels) ∷ sheetRefusals sheet ++ (when 18 (bad i) ∷ wantedRefusals d ws r
+          ++ entryRefusals (uses i) (sizeOf d ws r) r offset settings (entriesOf 16 fmmus)))
+          (plannedOf d ws r offset (settings .group))),
       (λ o i. entryArea o r offset (settings .old) (uses i) fmmus),
     )

@@ -25,7 +25,7 @@ use Rattle.passes.specs.Handed.{usesBy}
 use Rattle.passes.specs.Entries.{lengthNow, tooLong}
 use Rattle.passes.specs.Old.{cleared, bothBits, someEnabled, inTheWay}
 use Rattle.passes.proofs.Cleared.{nil-off, zeros-all-off, none-used, cleared-at, length-off, cleared-short, from-zero, cleared-eight}
-use Rattle.entries.specs.Lay.{takesEntry, entryOf, Short}
+use Rattle.entries.specs.Lay.{takesEntry, entryTaken, Short}
 use Rattle.entries.specs.Ready.{on, zeroEntries, ready, Clears, Readies}
 use Rattle.entries.proofs.Uses.{usesAt, uses-end, uses-other, uses-skip, uses-next}
 
@@ -75,7 +75,7 @@ module _ {sheet : List ℕ} {route : Route} {sizes : List ByteLen} {usage : ℕ}
       skip-passed t = passes-over (uses-skip route sizes usage (managersIn sheet) k m next used (sym (ap (takesEntry route) s) ∙ t))
 
       -- its entry is enabled, or not
-      module _ (t : takesEntry route size ≡ true) {e : ℕ} (q : e ≡ entryOf route k) where
+      module _ (t : takesEntry route size ≡ true) {e : ℕ} (q : e ≡ entryTaken route k) where
         asked : on (getD es e []) || enabledFrom sheet route sizes usage es (k + 1) ≡ enabledFrom sheet route sizes usage es 0
         asked =
             ap (λ (i : ℕ). on (getD es i []) || enabledFrom sheet route sizes usage es (k + 1)) q

@@ -18,7 +18,7 @@ use Rattle.pdo.specs.Direction.{usageOf}
 use Rattle.channels.specs.Channels.{sizeAt}
 use Rattle.passes.specs.declared.Route.{Route}
 use Rattle.passes.specs.Handed.{usesBy}
-use Rattle.entries.specs.Lay.{takesEntry, entryOf, useAt, laidOne, Short, laidAll}
+use Rattle.entries.specs.Lay.{takesEntry, entryTaken, useAt, laidOne, Short, laidAll}
 use Rattle.entries.proofs.Uses.{usesAt, uses-end, uses-other, uses-skip, uses-next}
 use Rattle.entries.proofs.Laying.{Laying, laying-starts, laying-at, laying-ends, laying-stops, laying-turns}
 
@@ -67,7 +67,7 @@ module _ {sheet : List ℕ} {route : Route} {sizes : List ByteLen} {r : PdoDirec
       pub turn-skip : takesEntry route size ≡ false → Next end now
       turn-skip t = passes-over (uses-skip route sizes (usageOf r) ms k m next used (sym (ap (takesEntry route) s) ∙ t))
 
-      module _ (t : takesEntry route size ≡ true) {e at : ℕ} (q : e ≡ entryOf route k) (p : at ≡ m .«start_addr») (x : Answer) (after : List (List ℕ)) where
+      module _ (t : takesEntry route size ≡ true) {e at : ℕ} (q : e ≡ entryTaken route k) (p : at ≡ m .«start_addr») (x : Answer) (after : List (List ℕ)) where
         left : usesAt route sizes (usageOf r) ms k ≡ useAt e size at ∷ usesAt route sizes (usageOf r) ms (k + 1)
         left =
             uses-next route sizes (usageOf r) ms k m next used (sym (ap (takesEntry route) s) ∙ t)

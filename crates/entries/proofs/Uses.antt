@@ -16,7 +16,7 @@ use Rattle.passes.specs.declared.Route.{Route}
 use Rattle.passes.specs.Use.{Use, own, given}
 use Rattle.passes.specs.Handed.{entryBy, byRoute}
 use Rattle.passes.proofs.Pieces.{some-bytes, bytes-back, onEntries}
-use Rattle.entries.specs.Lay.{takesEntry, entryOf, useAt}
+use Rattle.entries.specs.Lay.{takesEntry, entryTaken, useAt}
 
 -- what one piece adds to the uses: eight bits for each byte are as many bytes, and some exactly if those are
 one-use :
@@ -64,7 +64,7 @@ module _ (route : Route) (sizes : List ByteLen) (usage : ℕ) (ms : List SyncMan
     uses-other h = ap (byRoute route) (pieces-next false (ne-eqb (m .«usage_type») usage h))
 
     module _ (is : m .«usage_type» ≡ usage) where
-      uses-by : (t : Bool) → takesEntry route (sizeAt sizes k) ≡ t → usesAt k ≡ cond t (useAt (entryOf route k) (sizeAt sizes k) (m .«start_addr») ∷ usesAt (k + 1)) (usesAt (k + 1))
+      uses-by : (t : Bool) → takesEntry route (sizeAt sizes k) ≡ t → usesAt k ≡ cond t (useAt (entryTaken route k) (sizeAt sizes k) (m .«start_addr») ∷ usesAt (k + 1)) (usesAt (k + 1))
       unfolding piece
       uses-by t e =
           ap (byRoute route) (pieces-next true (eq-eqb (m .«usage_type») usage is))
@@ -74,5 +74,5 @@ module _ (route : Route) (sizes : List ByteLen) (usage : ℕ) (ms : List SyncMan
       pub uses-skip : takesEntry route (sizeAt sizes k) ≡ false → usesAt k ≡ usesAt (k + 1)
       uses-skip e = uses-by false e
 
-      pub uses-next : takesEntry route (sizeAt sizes k) ≡ true → usesAt k ≡ useAt (entryOf route k) (sizeAt sizes k) (m .«start_addr») ∷ usesAt (k + 1)
+      pub uses-next : takesEntry route (sizeAt sizes k) ≡ true → usesAt k ≡ useAt (entryTaken route k) (sizeAt sizes k) (m .«start_addr») ∷ usesAt (k + 1)
       uses-next e = uses-by true e

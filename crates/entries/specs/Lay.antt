@@ -22,8 +22,8 @@ use Rattle.entries.specs.declared.Laid.the-variants as laid
 abbrev pub takesEntry : Route → ℕ → Bool
 takesEntry route size = cond (route .own) true (ltb 0 size)
 
-abbrev pub entryOf : Route → ℕ → ℕ
-entryOf route number = cond (route .own) number (entryBy route number)
+abbrev pub entryTaken : Route → ℕ → ℕ
+entryTaken route number = cond (route .own) number (entryBy route number)
 
 abbrev pub useAt : ℕ → ℕ → ℕ → Use
 useAt e size at = record { entry = e; size = size; at = at }

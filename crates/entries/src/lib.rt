@@ -7,7 +7,7 @@ ghost use Rattle.sheet.specs.Sheet.{managersIn, answerOf};
 ghost use Rattle.passes.specs.Handed.{usesBy};
 ghost use Rattle.passes.specs.Entries as Entries;
 ghost use Rattle.passes.specs.Entries.{configuredOf, WritesEntries};
-ghost use Rattle.entries.specs.Lay.{takesEntry, entryOf, useAt, laidOne, Short, laidAll, laidOf, segmentTo, thenInTheWay};
+ghost use Rattle.entries.specs.Lay.{takesEntry, entryTaken, useAt, laidOne, Short, laidAll, laidOf, segmentTo, thenInTheWay};
 
 mod ready;
 
@@ -74,7 +74,7 @@ fn takes(route: Route, size: ByteLen) -> bool
 // Which entry the sync manager with a number uses.
 fn entry_of(route: Route, number: u8) -> usize
     requires { ⌜ number < 16 ⌝ }
-    ensures { λ r. ⌜ r ≡ entryOf route number ⌝ }
+    ensures { λ r. ⌜ r ≡ entryTaken route number ⌝ }
 {
     if route.own {
         return wire::wide(number);
