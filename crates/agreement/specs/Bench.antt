@@ -17,7 +17,7 @@ use Rattle.pdo.specs.Bits.{multipliersOf}
 use Rattle.area.specs.Area.{entriesOf}
 use Rattle.passes.specs.declared.Settings.{Settings}
 use Rattle.passes.specs.declared.FmmuMode.the-variants.{OwnNumber}
-use Rattle.passes.specs.Use.{chosenOf}
+use Rattle.passes.specs.Use.{nothingChosen}
 use Rattle.passes.specs.Old.{clean, keeping}
 use Rattle.passes.specs.Pass.{dataPass, entriesAfter, channelAreaAfter}
 use Rattle.passes.specs.Entries.{Planned}
@@ -64,7 +64,7 @@ zeroChannels = replicate 128 0
 
 -- the input pass over FMMU bytes, from an offset; in the default with group start 0; and that from offset 0
 abbrev pub inputBy : Settings → ℕ → List ℕ → List ℕ → Outcome Planned
-inputBy settings offset sheet area = dataPass sheet (ones sheet) (chosenOf []) MasterRead offset settings area zeroChannels
+inputBy settings offset sheet area = dataPass sheet (ones sheet) nothingChosen MasterRead offset settings area zeroChannels
 
 abbrev pub inputFrom : ℕ → List ℕ → List ℕ → Outcome Planned
 inputFrom offset sheet area = inputBy (clean OwnNumber 0) offset sheet area
@@ -84,7 +84,7 @@ entryOf size k after (accepted p) = accepted (getD (entriesOf size after) k [])
 -- the FMMU entry k, and the image of the sync manager k
 abbrev pub inputEntry : ℕ → List ℕ → List ℕ → Outcome (List ℕ)
 inputEntry k sheet area =
-    entryOf 16 k (entriesAfter (inputPass sheet area) (sheetData sheet) (ones sheet) (chosenOf []) MasterRead 0 (clean OwnNumber 0) area) (inputPass sheet area)
+    entryOf 16 k (entriesAfter (inputPass sheet area) (sheetData sheet) (ones sheet) nothingChosen MasterRead 0 (clean OwnNumber 0) area) (inputPass sheet area)
 
 abbrev pub inputImage : ℕ → List ℕ → Outcome (List ℕ)
 inputImage k sheet =

@@ -14,7 +14,7 @@ use Rattle.area.specs.Area.{flat}
 use Rattle.passes.specs.declared.Settings.{Settings}
 use Rattle.passes.specs.declared.FmmuPair.{FmmuPair}
 use Rattle.passes.specs.declared.FmmuMode.the-variants.{OwnNumber, Paired}
-use Rattle.passes.specs.Use.{chosenOf, chosenBy}
+use Rattle.passes.specs.Use.{nothingChosen, chosenOf, chosenBy}
 use Rattle.passes.specs.Old.{clean, keeping}
 use Rattle.passes.specs.Pass.{dataPass, entriesAfter}
 use Rattle.translation.specs.Translate.{translate}
@@ -123,7 +123,7 @@ sharedSheet n =
     ++ flat (listOf (λ k. 0x00 ∷ (1 + k) ∷ 0x1a ∷ k ∷ 0x01 ∷ 0x01 ∷ []) n)
 
 abbrev pub sharedBy : Settings → ℕ → List ℕ → Outcome (List ℕ)
-sharedBy settings n area = startAndEnd (dataPass (sharedSheet n) (replicate n 65528) (chosenOf []) MasterRead 0 settings area zeroChannels)
+sharedBy settings n area = startAndEnd (dataPass (sharedSheet n) (replicate n 65528) nothingChosen MasterRead 0 settings area zeroChannels)
 
 abbrev pub oldCases : List Row
 oldCases =

@@ -24,7 +24,7 @@ use Rattle.passes.specs.declared.Chosen.{Chosen}
 use Rattle.passes.specs.declared.FmmuMode.the-variants.{OwnNumber}
 use Rattle.passes.specs.declared.Settings.{Settings}
 use Rattle.passes.specs.Old.{clean}
-use Rattle.passes.specs.Use.{chosenOf, chosenBy, usesOf, sizeOf}
+use Rattle.passes.specs.Use.{nothingChosen, chosenBy, usesOf, sizeOf}
 use Rattle.passes.specs.Pairs.{badPairs}
 use Rattle.passes.specs.Entries.{Planned, entryRefusals}
 use Rattle.passes.specs.Pass.{notAreas, wantedRefusals, plannedOf, dataPass, entriesAfter, channelAreaAfter, segmentAlone, offsetAfter, Passes}
@@ -106,13 +106,13 @@ module _ (s t : List ℕ) {x : Data} (e : readSheet s ≡ accepted x) (f : readS
   -- what is printed: the three passes one after the other
   pass-too : (r : PdoDirection) (offset : ℕ) (a : Areas) → pass s r offset a ≡ pass t r offset a
   pass-too r offset a =
-      ap (λ (ws : List ℕ). dataPass s ws (chosenOf []) r offset (clean OwnNumber 0) (a .fmmus) (a .channels)) (same-multipliers []) ∙ same-pass (once t) (chosenOf []) r offset (clean OwnNumber 0) (a .fmmus) (a .channels)
+      ap (λ (ws : List ℕ). dataPass s ws nothingChosen r offset (clean OwnNumber 0) (a .fmmus) (a .channels)) (same-multipliers []) ∙ same-pass (once t) nothingChosen r offset (clean OwnNumber 0) (a .fmmus) (a .channels)
 
   leaves-too : (r : PdoDirection) (offset : ℕ) (a : Areas) (p : Planned) → passLeaves s r offset a p ≡ passLeaves t r offset a p
   leaves-too r offset a p =
       λ i.
       areas
-      (entriesAfter (accepted p) (same-data i) (same-multipliers [] i) (chosenOf []) r offset (clean OwnNumber 0) (a .fmmus))
+      (entriesAfter (accepted p) (same-data i) (same-multipliers [] i) nothingChosen r offset (clean OwnNumber 0) (a .fmmus))
       (channelAreaAfter (accepted p) (same-data i) (same-multipliers [] i) r (a .channels))
 
   outputs-too : (i : Planned) (a : Areas) → withOutputs s i a ≡ withOutputs t i a

@@ -1,10 +1,10 @@
 -- Which sync manager uses which entry, by the path, the mode and what pairs chose.
 -- Assumes nothing.
-use mathlib.Core.Bool.{Bool, cond, _||_}
+use mathlib.Core.Bool.{Bool, false, cond, _||_}
 use mathlib.Core.List.{List, [], _∷_}
 use Prim.Native.Nat.{ℕ, zero, suc, _+_}
 use lib.Dec.{eqb, ltb}
-use lib.ListN.{getD}
+use lib.ListN.{getD, replicate}
 use Rattle.wire.specs.Lists.{listOf, someOf}
 use Rattle.pdi.specs.Unit.{bytesOf}
 use Rattle.sheet.specs.Device.{Data}
@@ -57,9 +57,13 @@ pastLast p = ltb 15 (p .fmmu) || ltb 15 (p .«sync_manager»)
 abbrev pub chosenOf : List FmmuPair → Chosen
 chosenOf ps = record { entries = listOf (entryFor ps) 16; above = someOf pastLast ps }
 
+-- nothing is handed on
+abbrev pub nothingChosen : Chosen
+nothingChosen = record { entries = replicate 16 0; above = false }
+
 -- by own numbers the list isn't read
 abbrev pub chosenBy : FmmuMode → List FmmuPair → Chosen
-chosenBy OwnNumber ps = chosenOf []
+chosenBy OwnNumber ps = nothingChosen
 chosenBy Paired ps = chosenOf ps
 
 -- by pairs: with more than 0 bits the entry that was chosen for its number

@@ -1,9 +1,8 @@
 // What the parts of a data pass hand to one another; what a pass means stands in specs/.
 ghost use mathlib.Core.Path.{_≡_};
-ghost use mathlib.Core.List.{[]};
 ghost use Rattle.passes.specs.declared.FmmuMode.the-variants as mode;
 ghost use Rattle.passes.specs.Old as Old;
-ghost use Rattle.passes.specs.Use.{chosenOf};
+ghost use Rattle.passes.specs.Use.{nothingChosen};
 use pdi::PdiOffset;
 use pdi::PdiSegment;
 
@@ -32,12 +31,12 @@ pub struct Chosen {
 }
 
 impl Chosen {
-    // What a list of no pairs hands on: each sync manager's own number.
+    // Nothing: what is handed on where no pairs are read.
     pub fn none() -> Chosen
-        ensures { λ r. ⌜ r ≡ chosenOf [] ⌝ }
+        ensures { λ r. ⌜ r ≡ nothingChosen ⌝ }
     {
         Chosen {
-            entries: [0, 1, 2, 3, 4, 5, 6, 7, 8, 9, 10, 11, 12, 13, 14, 15],
+            entries: [0u8; 16],
             above: false,
         }
     }

@@ -1,7 +1,7 @@
 -- From what a pass promises to the plan, which goes on with what the pass leaves or is the pass's refusal; and from the plan to its text.
 -- Assumes nothing.
 use mathlib.Core.Path.{_≡_, sym, _∙_, ap}
-use mathlib.Core.List.{List, []}
+use mathlib.Core.List.{List}
 use Prim.Native.Nat.{ℕ}
 use Rattle.wire.specs.Outcome.{Outcome, refused, accepted}
 use Rattle.pdi.specs.declared.PdiSegment.{PdiSegment}
@@ -10,7 +10,7 @@ use Rattle.sheet.specs.Sheet.{sheetData, managerCount}
 use Rattle.pdo.specs.declared.PdoDirection.{PdoDirection}
 use Rattle.pdo.specs.declared.PdoDirection.the-variants.{MasterRead, MasterWrite}
 use Rattle.passes.specs.declared.FmmuMode.the-variants.{OwnNumber}
-use Rattle.passes.specs.Use.{chosenOf}
+use Rattle.passes.specs.Use.{nothingChosen}
 use Rattle.passes.specs.Old.{clean}
 use Rattle.passes.specs.Entries.{Planned, configuredOf}
 use Rattle.passes.specs.declared.Configured.{Configured}
@@ -27,7 +27,7 @@ use Rattle.report.specs.Plan.{andThen, Areas, areas, Bay, bay, once, end
 
 -- a data pass
 module _ (sheet : List ℕ) (r : PdoDirection) (offset : ℕ) (fmmus channels : List ℕ) {answer : Configured} {fmmusThen channelsThen : List ℕ}
-    (c : Configures sheet (once sheet) (chosenOf []) r offset (clean OwnNumber 0) fmmus channels answer fmmusThen channelsThen) where
+    (c : Configures sheet (once sheet) nothingChosen r offset (clean OwnNumber 0) fmmus channels answer fmmusThen channelsThen) where
   gone-on :
       (s : PdiSegment) (o : PdiOffset) → answer ≡ configured.Mapped s o → (f : Planned → Areas → Outcome Bay)
       → f (ended s (o .«start_address»)) (areas fmmusThen channelsThen)
@@ -36,7 +36,7 @@ module _ (sheet : List ℕ) (r : PdoDirection) (offset : ℕ) (fmmus channels : 
       let d = sheetData sheet in
       let p = ended s (o .«start_address») in
       let mapped : accepted p ≡ pass sheet r offset (areas fmmus channels) = sym (ap configuredOf is) ∙ c .says in
-      let entries = c .entries ∙ ap (λ (x : Outcome Planned). entriesAfter x d (once sheet) (chosenOf []) r offset (clean OwnNumber 0) fmmus) (sym mapped) in
+      let entries = c .entries ∙ ap (λ (x : Outcome Planned). entriesAfter x d (once sheet) nothingChosen r offset (clean OwnNumber 0) fmmus) (sym mapped) in
       let images = c .images ∙ ap (λ (x : Outcome Planned). channelAreaAfter x d (once sheet) r channels) (sym mapped) in
       let left : areas fmmusThen channelsThen ≡ passLeaves sheet r offset (areas fmmus channels) p = λ i. areas (entries i) (images i) in
       ap (f p) left ∙ ap (λ (x : Outcome Planned). andThen x (λ (q : Planned). f q (passLeaves sheet r offset (areas fmmus channels) q))) mapped
@@ -46,7 +46,7 @@ module _ (sheet : List ℕ) (r : PdoDirection) (offset : ℕ) (fmmus channels : 
 
 module _ (sheet fmmus channels : List ℕ) {answer : Configured} {fmmusThen channelsThen : List ℕ} where
   -- the output pass
-  module _ (i : Planned) (c : Configures sheet (once sheet) (chosenOf []) MasterWrite (i .next) (clean OwnNumber 0) fmmus channels answer fmmusThen channelsThen) where
+  module _ (i : Planned) (c : Configures sheet (once sheet) nothingChosen MasterWrite (i .next) (clean OwnNumber 0) fmmus channels answer fmmusThen channelsThen) where
     pub outputs-mapped :
         (s : PdiSegment) (o : PdiOffset) → answer ≡ configured.Mapped s o
         → accepted (bay (i .segment) s (areas fmmusThen channelsThen)) ≡ withOutputs sheet i (areas fmmus channels)
@@ -58,7 +58,7 @@ module _ (sheet fmmus channels : List ℕ) {answer : Configured} {fmmusThen chan
     outputs-refused n is = stopped sheet MasterWrite (i .next) fmmus channels c n is _
 
   -- the input pass
-  module _ (c : Configures sheet (once sheet) (chosenOf []) MasterRead 0 (clean OwnNumber 0) fmmus channels answer fmmusThen channelsThen) where
+  module _ (c : Configures sheet (once sheet) nothingChosen MasterRead 0 (clean OwnNumber 0) fmmus channels answer fmmusThen channelsThen) where
     pub inputs-mapped :
         (s : PdiSegment) (o : PdiOffset) → answer ≡ configured.Mapped s o
         → withOutputs sheet (ended s (o .«start_address»)) (areas fmmusThen channelsThen) ≡ withInputs sheet (areas fmmus channels)

@@ -24,7 +24,7 @@ use Rattle.pdo.specs.declared.PdoDirection.{PdoDirection}
 use Rattle.channels.specs.Channels.{channelFor, written, channelsAfter}
 use Rattle.channels.proofs.After.{channels-kept}
 use Rattle.passes.specs.declared.FmmuMode.the-variants.{OwnNumber}
-use Rattle.passes.specs.Use.{chosenOf, usesOf}
+use Rattle.passes.specs.Use.{nothingChosen, usesOf}
 use Rattle.passes.specs.Entries.{Planned}
 use Rattle.passes.proofs.Kept.{sixteen-planned}
 use Rattle.passes.proofs.Cleared.{sixteen-begun}
@@ -93,7 +93,7 @@ pass-right : (sheet : List ℕ) (r : PdoDirection) (offset : ℕ) (a : Areas) (p
 pass-right sheet r offset a p h =
     let d = sheetData sheet in
     let old = clean OwnNumber 0 .old in
-    let us = usesOf OwnNumber (chosenOf []) d (once sheet) r in
+    let us = usesOf OwnNumber nothingChosen d (once sheet) r in
     let sixteen = sixteen-planned r offset us _ (sixteen-begun old r (entriesOf 16 (a .fmmus)) (sixteen-of 16 (a .fmmus) (h .entries))) in
     record { entries = flat-bytes 16 16 _ sixteen; images = images-after (dataSize d (once sheet) r) (d .managers) (a .channels) (h .images) }
 

@@ -14,7 +14,7 @@ use Rattle.pdo.specs.declared.PdoDirection.{PdoDirection}
 use Rattle.pdo.specs.declared.PdoDirection.the-variants.{MasterRead, MasterWrite}
 use Rattle.pdo.specs.Bits.{multipliersOf}
 use Rattle.passes.specs.declared.FmmuMode.the-variants.{OwnNumber}
-use Rattle.passes.specs.Use.{chosenOf}
+use Rattle.passes.specs.Use.{nothingChosen}
 use Rattle.passes.specs.Old.{clean}
 use Rattle.passes.specs.Entries.{Planned}
 use Rattle.mailboxes.specs.Mailbox.{Recorded, mailboxPass, mailboxArea}
@@ -55,12 +55,12 @@ ended segment next = record { segment = segment; next = next }
 
 -- a data pass by default from an offset, in group 0, and the areas that it leaves where it is accepted
 abbrev pub pass : List ℕ → PdoDirection → ℕ → Areas → Outcome Planned
-pass sheet r offset a = dataPass sheet (once sheet) (chosenOf []) r offset (clean OwnNumber 0) (a .fmmus) (a .channels)
+pass sheet r offset a = dataPass sheet (once sheet) nothingChosen r offset (clean OwnNumber 0) (a .fmmus) (a .channels)
 
 abbrev pub passLeaves : List ℕ → PdoDirection → ℕ → Areas → Planned → Areas
 passLeaves sheet r offset a p =
     areas
-    (entriesAfter (accepted p) (sheetData sheet) (once sheet) (chosenOf []) r offset (clean OwnNumber 0) (a .fmmus))
+    (entriesAfter (accepted p) (sheetData sheet) (once sheet) nothingChosen r offset (clean OwnNumber 0) (a .fmmus))
     (channelAreaAfter (accepted p) (sheetData sheet) (once sheet) r (a .channels))
 
 -- the output pass starts at the offset where the input pass ended

@@ -1,10 +1,9 @@
 // What `lockerplan` prints of a bay: its sheet is planned over the areas that it hands over, from offset 0 in group 0, with no oversampling and no pairs.
 ghost use mathlib.Core.Path.{_≡_};
-ghost use mathlib.Core.List.{[]};
 ghost use Rattle.wire.specs.Room.{InRoom, textIn};
 ghost use Rattle.wire.specs.Text.{page, Types};
 ghost use Rattle.passes.specs.declared.FmmuMode.the-variants.{OwnNumber};
-ghost use Rattle.passes.specs.Use.{chosenOf};
+ghost use Rattle.passes.specs.Use.{nothingChosen};
 ghost use Rattle.passes.specs.Old.{clean};
 ghost use Rattle.passes.specs.Pass.{Configures};
 ghost use Rattle.report.specs.Plan.{areas, once, planBay, bayOf, reportText};
@@ -32,7 +31,7 @@ fn data_pass(
     offset: PdiOffset,
     direction: PdoDirection,
 ) -> Configured
-    ensures { λ r. ⌜ Configures (now (sheet .entry)) (once (now (sheet .entry))) (chosenOf []) direction (offset .«start_address») (clean OwnNumber 0) (now (fmmus .entry)) (now (channels .entry)) r (now (fmmus .exit)) (now (channels .exit)) ⌝ }
+    ensures { λ r. ⌜ Configures (now (sheet .entry)) (once (now (sheet .entry))) nothingChosen direction (offset .«start_address») (clean OwnNumber 0) (now (fmmus .entry)) (now (channels .entry)) r (now (fmmus .exit)) (now (channels .exit)) ⌝ }
 {
     subdevice::pass(
         sheet,
