@@ -267,7 +267,8 @@ def lists():
     yield between("the most pairs but one", asked._replace(room=FMMUS // 2 - 1, fmmus=last), f"{own} 0")
     for room, line in enumerate((f"{own} 0", f"{first} 0", f"{first} 0", f"{first} 1", f"{first} 1")):
         yield between(f"room {room} of three pairs", asked._replace(room=room, fmmus=three), line)
-    for how, line in ((4, f"{own} 0"), (7, f"{own} 0"), (251, f"{first} 1"), (255, f"{own} 0")):
+    unread = " ".join("0" * 17)
+    for how, line in ((4, unread), (7, unread), (251, f"{first} 1"), (255, unread)):
         yield between(f"pairs, byte 1 is {how}", asked._replace(write=how, fmmus=three), line)
     yield between("pairs under times", asked._replace(c=7, times=3), f"7: {own} 0")
 

@@ -27,9 +27,10 @@ def above_last(pairs):
 
 
 def mappings(mode, pairs):
-    """The entry of each of sixteen sync managers, and whether a number is above 15."""
-    read = pairs if mode is FmmuMode.PAIRED else ()
-    return [entry_for(k, read) for k in range(16)], above_last(read)
+    """The entry of each of sixteen sync managers, and whether a number is above 15; where no list is read, zeros that nothing looks at."""
+    if mode is FmmuMode.OWN_NUMBER:
+        return [0] * 16, False
+    return [entry_for(k, pairs) for k in range(16)], above_last(pairs)
 
 
 def meet(inputs, outputs):
