@@ -122,7 +122,8 @@ Demand3OfOne =
     → Needs (l .settings .old) area
     → Agree sheet r l after ↔ EndToEnd (laidBy sheet r l)
 
--- two passes: either order (`first`), either direction (`r`); each has its own offset, settings and sync manager area, and, unless they go by pairs, its own table.
+-- two passes: either order (`first`), either direction (`r`); each has its own offset, group start, way with old entries and sync manager area. How they choose entries is `Together`:
+-- unless they go by pairs each has its own table.
 -- Only the direction's own pass needs something of the area at the start, whatever the other one does with old entries
 abbrev pub Demand3 : Type 0
 Demand3 =
