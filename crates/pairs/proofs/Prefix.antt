@@ -1,20 +1,21 @@
--- What the first pairs of a list say: one more, and as many as are read.
+-- What the first pairs of a list say: one more, and all of them.
 -- Assumes nothing.
 use mathlib.Core.Path.{_≡_, refl, sym, ap}
-use mathlib.Core.Bool.{Bool, true, false, cond, _||_}
+use mathlib.Core.Bool.{Bool, true, false, cond, _||_, not}
 use mathlib.Core.List.{List, [], _∷_}
-use Prim.Native.Nat.{ℕ, zero, suc, _+_, _*_, _<_, _≤_, _^_}
+use Prim.Native.Nat.{ℕ, zero, suc, _+_, _*_, _<_, _^_}
 use native.Mathlib.Nat.{not-suc-le-zero, le-of-suc-le-suc}
 use native.Mathlib.Numerals.{add-one}
 use native.Mathlib.Omega.{arith}
+use lib.Dec.{T as Holds}
 use lib.ListN.{length, getD, take}
 use lib.Seq.{take-all}
 use Rattle.wire.proofs.Lists.{some-next, getD-listOf, number-same}
 use Rattle.passes.specs.declared.FmmuPair.{FmmuPair}
 use Rattle.passes.specs.declared.FmmuMode.{FmmuMode}
 use Rattle.passes.specs.declared.FmmuMode.the-variants.{OwnNumber, Paired}
-use Rattle.passes.specs.Use.{entryFor, pastLast, chosenOf, chosenBy}
-use Rattle.pairs.specs.Reading.{isFor, decides, saidOf, entryAfter, entryWith, decidedWith, withPair, handedOn, readOf}
+use Rattle.passes.specs.Use.{entryFor, pastLast, chosenOf, nothingChosen, chosenBy}
+use Rattle.pairs.specs.Reading.{isFor, decides, saidOf, entryAfter, entryWith, decidedWith, withPair, handedOn, byOwnNumbers}
 
 -- an entry by the first k pairs, and the next
 entry-next : (n : ℕ) (l : List FmmuPair) (k : ℕ) (d : FmmuPair) → k < length l → entryAfter (decides (take k l) n) (entryFor (take k l) n) (getD l k d) n ≡ entryFor (take (suc k) l) n
@@ -43,15 +44,15 @@ module _ (l : List FmmuPair) (k : ℕ) (d : FmmuPair) (h : k < length l) where
       let decided = number-same (decidedWith (saidOf (take k l)) (getD l k d)) (decides (take (k + 1) l)) 16 decided-next in
       λ i. record { entries = entries i; above = sym above i; decided = decided i }
 
--- no more are read than there are
-pub read-within : (mode : FmmuMode) (n : ℕ) → readOf mode n ≤ n
-read-within OwnNumber n = omega arith
-read-within Paired n = omega arith
+-- by own numbers nothing is handed on
+pub read-none : (mode : FmmuMode) (l : List FmmuPair) → Holds (byOwnNumbers mode) → nothingChosen ≡ chosenBy mode l
+read-none OwnNumber l h = refl
+read-none Paired l h = absurd h
 
--- and those are what the mode asks for
-pub read-all : (mode : FmmuMode) (l : List FmmuPair) → handedOn (saidOf (take (readOf mode (length l)) l)) ≡ chosenBy mode l
-read-all OwnNumber l = refl
-read-all Paired l = ap chosenOf (take-all (length l) l (omega arith))
+-- by pairs what all of them say
+pub read-all : (mode : FmmuMode) (l : List FmmuPair) → Holds (not (byOwnNumbers mode)) → handedOn (saidOf (take (length l) l)) ≡ chosenBy mode l
+read-all OwnNumber l h = absurd h
+read-all Paired l h = ap chosenOf (take-all (length l) l (omega arith))
 
 -- a pair's place, and the next number, fit the machine's
 pub place-fits : {i n : ℕ} → n * 2 < 2 ^ 63 → i < n → i * 2 < 2 ^ 64

@@ -1,6 +1,6 @@
--- What the parts of reading a list of pairs promise one another: what some pairs say, one more, how many are read.
+-- What the parts of reading a list of pairs promise one another: what some pairs say, one more, whether they are read.
 -- Assumes nothing.
-use mathlib.Core.Bool.{Bool, false, cond, _||_}
+use mathlib.Core.Bool.{Bool, true, false, cond, _||_}
 use mathlib.Core.List.{List}
 use Prim.Native.Nat.{ℕ}
 use lib.Dec.{eqb}
@@ -41,7 +41,7 @@ withPair s p = record { entries = listOf (entryWith s p) 16; above = s .above ||
 abbrev pub handedOn : Said → Chosen
 handedOn s = record { entries = s .entries; above = s .above }
 
--- how many of the pairs are read
-abbrev pub readOf : FmmuMode → ℕ → ℕ
-readOf OwnNumber count = 0
-readOf Paired count = count
+-- the entries are those of the own numbers
+abbrev pub byOwnNumbers : FmmuMode → Bool
+byOwnNumbers OwnNumber = true
+byOwnNumbers Paired = false

@@ -4,7 +4,7 @@ ghost use mathlib.Core.Bool.{_||_};
 ghost use mathlib.Core.List.{[]};
 ghost use lib.Dec.{ltb};
 ghost use Rattle.passes.specs.Use.{pastLast, chosenBy};
-ghost use Rattle.pairs.specs.Reading.{saidOf, withPair, handedOn, readOf};
+ghost use Rattle.pairs.specs.Reading.{saidOf, withPair, handedOn, byOwnNumbers};
 use passes::Chosen;
 use passes::FmmuMode;
 use passes::FmmuPair;
@@ -16,15 +16,13 @@ struct Said {
     decided: [bool; 16],
 }
 
-// What no pairs say.
+// What no pairs say: each sync manager's own number.
 fn none_said() -> Said
     ensures { λ r. ⌜ r ≡ saidOf [] ⌝ }
 {
-    let none = Chosen::none();
-    let entries = none.entries;
     Said {
-        entries,
-        above: none.above,
+        entries: [0, 1, 2, 3, 4, 5, 6, 7, 8, 9, 10, 11, 12, 13, 14, 15],
+        above: false,
         decided: [false; 16],
     }
 }
@@ -67,13 +65,13 @@ fn with_pair(before: Said, pair: FmmuPair) -> Said
     after
 }
 
-// How many of the pairs are read: none where the entries are those of the own numbers.
-fn read_of(mode: FmmuMode, count: usize) -> usize
-    ensures { λ r. ⌜ r ≡ readOf mode count ⌝ }
+// Whether the entries are those of the own numbers: then no pairs are read.
+fn by_own_numbers(mode: FmmuMode) -> bool
+    ensures { λ r. ⌜ r ≡ byOwnNumbers mode ⌝ }
 {
     match mode {
-        FmmuMode::OwnNumber => 0,
-        FmmuMode::Paired => count,
+        FmmuMode::OwnNumber => true,
+        FmmuMode::Paired => false,
     }
 }
 
@@ -88,14 +86,16 @@ fn handed_on(said: Said) -> Chosen
     }
 }
 
-// The entry of each sync manager: the first pair for it decides, none means its own number.
+// The entry of each sync manager: the first pair for it decides, none means its own number. By own numbers the list isn't read, and nothing is handed on.
 pub fn fmmu_mappings(mode: FmmuMode, pairs: &[FmmuPair]) -> Chosen
     ensures { λ r. ⌜ r ≡ chosenBy mode (now (pairs .entry)) ⌝ }
 {
-    let count = read_of(mode, pairs.len());
+    if by_own_numbers(mode) {
+        return Chosen::none();
+    }
     let mut said = none_said();
     let mut k = 0;
-    while k < count {
+    while k < pairs.len() {
         said = with_pair(said, pairs[k]);
         k += 1;
     }

@@ -15,3 +15,4 @@ pub mod Unique
 pub mod Packed
 pub mod Images
 pub mod Built
+pub mod Branch

@@ -1,18 +1,14 @@
--- `none_said`: what a list of no pairs hands on, and no sync manager is decided.
+-- `none_said`: each entry is the own number, no number is above 15, and no sync manager is decided.
 -- Assumes nothing.
-use mathlib.Core.List.{[]}
-use borrow.Author.Needs.{needs}
+use mathlib.Core.Path.{refl}
 use Rattle.wire.specs.Lists.{listOf}
-use Rattle.pairs.specs.Reading.{decides}
+use Rattle.passes.specs.Use.{entryFor}
 use Rattle.pairs.proofs.none_said.Statement.{statement}
 use Rattle.pairs.proofs.none_said.Tie as tie
 
-none-requires : tie.Need-none-requires
-none-requires c κs = search needs
-
 returns : tie.Need-returns
-unfolding listOf
-returns c = λ i. record { entries = c .before .none .ensures i .entries; above = c .before .none .ensures i .above; decided = listOf (decides []) 16 }
+unfolding listOf entryFor
+returns c = refl
 
 pub none-said-spec : {M : Type 1} → statement M
-none-said-spec = tie.close (tie.spec none-requires returns)
+none-said-spec = tie.close (tie.spec returns)

@@ -76,7 +76,7 @@ use Rattle.lent.proofs.counted.without_table.Symbol as without-table-de
 use Rattle.lent.proofs.counted.without_table.Symbol.{name as #without-table}
 use Rattle.lent.proofs.counted.without_table.Met as without-table-thm
 use Rattle.wire.specs.Image.{Bytes}
-use Rattle.lent.proofs.Branch.{checks}
+use Rattle.wire.proofs.Branch.{checks}
 use Rattle.lent.proofs.Bytes.{below}
 use Rattle.oversampling.proofs.Local.{cell, lies}
 use Rattle.lent.proofs.Filling.{no-record, Ones, array-at, of-array, Filled, fronted, as-slice, elements, lends-array, array-back, MultipliersFor, to-fill, goes-fill, back-fill, said-fill}

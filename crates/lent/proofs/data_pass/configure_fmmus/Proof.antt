@@ -91,7 +91,7 @@ use Rattle.lent.proofs.data_pass.with_table as with-table
 use Rattle.lent.proofs.data_pass.with_table.Symbol as with-table-def
 use Rattle.lent.proofs.data_pass.with_table.Symbol.{name as #with-table}
 use Rattle.lent.proofs.data_pass.with_table.Met as with-table-thm
-use Rattle.lent.proofs.Branch.{lands-before}
+use Rattle.wire.proofs.Branch.{lands-before}
 use Rattle.lent.proofs.Filling.{no-record}
 use Rattle.lent.proofs.data_pass.configure_fmmus.Key.{name as #lent·configure-fmmus}
 use Rattle.lent.proofs.data_pass.configure_fmmus as it
