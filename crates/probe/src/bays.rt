@@ -301,53 +301,44 @@ pub fn plan(request: &[u8]) {
     say::text(wire::front(&text, without_end(answer)));
 }
 
-// What a plan is lent beside its sheet.
-struct Lists {
-    table: [Oversampling; 256],
+// How many records and pairs count of what a plan is lent, and how its passes are made.
+struct Lent {
     records: usize,
-    pairs: [FmmuPair; 256],
     count: usize,
-    mode: FmmuMode,
+    settings: Settings,
 }
 
 // Whether it is lent anything, or reads an empty list of pairs.
-fn lends(lists: Lists) -> bool {
-    if let FmmuMode::Paired = lists.mode {
+fn lends(mode: FmmuMode, records: usize) -> bool {
+    if let FmmuMode::Paired = mode {
         return true;
     }
-    0 < lists.records
+    0 < records
 }
 
-// A data pass of a plan, by default, in group 0.
+// A data pass of a plan.
 fn plan_pass(
     sheet: &[u8],
-    lists: Lists,
+    table: [Oversampling; 256],
+    pairs: [FmmuPair; 256],
+    lent: Lent,
     fmmus: &mut [u8],
     channels: &mut [u8],
     offset: PdiOffset,
     direction: PdoDirection,
 ) -> Passed {
-    if !lends(lists) {
-        let begin = Begin {
-            offset,
-            settings: Settings::clean(0),
-        };
+    let settings = lent.settings;
+    let mode = settings.mode;
+    let begin = Begin { offset, settings };
+    if !lends(mode, lent.records) {
         return table::plan_without_table(sheet, fmmus, channels, begin, direction);
     }
-    let begin = Begin {
-        offset,
-        settings: Settings {
-            group: 0,
-            old: OldEntries::Clear,
-            mode: lists.mode,
-        },
-    };
     table::plan(
         sheet,
-        lists.table,
-        lists.records,
-        lists.pairs,
-        lists.count,
+        table,
+        lent.records,
+        pairs,
+        lent.count,
         fmmus,
         channels,
         begin,
@@ -368,8 +359,8 @@ fn both(inputs: PdiSegment, second: Placed) -> Line {
     }
 }
 
-// Mailbox, input and output pass over areas of zeros, from offset 0 in group 0, up to the first refusal.
-fn plan_once(sheet: &[u8], lists: Lists) -> Line {
+// Mailbox, input and output pass over areas of zeros, from offset 0, up to the first refusal.
+fn plan_once(sheet: &[u8], table: [Oversampling; 256], pairs: [FmmuPair; 256], lent: Lent) -> Line {
     let mut fmmus = [0u8; 256];
     let mut channels = [0u8; 128];
     if let MailboxAnswer::Refused(number) = mailboxes::configure_mailboxes(sheet, &mut channels) {
@@ -378,7 +369,9 @@ fn plan_once(sheet: &[u8], lists: Lists) -> Line {
     let start = PdiOffset { start_address: 0 };
     let first = plan_pass(
         sheet,
-        lists,
+        table,
+        pairs,
+        lent,
         &mut fmmus,
         &mut channels,
         start,
@@ -390,7 +383,9 @@ fn plan_once(sheet: &[u8], lists: Lists) -> Line {
         Placed::Segment(inputs) => {
             let second = plan_pass(
                 sheet,
-                lists,
+                table,
+                pairs,
+                lent,
                 &mut fmmus,
                 &mut channels,
                 next,
@@ -403,29 +398,33 @@ fn plan_once(sheet: &[u8], lists: Lists) -> Line {
     }
 }
 
-// Byte 1 says whether a plan goes by the pairs at the front of the FMMU part.
-fn lists_of(request: &[u8]) -> Lists {
-    let mode = match parts::direction(request) {
-        PdoDirection::MasterRead => FmmuMode::OwnNumber,
-        PdoDirection::MasterWrite => FmmuMode::Paired,
-    };
-    Lists {
-        table: parts::table(request),
-        records: parts::records(request),
-        pairs: parts::pairs(request),
-        count: parts::pair_count(request),
-        mode,
+// The default, in group 0. Byte 1 says whether a plan goes by the pairs at the front of the FMMU part.
+fn planning(request: &[u8]) -> Settings {
+    if wire::byte_at(request, 1) == 0 {
+        return Settings::clean(0);
+    }
+    Settings {
+        group: 0,
+        old: OldEntries::Clear,
+        mode: FmmuMode::Paired,
     }
 }
 
 // The same plan over and over, for whoever counts its cost.
 pub fn again(request: &[u8]) {
     let sheet = parts::sheet(request);
-    let lists = lists_of(request);
+    let table = parts::table(request);
+    let pairs = parts::pairs(request);
+    let count = parts::pair_count(request) as usize;
+    let lent = Lent {
+        records: parts::records(request),
+        count,
+        settings: planning(request),
+    };
     let mut last = say::one(say::NONE);
     let mut left = parts::number4(request, 4);
     while 0 < left {
-        last = plan_once(sheet, lists);
+        last = plan_once(sheet, table, pairs, lent);
         left -= 1;
     }
     say::line(last);

@@ -43,7 +43,7 @@ pub fn pass(request: &[u8]) {
     };
     bays::pass_over(
         request,
-        parts::pair_count(request),
+        parts::pair_count(request) as usize,
         parts::behind_pairs(request),
         settings,
         asked_direction(request),
@@ -55,7 +55,7 @@ pub fn mappings(request: &[u8]) {
     let chosen = table::mappings(
         asked_mode(request),
         parts::pairs(request),
-        parts::pair_count(request),
+        parts::pair_count(request) as usize,
     );
     let entries = chosen.entries;
     say::put_item(entries[0] as u64);

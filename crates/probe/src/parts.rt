@@ -102,8 +102,13 @@ pub fn table(request: &[u8]) -> [Oversampling; 256] {
 }
 
 // How many pairs stand at the front of the FMMU part: as many as the room says, as far as they are whole.
-pub fn pair_count(request: &[u8]) -> usize {
-    wire::least(number2(request, 2) as usize, fmmus(request).len() / 2)
+pub fn pair_count(request: &[u8]) -> u16 {
+    let said = number2(request, 2);
+    let whole = fmmus(request).len() / 2;
+    if whole < (said as usize) {
+        return whole as u16;
+    }
+    said
 }
 
 fn pair(bytes: &[u8]) -> FmmuPair {
@@ -120,7 +125,7 @@ pub fn pairs(request: &[u8]) -> [FmmuPair; 256] {
         sync_manager: 0,
     }; 256];
     let from = fmmus(request);
-    let count = wire::least(pair_count(request), 256);
+    let count = wire::least(pair_count(request) as usize, 256);
     let mut k = 0;
     while k < count {
         pairs[k] = pair(part(from, 2 * k, 2));
@@ -131,7 +136,7 @@ pub fn pairs(request: &[u8]) -> [FmmuPair; 256] {
 
 // What stands behind the pairs in the FMMU part.
 pub fn behind_pairs(request: &[u8]) -> &[u8] {
-    part(fmmus(request), 2 * pair_count(request), 512)
+    part(fmmus(request), 2 * (pair_count(request) as usize), 512)
 }
 
 pub fn direction(request: &[u8]) -> PdoDirection {
