@@ -316,36 +316,6 @@ fn lends(mode: FmmuMode, records: usize) -> bool {
     0 < records
 }
 
-// A data pass of a plan.
-fn plan_pass(
-    sheet: &[u8],
-    table: [Oversampling; 256],
-    pairs: [FmmuPair; 256],
-    lent: Lent,
-    fmmus: &mut [u8],
-    channels: &mut [u8],
-    offset: PdiOffset,
-    direction: PdoDirection,
-) -> Passed {
-    let settings = lent.settings;
-    let mode = settings.mode;
-    let begin = Begin { offset, settings };
-    if !lends(mode, lent.records) {
-        return table::plan_without_table(sheet, fmmus, channels, begin, direction);
-    }
-    table::plan(
-        sheet,
-        table,
-        lent.records,
-        pairs,
-        lent.count,
-        fmmus,
-        channels,
-        begin,
-        direction,
-    )
-}
-
 // Both segments, or the second pass's refusal.
 fn both(inputs: PdiSegment, second: Placed) -> Line {
     match second {
@@ -359,21 +329,73 @@ fn both(inputs: PdiSegment, second: Placed) -> Line {
     }
 }
 
-// Mailbox, input and output pass over areas of zeros, from offset 0, up to the first refusal.
-fn plan_once(sheet: &[u8], table: [Oversampling; 256], pairs: [FmmuPair; 256], lent: Lent) -> Line {
-    let mut fmmus = [0u8; 256];
-    let mut channels = [0u8; 128];
-    if let MailboxAnswer::Refused(number) = mailboxes::configure_mailboxes(sheet, &mut channels) {
-        return say::refused(number);
+// Input and output pass from offset 0, up to the first refusal, lent neither a table nor pairs.
+fn bare_passes(sheet: &[u8], fmmus: &mut [u8], channels: &mut [u8], settings: Settings) -> Line {
+    let offset = PdiOffset { start_address: 0 };
+    let begin = Begin { offset, settings };
+    let first = table::plan_without_table(sheet, fmmus, channels, begin, PdoDirection::MasterRead);
+    let answer = first.answer;
+    let offset = first.next;
+    let begin = Begin { offset, settings };
+    match answer {
+        Placed::Segment(inputs) => {
+            let second = table::plan_without_table(
+                sheet,
+                fmmus,
+                channels,
+                begin,
+                PdoDirection::MasterWrite,
+            );
+            let outputs = second.answer;
+            both(inputs, outputs)
+        }
+        Placed::Refused(number) => say::refused(number),
     }
+}
+
+// A pass that is lent both.
+fn lent_pass(
+    sheet: &[u8],
+    table: [Oversampling; 256],
+    pairs: [FmmuPair; 256],
+    lent: Lent,
+    fmmus: &mut [u8],
+    channels: &mut [u8],
+    offset: PdiOffset,
+    direction: PdoDirection,
+) -> Passed {
+    let settings = lent.settings;
+    let begin = Begin { offset, settings };
+    table::plan(
+        sheet,
+        table,
+        lent.records,
+        pairs,
+        lent.count,
+        fmmus,
+        channels,
+        begin,
+        direction,
+    )
+}
+
+// The same passes, lent both.
+fn lent_passes(
+    sheet: &[u8],
+    table: [Oversampling; 256],
+    pairs: [FmmuPair; 256],
+    lent: Lent,
+    fmmus: &mut [u8],
+    channels: &mut [u8],
+) -> Line {
     let start = PdiOffset { start_address: 0 };
-    let first = plan_pass(
+    let first = lent_pass(
         sheet,
         table,
         pairs,
         lent,
-        &mut fmmus,
-        &mut channels,
+        fmmus,
+        channels,
         start,
         PdoDirection::MasterRead,
     );
@@ -381,13 +403,13 @@ fn plan_once(sheet: &[u8], table: [Oversampling; 256], pairs: [FmmuPair; 256], l
     let next = first.next;
     match answer {
         Placed::Segment(inputs) => {
-            let second = plan_pass(
+            let second = lent_pass(
                 sheet,
                 table,
                 pairs,
                 lent,
-                &mut fmmus,
-                &mut channels,
+                fmmus,
+                channels,
                 next,
                 PdoDirection::MasterWrite,
             );
@@ -396,6 +418,21 @@ fn plan_once(sheet: &[u8], table: [Oversampling; 256], pairs: [FmmuPair; 256], l
         }
         Placed::Refused(number) => say::refused(number),
     }
+}
+
+// Mailbox, input and output pass over areas of zeros, up to the first refusal.
+fn plan_once(sheet: &[u8], table: [Oversampling; 256], pairs: [FmmuPair; 256], lent: Lent) -> Line {
+    let mut fmmus = [0u8; 256];
+    let mut channels = [0u8; 128];
+    if let MailboxAnswer::Refused(number) = mailboxes::configure_mailboxes(sheet, &mut channels) {
+        return say::refused(number);
+    }
+    let settings = lent.settings;
+    let mode = settings.mode;
+    if lends(mode, lent.records) {
+        return lent_passes(sheet, table, pairs, lent, &mut fmmus, &mut channels);
+    }
+    bare_passes(sheet, &mut fmmus, &mut channels, settings)
 }
 
 // The default, in group 0. Byte 1 says whether a plan goes by the pairs at the front of the FMMU part.
