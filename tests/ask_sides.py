@@ -1,7 +1,9 @@
 """Requests to translation and counting: both at every address in and around the ranges, and the limits of each."""
 
+from ask_pairs import APART, INDEX, SHARED, lined, turned
 from bays import IN, OUT, PAIR
 from build import FOUR, SAMPLE, STALE, area, coe, eeprom, entry, managers, on_coe, on_eeprom, sheet
+from pairs import FmmuMode
 from planning import OldEntries, Settings, configure_fmmus
 from registers import LIMIT
 from stored import sample
@@ -17,11 +19,11 @@ AT_THE_END = on_eeprom(eeprom(1, 0, IN, 24), rows=managers((0xFFFE, 0x20, 1, 4))
 LARGE = on_eeprom(eeprom(1, 0, IN, 65_528), rows=managers((0x1000, 0x20, 1, 4)))
 
 
-def planned(sheet, passes, fmmus=area(), table=(), old=OldEntries.CLEAR):
+def planned(sheet, passes, fmmus=area(), table=(), settings=Settings()):
     """The FMMU area after the passes, each (direction, offset)."""
     fmmus, channels = bytearray(fmmus), bytearray(128)
     for write, offset in passes:
-        configure_fmmus(write, offset, Settings(old=old), sheet, table, fmmus, channels)
+        configure_fmmus(write, offset, settings, sheet, table, fmmus, channels)
     return bytes(fmmus)
 
 
@@ -76,7 +78,7 @@ def stale():
         ("a stale entry", STALE, OldEntries.CLEAR),
         ("a fresh area", area(), OldEntries.CLEAR),
     ):
-        yield from both_sides(name, SAMPLE, passes, planned(SAMPLE, passes, fmmus, old=old), (0, 15), "ATC")
+        yield from both_sides(name, SAMPLE, passes, planned(SAMPLE, passes, fmmus, settings=Settings(old=old)), (0, 15), "ATC")
 
 
 def old_areas(own):
@@ -94,8 +96,95 @@ def used():
         for name, fmmus in old_areas(2 if write else 1):
             for path, data in (("the sample", SAMPLE), ("a gap, EEPROM", OWN), ("empty between", EMPTY_BETWEEN)):
                 for told, old in (("", OldEntries.CLEAR), (", keeping", OldEntries.KEEP)):
-                    after = planned(data, [(write, 3)], fmmus, old=old)
+                    after = planned(data, [(write, 3)], fmmus, settings=Settings(old=old))
                     yield from both_sides(f"{path} over {name}{told}", data, [(write, 3)], after, (0, 40), "A")
+
+
+def by_pairs(pairs, old=OldEntries.CLEAR):
+    return Settings(old=old, mode=FmmuMode.PAIRED, pairs=pairs)
+
+
+# what lies between them lies elsewhere
+TOGETHER = {
+    "outputs between, elsewhere": ("r17 w8 r9", [0x1000, 0x2000, 0x1003], [(5, 0), (5, 2)]),
+    "outputs in turn, elsewhere": ("r17 w8 r9 w16", [0x1000, 0x2000, 0x1003, 0x2001], [(5, 0), (6, 1), (5, 2), (6, 3)]),
+    "one of no direction between, elsewhere": ("r17 x8 r9 w8", [0x1000, 0x2000, 0x1003], [(1, 0), (1, 2)]),
+    "an empty one between, elsewhere": ("r17 r r9 w8", [0x1000, 0x2000, 0x1003], [(5, 0), (5, 2)]),
+}
+ORDERS = [(0, 3), (1, 20)], [(1, 2), (0, 9)]
+
+
+def sharing():
+    """By pairs: sync managers that share an entry agree exactly if they lie end to end, in either order of the passes."""
+    lying = {name: (text, [], pairs) for name, (text, pairs) in SHARED.items()} | TOGETHER
+    for number, (name, (text, starts, pairs)) in enumerate(lying.items()):
+        data, passes = lined(text, starts), ORDERS[number % 2]
+        after = planned(data, passes, settings=by_pairs(pairs))
+        yield from both_sides(f"shared, {name}", data, passes, after, (0, 32), "A" if name in SHARED else "ATC")
+    for name, (text, starts, pairs) in APART.items():
+        data, passes = lined(text, starts), ORDERS[0]
+        after = planned(data, passes, settings=by_pairs(pairs))
+        yield from both_sides(f"shared, {name}", data, passes, after, (0, 32), "ATC")
+        own = planned(data, passes, settings=by_pairs([(9, 0), (5, 1)]))
+        yield from both_sides(f"{name}, each on its own", data, passes, own, (0, 32), "A")
+
+
+def sharing_far():
+    """Sharing near the last offset and the last device address, and up to 65,535 bytes."""
+    data, pairs = lined("r17 r9 w8", [0xFFFA]), [(5, 0), (5, 1)]
+    passes = [(0, LIMIT - 5), (1, 0)]
+    after = planned(data, passes, settings=by_pairs(pairs))
+    yield from both_sides("shared, near 2^32 and 0xffff", data, passes, after, (LIMIT - 9, 20))
+    for start in (0xFFFB, 0xFFFC, 0xFFFD, 0xFFFE):
+        data, passes = lined("r17 r9", [start]), [(0, 1)]
+        after = planned(data, passes, settings=by_pairs(pairs))
+        yield from both_sides(f"shared, from {start:#x}", data, passes, after, (0, 8))
+    data, passes = lined("r65528 " * 8 + "r56", [0]), [(0, 1)]
+    after = planned(data, passes, settings=by_pairs([(5, k) for k in range(9)]))
+    for window in ((0, 4), (8_190, 4), (65_526, 16)):
+        yield from both_sides(f"65,535 bytes on one entry, {window[0]:,}", data, passes, after, window)
+
+
+def sharing_again():
+    """By pairs over areas in use: in the default both sides agree, whatever stood there."""
+    pairs = [(5, 0), (5, 1)]
+    for write, text in enumerate(("r17 r9 w8", turned("r17 r9 w8"))):
+        for name, fmmus in old_areas(2 if write else 1):
+            for told, old in (("", OldEntries.CLEAR), (", keeping", OldEntries.KEEP)):
+                after = planned(lined(text), [(write, 3)], fmmus, settings=by_pairs(pairs, old))
+                yield from both_sides(f"shared over {name}{told}", lined(text), [(write, 3)], after, (0, 40), "A")
+
+
+def sharing_by_table():
+    """A table can part what lies end to end, or join what doesn't; both sides take the same one."""
+    text, pairs, passes = "r8 r8 r8 w8", [(5, 0), (5, 1), (5, 2)], [(0, 3), (1, 9)]
+    tables = {"no record": [], **{f"{k} muted": [(INDEX + k, 0)] for k in range(3)}, "1 doubled": [(INDEX + 1, 2)]}
+    for told, starts in (("end to end", []), ("the middle one elsewhere", [0x1000, 0x2000, 0x1001])):
+        for name, table in tables.items():
+            data = lined(text, starts)
+            after = planned(data, passes, table=table, settings=by_pairs(pairs))
+            yield from both_sides(f"shared, {told}, {name}", data, passes, after, (0, 16), "A", table)
+    after = planned(lined(text), passes, settings=by_pairs(pairs))
+    yield from both_sides("shared, counted with another table", lined(text), passes, after, (0, 16), "A", [(INDEX + 1, 0)])
+
+
+def other_pairs():
+    """Keeping, an output pass by other pairs, or another table, adds to the inputs' entry; counting takes no pairs."""
+    data, passes = lined("r17 r9 w8"), [(0, 3), (1, 8)]
+    ways = {"other pairs": by_pairs([(7, 2)]), "other pairs, keeping": by_pairs([(5, 2), (6, 0)], OldEntries.KEEP)}
+    for name, settings in ways.items():
+        inputs = planned(data, passes[:1], settings=by_pairs([(5, 0), (5, 1)]))
+        after = planned(data, passes[1:], inputs, settings=settings)
+        yield from both_sides(f"the outputs by {name}", data, passes, after, (0, 16), "A")
+    one, after, settings = lined("r17 w8"), area(), by_pairs([(5, 0), (5, 1)], OldEntries.KEEP)
+    muted = [(INDEX + 1, 0)], [(INDEX, 0)]  # each pass mutes the other direction, so that they don't meet in either
+    for write, offset in passes:
+        after = planned(one, [(write, offset)], after, muted[write], settings)
+    for write, offset in passes:
+        yield from both_sides("another table, keeping", one, [(write, offset)], after, (0, 16), "A", muted[write])
+    for write in (0, 1):
+        bad = Request("C", write, room=1, a=3, times=16, sheet=data, fmmus=bytes([16, 255]))
+        yield f"counting, a bad pair in a part that it doesn't take, {write}", bad
 
 
 def translation():
@@ -177,5 +266,6 @@ def refused_sides():
 
 
 def ask():
-    for part in (agreeing, far, tables, stale, used, translation, eleven, counting, refused_sides):
+    paired = (sharing, sharing_far, sharing_again, sharing_by_table, other_pairs)
+    for part in (agreeing, far, tables, stale, used, *paired, translation, eleven, counting, refused_sides):
         yield from part()

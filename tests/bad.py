@@ -18,7 +18,8 @@ from pathlib import Path
 
 import model
 from ask_sheets import longest as longest_sheet
-from build import MARK, SAMPLE, SAMPLE_DATA, area, category, coe, device, entry, on_coe, pdo_record, tx_category
+from build import MARK, SAMPLE, SAMPLE_DATA, area, category, coe, device, eeprom, entry, managers, on_coe, on_eeprom
+from build import pdo_record, tx_category
 from portions import KEPT
 from stream import BadRequest, Request, requests
 
@@ -96,7 +97,7 @@ def parts():
     yield between("all at their most", longest("R"), "refused 1")
     past = {"room": ROOM + 1, "sheet": bytes(SHEET + 1), "fmmus": bytes(FMMUS + 1), "channels": bytes(CHANNELS + 1)}
     past["table"] = last[:1] + last
-    for letter in "spKrtHwvDEz":
+    for letter in "spKPMBrtHwvDEz":
         for part, value in past.items():
             yield refused(f"{letter}, {part} past its limit", Request(letter, **zeros(letter) | {part: value}).bytes() + GOOD)
 
@@ -254,9 +255,56 @@ def of_dumps():
     yield between("a dump's sheet under times", sheet._replace(write=0, c=7, times=3), f"7: {SMALLEST}")
 
 
+def lists():
+    """How many pairs M is lent, and of its byte 1 the mode alone."""
+    own = " ".join(map(str, range(16)))  # each number's own
+    first = f"2{own[1:]}"  # 2 for sync manager 0
+    asked, three = Request("M", 3, ROOM, LAST, LAST), bytes([2, 0, 9, 0, 16, 0])
+    yield between("no pair", asked, f"{own} 0")
+    yield between("half a pair", asked._replace(fmmus=b"\xff"), f"{own} 0")
+    last = bytes([0, 0] * (FMMUS // 2 - 1) + [7, 15])
+    yield between("the most pairs", asked._replace(fmmus=last), f"{own.removesuffix('15')}7 0")
+    yield between("the most pairs but one", asked._replace(room=FMMUS // 2 - 1, fmmus=last), f"{own} 0")
+    for room, line in enumerate((f"{own} 0", f"{first} 0", f"{first} 0", f"{first} 1", f"{first} 1")):
+        yield between(f"room {room} of three pairs", asked._replace(room=room, fmmus=three), line)
+    for how, line in ((4, f"{own} 0"), (7, f"{own} 0"), (251, f"{first} 1"), (255, f"{own} 0")):
+        yield between(f"pairs, byte 1 is {how}", asked._replace(write=how, fmmus=three), line)
+    yield between("pairs under times", asked._replace(c=7, times=3), f"7: {own} 0")
+
+
+ONE_IN = on_eeprom(eeprom(1, 0, 0x1A00, 8), rows=managers((0x1180, 0x20, 1, 4)))
+
+
+def by_pairs():
+    """What P is lent and how it is told; plans of B by pairs."""
+    asked = Request("P", a=7, sheet=ONE_IN, channels=bytes(128))
+    channels, before = "8011010020000100".ljust(256, "0"), bytes(128).hex()
+    old = area(entry(0, 4, 0x1000), first=9)
+    chosen = [(0, [], 0), (0, [2, 0], 2), (0, [2, 0, 3, 0], 2), (2, [2, 0], 2), (248, [2, 0], 2)]
+    for how, pairs, e in (*chosen, (4, [2, 0], 0), (4, [16, 0], 0), (6, [2, 0], 0), (252, [2, 0], 0)):
+        after = bytearray(old if how & 2 else area())
+        after[16 * e : 16 * e + 16] = entry(7, 1, 0x1180)
+        request = asked._replace(write=how, room=len(pairs) // 2, fmmus=bytes(pairs) + old)
+        yield between(f"a pass by {pairs}, byte 1 is {how}", request, f"ok 7 8 8 {after.hex()} {channels}")
+    bad = asked._replace(room=1, fmmus=b"\x10\0" + old)
+    yield between("a bad pair", bad, f"refused 18 7 {old.hex()} {before}")
+    yield between("a bad pair in front of no area", bad._replace(fmmus=b"\x10\0"), f"refused 1 7 - {before}")
+    yield between("the area taken for pairs", bad._replace(room=ROOM), f"refused 1 7 - {before}")
+    yield between("half a pair, and no area", bad._replace(room=1, fmmus=b"\7"), f"refused 1 7 07 {before}")
+    yield between("a pass by pairs under times", bad._replace(c=7, times=3), f"7: refused 18 7 {old.hex()} {before}")
+    plan = Request("B", 1, 1, 2, sheet=ONE_IN, fmmus=b"\x10\0")
+    for name, request, line in (
+        ("a bad pair", plan, "refused 18"), ("no turns", plan._replace(a=0), "none"),
+        ("not asked for", plan._replace(write=0), "0 1 1 1"), ("none lent", plan._replace(room=0), "0 1 1 1"),
+        ("CoE", plan._replace(sheet=SAMPLE), "0 5 5 7"), ("refused before", plan._replace(sheet=b""), "refused 2"),
+    ):
+        yield between(f"a plan by pairs, {name}", request, line)
+
+
 def streams():
     """Each stream with its name and the lines that answer it."""
-    groups = (cut_short, parts, records, repetitions, refusals, calls, in_portions, written_again, by_fields, of_dumps)
+    of_sheets = calls, in_portions, written_again, by_fields, of_dumps
+    groups = (cut_short, parts, records, repetitions, refusals, *of_sheets, lists, by_pairs)
     for group in groups:
         yield from group()
 

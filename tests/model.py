@@ -7,11 +7,13 @@ Run `python3 tests/model.py < crates/probe/stdin > crates/probe/stdout` to make 
 import sys
 
 import dump
+import pairs
 import planning
 import portions
 import registers as reg
 import writer
-from planning import OldEntries
+from pairs import FmmuMode
+from planning import OldEntries, Settings
 from registers import LIMIT, Refused
 from sheet import COE, COMPLETE_ACCESS, MAILBOX, read_sheet
 from stream import BadRequest, calls, channel_record, device_record, fmmu_record, requests
@@ -80,13 +82,32 @@ def mailbox_answer(q):
     return f"{answer} {shown(channels)}"
 
 
-def pass_answer(q, old):
-    fmmus, channels, settings = bytearray(q.fmmus), bytearray(q.channels), planning.Settings(q.b, old)
+def pass_answer(q, settings):
+    fmmus, channels = bytearray(q.fmmus), bytearray(q.channels)
     try:
         answer = "ok " + listed(planning.configure_fmmus(q.write, q.a, settings, q.sheet, q.table, fmmus, channels))
     except Refused as refused:
         answer = f"refused {refused.args[0]} {q.a}"
     return f"{answer} {shown(fmmus)} {shown(channels)}"
+
+
+# what byte 1 of the letters P and M is a sum of
+WRITE, KEEP, OWN_NUMBER = 1, 2, 4
+
+
+def mode_of(q):
+    return FmmuMode.OWN_NUMBER if q.write & OWN_NUMBER else FmmuMode.PAIRED
+
+
+def paired_answer(q):
+    listed_pairs, fmmus = q.lent()
+    old = OldEntries.KEEP if q.write & KEEP else OldEntries.CLEAR
+    return pass_answer(q._replace(write=q.write & WRITE, fmmus=fmmus), Settings(q.b, old, mode_of(q), listed_pairs))
+
+
+def mappings_answer(q):
+    entries, above = pairs.mappings(mode_of(q), q.lent()[0])
+    return listed([*entries, int(above)])
 
 
 def count_answer(q):
@@ -119,7 +140,8 @@ def again_answer(q):
     """The same plan over and over answers as one does."""
     if q.a == 0:
         return "none"
-    inputs, outputs, _, _ = planning.plan(q.sheet, q.table)
+    settings = Settings(mode=FmmuMode.PAIRED, pairs=q.lent()[0]) if q.write else Settings()
+    inputs, outputs, _, _ = planning.plan(q.sheet, q.table, settings)
     return listed([*inputs, *outputs])
 
 
@@ -265,8 +287,10 @@ ANSWERS = {
     "e": lambda q: byte_answer(reg.ENABLE, (q.c % 65_536).to_bytes(2, "little")),
     "d": lambda q: device_text(read_sheet(q.sheet)),
     "m": mailbox_answer,
-    "p": lambda q: pass_answer(q, OldEntries.CLEAR),
-    "K": lambda q: pass_answer(q, OldEntries.KEEP),
+    "p": lambda q: pass_answer(q, Settings(q.b)),
+    "K": lambda q: pass_answer(q, Settings(q.b, OldEntries.KEEP)),
+    "P": paired_answer,
+    "M": mappings_answer,
     "T": lambda q: or_none(planning.translate(q.write, q.fmmus, q.c)),
     "C": count_answer,
     "A": both_answer,

@@ -1,4 +1,5 @@
-"""Document 01's passes, translation and counting, with document 02's clean start (3/13), and what `lockerplan` prints.
+"""Document 01's passes, translation and counting, with document 02's clean start (3/13) and pairs (6/13), and what
+`lockerplan` prints.
 
 Worked out from documents 01 and 02 alone: nothing here is read from the code that it is held against. An area is a
 bytearray that is lent; a pass that is refused leaves it alone. A table is a list of (PDO index, multiplier).
@@ -7,6 +8,7 @@ bytearray that is lent; a pass that is refused leaves it alone. A table is a lis
 from enum import Enum
 from typing import NamedTuple
 
+from pairs import FmmuMode, above_last, entry_for, meet, parted
 from registers import CHANNEL, CONTROL, FMMU, LIMIT, MOST_BITS, Fmmu, Refused
 from registers import demand, fields, image, read_channel, read_fmmu, segment_text, size_of
 from sheet import COMPLETE_ACCESS, DATA_READ, DATA_WRITE, MAILBOX, MAILBOX_READ, MAILBOX_WRITE, read_sheet
@@ -23,10 +25,15 @@ class OldEntries(Enum):
 
 
 class Settings(NamedTuple):
-    """How a data pass is made: its group's start, and what becomes of old entries."""
+    """How a data pass is made: its group's start, what becomes of old entries, and how EEPROM finds entries.
+
+    The list of pairs is lent in either mode.
+    """
 
     group: int = 0
     old: OldEntries = OldEntries.CLEAR
+    mode: FmmuMode = FmmuMode.OWN_NUMBER
+    pairs: tuple = ()
 
 
 class Way(NamedTuple):
@@ -92,13 +99,23 @@ def wanted_bits(sheet, table, write):
     return bits
 
 
-def entries_used(sheet, bits, write):
+def entries_used(sheet, bits, write, settings=Settings()):
     """The entry of each sync manager that uses one; None where there is none to use."""
-    if not sheet.coe():
+    if not sheet.coe() and settings.mode is FmmuMode.OWN_NUMBER:
         return {k: k for k in bits}
+    if not sheet.coe():
+        return {k: entry_for(k, settings.pairs) for k in bits if bits[k] > 0}
     fmmu_usage = way(write).fmmu_usage
     first = sheet.usages.index(fmmu_usage) if fmmu_usage in sheet.usages else None
     return {k: first for k in bits if bits[k] > 0}
+
+
+def bad_pairs(sheet, table, settings):
+    """18, over both directions of the sheet; where the pairs aren't read it isn't given."""
+    if sheet.coe() or settings.mode is FmmuMode.OWN_NUMBER:
+        return False
+    inputs, outputs = (entries_used(sheet, wanted_bits(sheet, table, write), write, settings) for write in (False, True))
+    return above_last(settings.pairs) or meet(inputs, outputs) or parted(inputs) or parted(outputs)
 
 
 def pass_rules(bits, used, offset):
@@ -160,13 +177,15 @@ def write_entry(fmmus, e, offset, size, start, write):
 def configure_fmmus(write, offset, settings, data, table, fmmus, channels):
     """The segment's start and end, less the group start, and the next offset.
 
-    By default the pass first clears the old entries of its direction, then plans as if those were never there.
+    By default the pass first clears the old entries of its direction, then plans as if those were never there. 18 has its
+    place after 5.
     """
-    group, old = settings
+    group, old = settings.group, settings.old
     demand({1: len(fmmus) != 256 or len(channels) != 128})
     sheet = read_sheet(data)
+    demand({18: bad_pairs(sheet, table, settings)})
     bits = wanted_bits(sheet, table, write)
-    used = entries_used(sheet, bits, write)
+    used = entries_used(sheet, bits, write, settings)
     rules = pass_rules(bits, used, offset)
     rules[8] = any(length > MOST_LENGTH for length in grown(fmmus, bits, used, old).values())
     rules[10] = offset < group
@@ -219,13 +238,13 @@ def count(write, offset, data, table, address):
 # ---- the program
 
 
-def plan(data, table=()):
+def plan(data, table=(), settings=Settings()):
     """Mailbox, input and output pass over zero areas: the two segments and both areas."""
     fmmus, channels = bytearray(256), bytearray(128)
     configure_mailboxes(data, channels)
-    start, end, offset = configure_fmmus(False, 0, Settings(), data, table, fmmus, channels)
+    start, end, offset = configure_fmmus(False, 0, settings, data, table, fmmus, channels)
     inputs = start, end
-    start, end, _ = configure_fmmus(True, offset, Settings(), data, table, fmmus, channels)
+    start, end, _ = configure_fmmus(True, offset, settings, data, table, fmmus, channels)
     return inputs, (start, end), fmmus, channels
 
 

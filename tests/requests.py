@@ -10,7 +10,9 @@ import sys
 from pathlib import Path
 
 import ask_dump
+import ask_eighteen
 import ask_old
+import ask_pairs
 import ask_passes
 import ask_portions
 import ask_registers
@@ -18,6 +20,7 @@ import ask_sheets
 import ask_sides
 import ask_writer
 import model
+from ask_pairs import front, lined
 from bays import IN, OUT
 from build import SAMPLE, coe, on_coe
 from stored import ROOT, samples
@@ -54,6 +57,29 @@ def programs():
     for times in (0, 1, 3):
         yield f"the sample planned {times} times", Request("B", a=times, sheet=SAMPLE, table=[(0x1A00, 2)])
     yield "planned over and over, and refused", Request("B", a=2, sheet=SEVEN_THEN_SIX)
+    yield from by_pairs()
+
+
+LISTS = {"": [(5, 0), (5, 1)], ", a number above 15": [(5, 0), (16, 9)], ", both directions": [(5, 0), (5, 3)]}
+
+
+def by_pairs():
+    """Plans over and over that go by pairs."""
+    for name, pairs in LISTS.items():
+        asked = Request("B", 1, len(pairs), a=3, sheet=lined("r17 r9 r w8"), fmmus=front(pairs))
+        yield f"planned by pairs{name}", asked
+        yield f"planned by pairs{name}, not asked for", asked._replace(write=0)
+        yield f"planned by pairs{name}, one lent", asked._replace(write=255, room=1)
+        yield f"planned by pairs{name}, no turns", asked._replace(a=0)
+        yield f"planned by pairs{name}, on CoE", asked._replace(sheet=SAMPLE)
+        yield f"planned by pairs{name}, the output muted", asked._replace(table=[(IN + 3, 0)])
+    many = dict(room=9, a=2, sheet=lined("r65528 " * 9), fmmus=front((3, k) for k in range(9)))
+    for write, told in ((0, "own numbers"), (1, "pairs")):
+        yield f"73,719 bytes planned by {told}", Request("B", write, **many)
+    yield "planned by no pair", Request("B", 1, 9, a=1, sheet=lined("r17 w8"))
+    yield "planned by pairs, refused before", Request("B", 1, 1, a=1, sheet=lined("r8 u"), fmmus=b"\x10\x10")
+    yield "planned by pairs, refused behind", Request("B", 1, 1, a=1, sheet=lined("r8 w65529"), fmmus=b"\0\1")
+    yield "planned by pairs, the outputs too wide", Request("B", 1, 1, a=1, sheet=lined("r8 w65529"), fmmus=b"\2\1")
 
 
 def crate():
@@ -71,7 +97,8 @@ def others():
 
 def ask():
     """Each request with its name, in the order of the stream."""
-    files = (ask_registers, ask_sheets, ask_portions, ask_writer, ask_dump, ask_passes, ask_old, ask_sides)
+    sheets, passes = (ask_sheets, ask_portions, ask_writer, ask_dump), (ask_passes, ask_old, ask_pairs, ask_eighteen)
+    files = (ask_registers, *sheets, *passes, ask_sides)
     for part in (*(file.ask for file in files), lessons, programs, crate, others):
         yield from part()
 

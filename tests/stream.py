@@ -34,6 +34,11 @@ class Request(NamedTuple):
         """The bits that c is the low half of."""
         return high * 2**32 + self.c
 
+    def lent(self):
+        """The pairs at the front of the FMMU part, as many as the room says and stand there whole, and what is behind."""
+        end = 2 * min(self.room, len(self.fmmus) // 2)
+        return [tuple(self.fmmus[i : i + 2]) for i in range(0, end, 2)], self.fmmus[end:]
+
     def bytes(self):
         """The request as it stands on the stream."""
         counts = [len(part) for part in (self.sheet, self.table, self.fmmus, self.channels)]
