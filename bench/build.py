@@ -143,15 +143,20 @@ def rattle_program():
     return ROOT / "target" / "bin" / "probe"
 
 
-def probed(data):
-    """The input of C and Rust as a request of the probe (docs/PROBE.md): the letter B plans so many times."""
+def probed(data, paired=False):
+    """The input of C and Rust as a request of the probe (docs/PROBE.md): the letter B plans so many times, by pairs or not."""
     records = int.from_bytes(data[4:6], "big")
-    table, sheet = data[6 : 6 + 3 * records], data[6 + 3 * records :]
+    table, rest = data[6 : 6 + 3 * records], data[6 + 3 * records :]
+    number, pairs = b"\0\0", b""
+    if paired:
+        number, rest = rest[:2], rest[2:]
+        end = 2 * int.from_bytes(number, "big")
+        pairs, rest = rest[:end], rest[end:]
     # one byte past the longest sheet is refused as any longer one is
-    sheet = sheet[:16_387]
-    counts = len(sheet), records, 0, 0
-    head = b"B" + bytes(3) + data[0:4] + bytes(12) + b"".join(count.to_bytes(2, "big") for count in counts)
-    return head + sheet + table
+    sheet = rest[:16_387]
+    counts = len(sheet), records, len(pairs), 0
+    head = b"B" + bytes([paired]) + number + data[0:4] + bytes(12) + b"".join(count.to_bytes(2, "big") for count in counts)
+    return head + sheet + table + pairs
 
 
 def in_portions(data, size):
@@ -187,6 +192,16 @@ def c_dumps():
 def c_used():
     """The C program whose plans start from an FMMU area that is given."""
     return c_program("used", "-DUSED")
+
+
+def c_paired():
+    """The C program whose plans go by pairs; each pass reads the sheet."""
+    return c_program("paired", "-DPAIRED", "-DREAD_IN_EACH_PASS")
+
+
+def c_passes(*flags):
+    """The C program that makes data passes, by own numbers unless a flag says otherwise; it takes the probe's requests."""
+    return c_program("passes" + "".join(flags), "-DPASSES", *flags)
 
 
 def probe_answer(text):

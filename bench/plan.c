@@ -3,7 +3,9 @@
    points do that take a sheet; otherwise a plan reads it once. Where PORTION isn't 0, nothing is planned: the sheet is taken into
    room in portions of so many bytes (document 02, 1/13), and read at the end. Where WRITE isn't 0, nothing is planned either: the
    sheet is read once, and its device data is written as a sheet over and over (document 02, 2/13). A data pass is the default's: it
-   clears old entries first (document 02, 3/13). Where USED isn't 0, each plan starts from an FMMU area that stands in the input. */
+   clears old entries first (document 02, 3/13). Where USED isn't 0, each plan starts from an FMMU area that stands in the input.
+   Where PAIRED isn't 0, the EEPROM path finds its entries by a list of pairs (document 02, 6/13) that stands in the input. Where PASSES
+   isn't 0, nothing is planned: data passes are made one by one, as the probe is asked for them. */
 #include "device.h"
 #include <string.h>
 
@@ -16,9 +18,16 @@
 #ifndef USED
 #define USED 0
 #endif
+#ifndef PAIRED
+#define PAIRED 0
+#endif
+#ifndef PASSES
+#define PASSES 0
+#endif
 
 enum {
     MOST_RECORDS = 256,
+    MOST_PAIRS = 256,
     MOST_FOLLOWING = 16384,
     MOST_BITS = 65528,
     MOST_LENGTH = 65535,
@@ -55,13 +64,23 @@ struct record {
     uint8_t multiplier;
 };
 
+struct fmmu_pair {
+    uint8_t fmmu, manager;
+};
+
+struct pairs {
+    struct fmmu_pair list[MOST_PAIRS];
+    unsigned count;
+};
+
 struct input {
-    uint8_t bytes[4 + 2 + 3 * MOST_RECORDS + 16 * ENTRIES * USED + 2 + MOST_FOLLOWING + 1];
+    uint8_t bytes[4 + 2 + 3 * MOST_RECORDS + 16 * ENTRIES * USED + (2 + 2 * MOST_PAIRS) * (PAIRED || PASSES) + 2 + MOST_FOLLOWING + 1];
     struct record table[MOST_RECORDS];
     unsigned records;
     const uint8_t *fmmus;
     const uint8_t *sheet;
     size_t length;
+    struct pairs pairs;
 };
 
 struct areas {
@@ -265,20 +284,66 @@ static unsigned multiplier(const struct record *table, unsigned records, uint16_
     return 1;
 }
 
+/* The entry of each sync manager: the first pair for it decides, so they are taken from the last; none means its own number. False
+   where a number is above 15. */
+static bool choose_entries(const struct pairs *pairs, uint8_t *entries)
+{
+    for (unsigned k = 0; k < MANAGERS; k++)
+        entries[k] = (uint8_t)k;
+    for (unsigned k = pairs->count; k-- > 0;) {
+        const struct fmmu_pair *pair = &pairs->list[k];
+        if (pair->fmmu >= ENTRIES || pair->manager >= MANAGERS)
+            return false;
+        entries[pair->manager] = pair->fmmu;
+    }
+    return true;
+}
+
+/* The entries of the sync managers with bits, a bit for each; and whether one is left for another and used again. */
+static unsigned used_entries(const uint8_t *entries, const uint32_t *bits, unsigned n, bool *again)
+{
+    unsigned used = 0, last = 0;
+    for (unsigned k = 0; k < n; k++) {
+        if (bits[k] == 0)
+            continue;
+        unsigned entry = 1u << entries[k];
+        *again |= entry != last && used & entry;
+        used |= entry;
+        last = entry;
+    }
+    return used;
+}
+
+/* Chooses the entries by the pairs. False where they can't be planned by, by the bits of the pass's direction and of the other. */
+static bool by_pairs(const struct pairs *pairs, const uint32_t *bits, const uint32_t *others, unsigned n, uint8_t *entries)
+{
+    if (!choose_entries(pairs, entries))
+        return false;
+    bool again = false;
+    unsigned used = used_entries(entries, bits, n, &again);
+    return !(used & used_entries(entries, others, n, &again)) && !again;
+}
+
 /* Makes a data pass, or answers the number of its refusal with nothing written. */
 static int data_pass(const struct device *device, bool write, uint32_t *offset, uint32_t group, const struct record *table,
-                     unsigned records, struct areas *areas, struct segment *segment)
+                     unsigned records, const struct pairs *pairs, struct areas *areas, struct segment *segment)
 {
     const uint8_t usage = write ? DATA_WRITE : DATA_READ;
     const uint8_t kind = device->coe ? COE_PDO : write ? EEPROM_WRITE : EEPROM_READ;
+    const uint8_t other_usage = write ? DATA_READ : DATA_WRITE, other_kind = write ? EEPROM_READ : EEPROM_WRITE;
 
     /* the exact bits of a sync manager stay below 2^32: 255 PDOs of 65,535 bits, each 255 times */
-    uint32_t bits[MANAGERS] = {0};
+    uint32_t bits[MANAGERS] = {0}, others[MANAGERS] = {0};
     for (unsigned k = 0; k < device->p; k++) {
         const struct pdo *pdo = &device->pdos[k];
         if (pdo->kind == kind && pdo->manager < device->n && device->managers[pdo->manager].usage == usage)
             bits[pdo->manager] += pdo_bits(pdo) * multiplier(table, records, pdo->index);
+        else if (PAIRED && pdo->kind == other_kind && pdo->manager < device->n && device->managers[pdo->manager].usage == other_usage)
+            others[pdo->manager] += pdo_bits(pdo) * multiplier(table, records, pdo->index);
     }
+    uint8_t entries[MANAGERS];
+    if (PAIRED && !device->coe && !by_pairs(pairs, bits, others, device->n, entries))
+        return 18;
 
     bool too_many = false, some = false;
     uint64_t end = *offset;
@@ -304,9 +369,9 @@ static int data_pass(const struct device *device, bool write, uint32_t *offset, 
     unsigned wanted = 0;
     bool too_long = false;
     for (unsigned k = 0; k < device->n; k++) {
-        if (device->managers[k].usage != usage || (device->coe && bits[k] == 0))
+        if (device->managers[k].usage != usage || ((device->coe || PAIRED) && bits[k] == 0))
             continue;
-        unsigned entry = device->coe ? first : k;
+        unsigned entry = device->coe ? first : PAIRED ? entries[k] : k;
         grown[entry] += sizes[k];
         wanted |= 1u << entry;
         too_long |= grown[entry] > MOST_LENGTH;
@@ -331,8 +396,8 @@ static int data_pass(const struct device *device, bool write, uint32_t *offset, 
         if (manager->usage != usage)
             continue;
         write_channel(areas->channels + 8 * k, manager, sizes[k]);
-        if (!device->coe || bits[k] > 0)
-            write_entry(areas->fmmus + 16 * (device->coe ? first : k), *offset, sizes[k], manager->start, write);
+        if (!(device->coe || PAIRED) || bits[k] > 0)
+            write_entry(areas->fmmus + 16 * (device->coe ? first : PAIRED ? entries[k] : k), *offset, sizes[k], manager->start, write);
         *offset += sizes[k];
     }
     segment->end = *offset - group;
@@ -406,7 +471,7 @@ static __attribute__((noinline)) void plan(bool last)
         struct segment segment = {0};
         number = read_again();
         if (!number)
-            number = data_pass(&device, write, &offset, 0, input.table, input.records, &areas, &segment);
+            number = data_pass(&device, write, &offset, 0, input.table, input.records, &input.pairs, &areas, &segment);
         if (last)
             say_pass(number, &segment, offset, &areas);
     }
@@ -556,7 +621,38 @@ static void write_again(bool last)
 
 /* ---- the input */
 
-/* How often to plan, from the head of the input; the table and the sheet are set. */
+static void read_table(const uint8_t *records)
+{
+    for (unsigned k = 0; k < input.records; k++) {
+        const uint8_t *at = records + 3 * k;
+        input.table[k] = (struct record){pair(at), at[2]};
+    }
+}
+
+static void read_pairs(const uint8_t *pairs)
+{
+    for (unsigned k = 0; k < input.pairs.count; k++) {
+        const uint8_t *at = pairs + 2 * k;
+        input.pairs.list[k] = (struct fmmu_pair){at[0], at[1]};
+    }
+}
+
+/* The pairs before the sheet, which then stands behind them. */
+static bool split_pairs(void)
+{
+    if (input.length < 2)
+        return false;
+    input.pairs.count = pair(input.sheet);
+    size_t length = 2 + 2 * input.pairs.count;
+    if (input.pairs.count > MOST_PAIRS || input.length < length)
+        return false;
+    read_pairs(input.sheet + 2);
+    input.sheet += length;
+    input.length -= length;
+    return true;
+}
+
+/* How often to plan, from the head of the input; the table, the pairs and the sheet are set. */
 static bool read_input(uint32_t *times)
 {
     size_t length = fread(input.bytes, 1, sizeof input.bytes, stdin);
@@ -566,21 +662,62 @@ static bool read_input(uint32_t *times)
     input.records = pair(input.bytes + 4);
     if (input.records > MOST_RECORDS || length - 6 < 3 * input.records + sizeof areas.fmmus * USED)
         return false;
-    for (unsigned k = 0; k < input.records; k++) {
-        const uint8_t *at = input.bytes + 6 + 3 * k;
-        input.table[k] = (struct record){pair(at), at[2]};
-    }
+    read_table(input.bytes + 6);
     input.fmmus = input.bytes + 6 + 3 * input.records;
     input.sheet = input.fmmus + sizeof areas.fmmus * USED;
     input.length = length - (size_t)(input.sheet - input.bytes);
+    return PAIRED ? split_pairs() : true;
+}
+
+/* ---- data passes, as the probe is asked for them */
+
+/* Answers a request of the letter P (docs/PROBE.md), whose head was read. False unless it is for a pass in the default, by pairs or by
+   own numbers as this program is built, over whole areas. */
+static bool answer(const uint8_t *head)
+{
+    input.length = pair(head + 20);
+    input.records = pair(head + 22);
+    input.pairs.count = pair(head + 2);
+    size_t lent = input.length + 3 * input.records + 2 * input.pairs.count;
+    if (head[0] != 'P' || head[1] >> 1 != (PAIRED ? 0 : 2) || input.records > MOST_RECORDS || input.pairs.count > MOST_PAIRS)
+        return false;
+    if (pair(head + 24) != 2 * input.pairs.count + sizeof areas.fmmus || pair(head + 26) != sizeof areas.channels)
+        return false;
+    if (lent > sizeof input.bytes || fread(input.bytes, 1, lent, stdin) < lent || !fread(&areas, sizeof areas, 1, stdin))
+        return false;
+    read_table(input.bytes + input.length);
+    read_pairs(input.bytes + input.length + 3 * input.records);
+
+    const uint32_t group = (uint32_t)pair(head + 8) << 16 | pair(head + 10);
+    uint32_t offset = (uint32_t)pair(head + 4) << 16 | pair(head + 6);
+    struct segment segment = {0};
+    int number = read_sheet(input.bytes, input.length, &device);
+    if (!number)
+        number = data_pass(&device, head[1] & 1, &offset, group, input.table, input.records, &input.pairs, &areas, &segment);
+    say_pass(number, &segment, offset, &areas);
     return true;
+}
+
+/* Answers one request after another; the exit status. */
+static int answer_all(void)
+{
+    uint8_t head[28];
+    size_t length;
+    while ((length = fread(head, 1, sizeof head, stdin)) == sizeof head && answer(head))
+        ;
+    if (length == 0)
+        return 0;
+    fprintf(stderr, "plan: a request is cut short, or isn't for such a pass\n");
+    return 2;
 }
 
 int main(void)
 {
+    if (PASSES)
+        return answer_all();
     uint32_t times;
     if (!read_input(&times)) {
-        fprintf(stderr, "plan: the input is cut short, or its table is too long\n");
+        fprintf(stderr, "plan: the input is cut short, or its table or list of pairs is too long\n");
         return 2;
     }
     int number = WRITE ? read_data() : 0;

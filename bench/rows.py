@@ -16,6 +16,7 @@ class Row(NamedTuple):
     name: str
     sheet: bytes
     table: list = []
+    pairs: list | None = None  # (FMMU number, sync manager number); None where entries are those of the own numbers
 
     def length(self):
         """L, the bytes that follow it."""
@@ -24,10 +25,17 @@ class Row(NamedTuple):
     def pdos(self):
         return self.sheet[10]
 
+    def by_own_numbers(self):
+        return self._replace(pairs=None)
+
+    def pair_bytes(self):
+        return b"".join(map(bytes, self.pairs))
+
     def input(self, times, fmmus=b""):
-        """What a program reads; one that is built for used areas has the FMMU area before the sheet."""
+        """What a program reads; one that is built for used areas has the FMMU area before the sheet, one for pairs has those there."""
         records = b"".join(index.to_bytes(2, "big") + bytes([multiplier]) for index, multiplier in self.table)
-        return times.to_bytes(4, "big") + len(self.table).to_bytes(2, "big") + records + fmmus + self.sheet
+        pairs = b"" if self.pairs is None else len(self.pairs).to_bytes(2, "big") + self.pair_bytes()
+        return times.to_bytes(4, "big") + len(self.table).to_bytes(2, "big") + records + fmmus + pairs + self.sheet
 
 
 def sheet(flags, managers, usages, pdos):
@@ -123,6 +131,31 @@ IN_PORTIONS = Row("the longest sheet in portions", coe(16 * KIB, MANY))
 # sheets that are written again, the last of them the longest; no bit of theirs is one that writing sets to 0
 WRITTEN = [SMALL[0], SMALL[2], SMALL[3], EEPROM[1], BY_LENGTH[2]]
 ROWS = SMALL + BY_LENGTH + BY_PDOS + EEPROM + TABLES + REFUSED
+
+# the sample's sync managers and bits by EEPROM PDOs: the outputs on 2, the inputs on 3 and 4
+BY_EEPROM = sheet(
+    NO_MAILBOX,
+    (MAILBOX_WRITE, MAILBOX_READ, OUTPUTS, INPUTS, INPUTS),
+    (1, 2),
+    [(1, 3, 0x1A00, [0, 17]), (1, 4, 0x1A01, [0, 9]), (2, 2, 0x1600, [0, 16])],
+)
+OWN = [(k, k) for k in range(16)]
+BACKWARDS = [(15 - k, k) for k in range(16)]
+BY_DIRECTION = [(k % 2, k) for k in range(16)]  # of `managers`, the outputs have even numbers
+ALL_ON_0 = [(0, k) for k in range(16)]
+# plans by pairs, each beside the same sheet by own numbers; by CoE the pairs aren't read
+PAIRED = [
+    Row("document 01's sample, CoE", SAMPLE, pairs=[]),
+    Row("its like by EEPROM", BY_EEPROM, pairs=[]),
+    Row("its like by EEPROM, the inputs merge", BY_EEPROM, pairs=[(3, 4)]),
+    Row("its like by EEPROM, own numbers", BY_EEPROM, pairs=OWN),
+    Row("its like by EEPROM, own numbers 16 times", BY_EEPROM, pairs=OWN * 16),
+    Row("16 sync managers, an entry each, backwards", eeprom(14, 16), pairs=BACKWARDS),
+    Row("16 sync managers, an entry for each direction", eeprom(14, 16), pairs=BY_DIRECTION),
+    Row("255 PDOs on 16 sync managers, backwards", eeprom(255, 16), pairs=BACKWARDS),
+    Row("255 PDOs on 4 sync managers, own numbers", eeprom(255), pairs=OWN),
+    Row("refused 18: 255 PDOs, all on one entry", eeprom(255, 16), pairs=ALL_ON_0),
+]
 
 
 # ---- dumps of the category area
