@@ -435,15 +435,24 @@ fn plan_once(sheet: &[u8], table: [Oversampling; 256], pairs: [FmmuPair; 256], l
     bare_passes(sheet, &mut fmmus, &mut channels, settings)
 }
 
-// The default, in group 0. Byte 1 says whether a plan goes by the pairs at the front of the FMMU part.
-fn planning(request: &[u8]) -> Settings {
+// The default, in group 0. Byte 1 says whether a plan goes by the pairs at the front of the FMMU part; else it is lent none.
+fn lent_of(request: &[u8]) -> Lent {
+    let records = parts::records(request);
     if wire::byte_at(request, 1) == 0 {
-        return Settings::clean(0);
+        return Lent {
+            records,
+            count: 0,
+            settings: Settings::clean(0),
+        };
     }
-    Settings {
-        group: 0,
-        old: OldEntries::Clear,
-        mode: FmmuMode::Paired,
+    Lent {
+        records,
+        count: parts::pair_count(request) as usize,
+        settings: Settings {
+            group: 0,
+            old: OldEntries::Clear,
+            mode: FmmuMode::Paired,
+        },
     }
 }
 
@@ -452,12 +461,7 @@ pub fn again(request: &[u8]) {
     let sheet = parts::sheet(request);
     let table = parts::table(request);
     let pairs = parts::pairs(request);
-    let count = parts::pair_count(request) as usize;
-    let lent = Lent {
-        records: parts::records(request),
-        count,
-        settings: planning(request),
-    };
+    let lent = lent_of(request);
     let mut last = say::one(say::NONE);
     let mut left = parts::number4(request, 4);
     while 0 < left {

@@ -6,10 +6,10 @@ use Rattle.probe.proofs.bays.again.Statement.{statement}
 use Rattle.probe.proofs.bays.again.Tie as tie
 
 abbrev Inv-loop : tie.InvT-loop
-Inv-loop request sheet table pairs count lent last₀ left₀ last left = Unit {0}
+Inv-loop request sheet table pairs lent last₀ left₀ last left = Unit {0}
 
 abbrev μ-loop : tie.MeasureT-loop
-μ-loop request sheet table pairs count lent last₀ left₀ last left = left
+μ-loop request sheet table pairs lent last₀ left₀ last left = left
 
 sheet-requires : tie.Need-sheet-requires Inv-loop μ-loop
 sheet-requires c κs = search needs
@@ -20,17 +20,8 @@ table-requires c κs = search needs
 pairs-requires : tie.Need-pairs-requires Inv-loop μ-loop
 pairs-requires c κs = search needs
 
-pair-count-requires : tie.Need-pair-count-requires Inv-loop μ-loop
-pair-count-requires c κs = search needs
-
-cast-count : tie.Need-cast-count Inv-loop μ-loop
-cast-count c = search needs
-
-records-requires : tie.Need-records-requires Inv-loop μ-loop
-records-requires c κs = search needs
-
-planning-requires : tie.Need-planning-requires Inv-loop μ-loop
-planning-requires c κs = search needs
+lent-of-requires : tie.Need-lent-of-requires Inv-loop μ-loop
+lent-of-requires c κs = search needs
 
 one-requires : tie.Need-one-requires Inv-loop μ-loop
 one-requires c κs = search needs
@@ -68,10 +59,7 @@ again-spec =
     sheet-requires
     table-requires
     pairs-requires
-    pair-count-requires
-    cast-count
-    records-requires
-    planning-requires
+    lent-of-requires
     one-requires
     number4-requires
     loop-holds
