@@ -23,10 +23,7 @@ use Rattle.channels.specs.Channels.{sizeAt}
 use Rattle.pdo.specs.declared.PdoDirection.{PdoDirection}
 use Rattle.pdo.specs.Direction.{usageOf}
 use Rattle.pdo.specs.Bits.{Piece, pathKind, bitsOf, piecesFrom, piecesOf}
-use Rattle.passes.specs.declared.FmmuMode.the-variants.{OwnNumber}
-use Rattle.passes.specs.declared.Chosen.{Chosen}
 use Rattle.passes.specs.Use.{Use, own, total, sizeOf}
-use Rattle.passes.specs.Pairs.{badPairs}
 use Rattle.passes.specs.Pass.{wantedRefusals}
 use Rattle.passes.specs.Handed.{sizesOf, piecesBy}
 use Rattle.passes.proofs.Pieces.{withPiece, bytes-back, uses-same, exact-at, size-handed}
@@ -162,31 +159,31 @@ module _ (d : Data) (ws : List ℕ) (r : PdoDirection) (few : length (d .manager
   handed-finds : (offset a : ℕ) → spotIn offset (piecesBy (usageOf r) (sizesOf d ws r) (d .managers)) a ≡ spotIn offset (piecesOf d ws r) a
   handed-finds offset a = spots-are offset a _ ∙ ap (λ (us : List Use). spotsOf offset us a) own-is ∙ sym (spots-are offset a (piecesOf d ws r))
 
--- each way through the call; no pairs are read, so 18 doesn't hold
-module _ (c : Chosen) (sheet ws : List ℕ) (r : PdoDirection) (offset a : ℕ) (x : Wanted) (h : Wants OwnNumber c sheet ws r x) where
+-- each way through the call
+module _ (sheet ws : List ℕ) (r : PdoDirection) (offset a : ℕ) (x : Wanted) (h : Wants sheet ws r x) where
   abbrev d : Data
   d = sheetData sheet
 
   pub unwanted-counts : (n : ℕ) → x .answer ≡ answer.Refused n → refused n ≡ count r a sheet ws offset
-  unfolding count badPairs
+  unfolding count
   unwanted-counts n e =
       stopped {A = Unit {0}} (sheetRefusals sheet ++ wantedRefusals d ws r) tt n (decide (when 9 (pastEnd (offset + sizeOf d ws r)) ∷ []) (spotIn offset (piecesOf d ws r) a))
-      (wanted-refused OwnNumber c sheet ws r x h n e)
+      (wanted-refused sheet ws r x h n e)
 
   module _ (e : x .answer ≡ answer.Accepted) {usage end : ℕ} {found : Counted} (u : usage ≡ usageOf r)
       (lays : LaysOut (piecesBy usage (x .sizes) (managersIn sheet)) offset a end found) where
     lays-all : LaysOut (piecesBy (usageOf r) (sizesOf d ws r) (d .managers)) offset a end found
     lays-all =
-        let w = wanted-accepted OwnNumber c sheet ws r x h e in
+        let w = wanted-accepted sheet ws r x h e in
         subst (λ (ps : List Piece). LaysOut ps offset a end found) (λ i. piecesBy (u i) (w .2 i .sizes) (w .0 .few i)) lays
 
     few : length (d .managers) ≤ 16
-    few = let w = wanted-accepted OwnNumber c sheet ws r x h e .0 .managers in omega (arith, manager-count sheet)
+    few = let w = wanted-accepted sheet ws r x h e .0 .managers in omega (arith, manager-count sheet)
 
     rest : count r a sheet ws offset ≡ decide (when 9 (pastEnd end) ∷ []) (spotIn offset (piecesOf d ws r) a)
-    unfolding count badPairs
+    unfolding count
     rest =
-        let w = wanted-accepted OwnNumber c sheet ws r x h e in
+        let w = wanted-accepted sheet ws r x h e in
         let t : offset + sizeOf d ws r ≡ end = sym (lays-all .ends ∙ handed-ends d ws r few offset) in
         passed {A = Unit {0}} (sheetRefusals sheet ++ wantedRefusals d ws r) tt tt (decide (when 9 (pastEnd (offset + sizeOf d ws r)) ∷ []) (spotIn offset (piecesOf d ws r) a)) (w .1)
         ∙ ap (λ (y : ℕ). decide (when 9 (pastEnd y) ∷ []) (spotIn offset (piecesOf d ws r) a)) t

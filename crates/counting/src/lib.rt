@@ -7,8 +7,6 @@ ghost use Rattle.passes.specs.Handed.{piecesBy};
 ghost use Rattle.counting.specs.Count as meaning;
 ghost use Rattle.counting.specs.Found.{spotHere, earlierOf, LaysOut};
 ghost use Rattle.counting.specs.Count.{countedOf};
-use passes::Chosen;
-use passes::FmmuMode;
 use pdi::ByteLen;
 use pdi::Moved;
 use pdi::PdiOffset;
@@ -91,14 +89,7 @@ pub fn count(
 ) -> Counted
     ensures { λ r. ⌜ countedOf r ≡ meaning.count direction address (now (sheet .entry)) (now (multipliers .entry)) (offset .«start_address») ⌝ }
 {
-    // its range doesn't ask which entries are used, so no pairs are read
-    let wanted = wanted::wanted_of(
-        sheet,
-        multipliers,
-        direction,
-        FmmuMode::OwnNumber,
-        Chosen::none(),
-    );
+    let wanted = wanted::wanted_of(sheet, multipliers, direction);
     let answer = wanted.answer;
     if let Answer::Refused(number) = answer {
         return Counted::Refused(number);

@@ -30,8 +30,8 @@ use Rattle.passes.specs.Pass.{notAreas, plannedOf, dataPass, entriesAfter, chan
 use Rattle.passes.specs.Handed.{sizesOf, usesBy}
 use Rattle.passes.proofs.Pieces.{uses-are, uses-total, images-are}
 use Rattle.wanted.specs.declared.Wanted.{Wanted}
-use Rattle.wanted.specs.Wanted.{wantingRefusals, Wants}
-use Rattle.wanted.proofs.Answered.{wanted-refused, wanted-accepted}
+use Rattle.wanted.specs.Wanted.{wantingRefusals, WantsBy}
+use Rattle.wanted.proofs.Answered.{by-refused, by-accepted}
 
 -- 1 holds if an area has another length, and not if both have theirs
 pub entries-wrong : (fmmus channels : List ℕ) → (length fmmus ≡ 256 → ⊥) → notAreas fmmus channels ≡ true
@@ -63,7 +63,7 @@ module _ (sheet ws : List ℕ) (k : Chosen) (r : PdoDirection) (offset : ℕ) (s
   unfolding dataPass
   one-configures h = refuses 1 (rw h)
 
-  module _ (long : length fmmus ≡ 256) (wide : length channels ≡ 128) (x : Wanted) (h : Wants (settings .mode) k sheet ws r x) where
+  module _ (long : length fmmus ≡ 256) (wide : length channels ≡ 128) (x : Wanted) (h : WantsBy (settings .mode) k sheet ws r x) where
     -- 2 to 7 and 18, and what they leave to decide
     abbrev asked : List Refusal
     asked = wantingRefusals (settings .mode) k sheet ws r
@@ -76,17 +76,17 @@ module _ (sheet ws : List ℕ) (k : Chosen) (r : PdoDirection) (offset : ℕ) (s
     rest = rw (areas-right fmmus channels long wide)
 
     pub unwanted-configures : (n : ℕ) → x .answer ≡ answer.Refused n → Configures sheet ws k r offset settings fmmus channels (Refused n) fmmus channels
-    unwanted-configures n e = refuses n (stopped {A = Unit {0}} asked tt n later (wanted-refused (settings .mode) k sheet ws r x h n e) ∙ sym rest)
+    unwanted-configures n e = refuses n (stopped {A = Unit {0}} asked tt n later (by-refused (settings .mode) k sheet ws r x h n e) ∙ sym rest)
 
     -- none of them holds: then the entries decide
     module _ (e : x .answer ≡ answer.Accepted) (fmmusThen : List ℕ) (said : Configured)
         (w : WritesEntries (usesBy (x .route) (x .sizes) r (managersIn sheet)) r offset settings fmmus said fmmusThen) where
       few : length (d .managers) ≤ 16
-      few = let n = wanted-accepted (settings .mode) k sheet ws r x h e .0 .managers in omega (arith, manager-count sheet)
+      few = let n = by-accepted (settings .mode) k sheet ws r x h e .0 .managers in omega (arith, manager-count sheet)
 
       uses-then : usesBy (x .route) (x .sizes) r (managersIn sheet) ≡ usesOf (settings .mode) k d ws r
       uses-then =
-          let all = wanted-accepted (settings .mode) k sheet ws r x h e in
+          let all = by-accepted (settings .mode) k sheet ws r x h e in
           (λ i. usesBy (all .2 i .route) (all .2 i .sizes) r (all .0 .few i)) ∙ uses-are d ws r few (settings .mode) k
 
       size-then : total (usesBy (x .route) (x .sizes) r (managersIn sheet)) ≡ sizeOf d ws r
@@ -94,7 +94,7 @@ module _ (sheet ws : List ℕ) (k : Chosen) (r : PdoDirection) (offset : ℕ) (s
 
       decided : entriesOutcome (usesBy (x .route) (x .sizes) r (managersIn sheet)) r offset settings fmmus ≡ outcome
       decided =
-          let all = wanted-accepted (settings .mode) k sheet ws r x h e in
+          let all = by-accepted (settings .mode) k sheet ws r x h e in
           (λ i. decide (when 1 (not (eq-eqb (length fmmus) 256 long i)) ∷ entryRefusals (uses-then i) (size-then i) r offset settings (entriesOf 16 fmmus)) (planned offset (settings .group) (size-then i)))
           ∙ sym (rest ∙ passed {A = Unit {0}} asked tt tt later (all .1))
 
@@ -105,7 +105,7 @@ module _ (sheet ws : List ℕ) (k : Chosen) (r : PdoDirection) (offset : ℕ) (s
           {usage : ℕ} → usage ≡ usageOf r
           → channelArea (channelsAfter (sizeBy usage (x .sizes)) 0 (managersIn sheet)) channels ≡ channelAreaAfter (accepted (plannedOf d ws r offset (settings .group))) d ws r channels
       images-then {usage} u =
-          let all = wanted-accepted (settings .mode) k sheet ws r x h e in
+          let all = by-accepted (settings .mode) k sheet ws r x h e in
           (λ i. channelArea (channelsAfter (sizeBy (u i) (all .2 i .sizes)) 0 (all .0 .few i)) channels)
           ∙ area-whole (channelsAfter (sizeBy (usageOf r) (sizesOf d ws r)) 0 (d .managers)) channels wide
           ∙ ap flat (images-are d ws r few (entriesOf 8 channels))

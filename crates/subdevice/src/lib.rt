@@ -25,7 +25,7 @@ pub fn pass(
     let settings = place.settings;
     let mode = settings.mode;
     let chosen = place.chosen;
-    let wanted = wanted::wanted_of(sheet, multipliers, direction, mode, chosen);
+    let wanted = wanted::wanted_by(sheet, multipliers, direction, mode, chosen);
     let answer = wanted.answer;
     if let Answer::Refused(number) = answer {
         return Configured::Refused(number);

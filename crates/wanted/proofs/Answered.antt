@@ -2,7 +2,7 @@
 -- Assumes nothing.
 use mathlib.Core.Path.{_≡_, refl, sym, _∙_, ap}
 use mathlib.Core.Bool.{Bool, true, false, cond}
-use mathlib.Core.List.{List, [], _∷_}
+use mathlib.Core.List.{List, [], _∷_, _++_}
 use Prim.Native.Nat.{ℕ}
 use Rattle.wire.specs.Outcome.{Outcome, refused, accepted, Refusal, when, first, decide}
 use Rattle.wire.proofs.Order.{never}
@@ -12,11 +12,13 @@ use Rattle.sheet.specs.declared.Answer.the-variants.{Accepted, Refused}
 use Rattle.sheet.proofs.Kept.{Accepts, accepted-accepts}
 use Rattle.pdo.specs.declared.PdoDirection.{PdoDirection}
 use Rattle.passes.specs.declared.FmmuMode.{FmmuMode}
+use Rattle.passes.specs.declared.FmmuMode.the-variants.{OwnNumber}
 use Rattle.passes.specs.declared.Chosen.{Chosen}
+use Rattle.passes.specs.Use.{nothingChosen}
 use Rattle.passes.specs.Pairs.{badPairs}
 use Rattle.passes.specs.Pass.{wantedRefusals}
 use Rattle.wanted.specs.declared.Wanted.{Wanted}
-use Rattle.wanted.specs.Wanted.{wantedFrom, wantedAfter, wantingRefusals, Wants}
+use Rattle.wanted.specs.Wanted.{wantedFrom, wantedAfter, wantingRefusals, Wants, WantsBy}
 
 -- an answer as an outcome with nothing beside it
 says : {x y : Answer} → x ≡ y → answerOf {A = Unit {0}} x tt ≡ answerOf {A = Unit {0}} y tt
@@ -53,18 +55,37 @@ front {A} (r ∷ rs) o b e = go (r .holds) (front rs o b) e
     go true rest q = absurd (never (sym q))
     go false rest q = rest q
 
-module _ (mode : FmmuMode) (c : Chosen) (sheet ws : List ℕ) (r : PdoDirection) (x : Wanted) (h : Wants mode c sheet ws r x) where
+-- the sheet's refusals, and more
+module _ (sheet : List ℕ) (more : List Refusal) (w x : Wanted) (h : x ≡ wantedAfter (decide (sheetRefusals sheet ++ more) w)) where
   abbrev all : List Refusal
-  all = wantingRefusals mode c sheet ws r
+  all = sheetRefusals sheet ++ more
 
+  any-accepted : x .answer ≡ Accepted → Accepts sheet × (accepted tt ≡ decide {A = Unit {0}} all tt) × (x ≡ w)
+  any-accepted e =
+      let a = accepted-all all w x e h in
+      (accepted-accepts {A = Unit {0}} sheet tt tt (front (sheetRefusals sheet) (decide {A = Unit {0}} more tt) tt (a .0)), a .0, a .1)
+
+-- by own numbers
+module _ (sheet ws : List ℕ) (r : PdoDirection) (x : Wanted) (h : Wants sheet ws r x) where
+  abbrev own : Wanted
+  own = wantedFrom OwnNumber nothingChosen (sheetData sheet) ws r
+
+  abbrev seven : List Refusal
+  seven = wantedRefusals (sheetData sheet) ws r
+
+  pub wanted-refused : (n : ℕ) → x .answer ≡ Refused n → refused n ≡ decide {A = Unit {0}} (sheetRefusals sheet ++ seven) tt
+  wanted-refused n e = refused-first (sheetRefusals sheet ++ seven) own x n refl e h
+
+  pub wanted-accepted : x .answer ≡ Accepted → Accepts sheet × (accepted tt ≡ decide {A = Unit {0}} (sheetRefusals sheet ++ seven) tt) × (x ≡ own)
+  wanted-accepted e = any-accepted sheet seven own x h e
+
+-- by a mode
+module _ (mode : FmmuMode) (c : Chosen) (sheet ws : List ℕ) (r : PdoDirection) (x : Wanted) (h : WantsBy mode c sheet ws r x) where
   abbrev w : Wanted
   w = wantedFrom mode c (sheetData sheet) ws r
 
-  pub wanted-refused : (n : ℕ) → x .answer ≡ Refused n → refused n ≡ decide {A = Unit {0}} all tt
-  wanted-refused n e = refused-first all w x n refl e h
+  pub by-refused : (n : ℕ) → x .answer ≡ Refused n → refused n ≡ decide {A = Unit {0}} (wantingRefusals mode c sheet ws r) tt
+  by-refused n e = refused-first (wantingRefusals mode c sheet ws r) w x n refl e h
 
-  pub wanted-accepted : x .answer ≡ Accepted → Accepts sheet × (accepted tt ≡ decide {A = Unit {0}} all tt) × (x ≡ w)
-  wanted-accepted e =
-      let a = accepted-all all w x e h in
-      let later = when 18 (badPairs mode c (sheetData sheet) ws) ∷ wantedRefusals (sheetData sheet) ws r in
-      (accepted-accepts {A = Unit {0}} sheet tt tt (front (sheetRefusals sheet) (decide {A = Unit {0}} later tt) tt (a .0)), a .0, a .1)
+  pub by-accepted : x .answer ≡ Accepted → Accepts sheet × (accepted tt ≡ decide {A = Unit {0}} (wantingRefusals mode c sheet ws r) tt) × (x ≡ w)
+  by-accepted e = any-accepted sheet (when 18 (badPairs mode c (sheetData sheet) ws) ∷ wantedRefusals (sheetData sheet) ws r) w x h e

@@ -1,7 +1,7 @@
 -- Pairs as code judges them are the pairs that 18 speaks of: the uses by number, both directions, and what each way through the judging answers.
 -- Assumes nothing.
 use mathlib.Core.Path.{_≡_, refl, sym, _∙_, ap, subst}
-use mathlib.Core.Bool.{Bool, true, false, cond, not, _&&_, _||_, and-false, and-comm, or-comm, or-true, or-false}
+use mathlib.Core.Bool.{Bool, true, false, cond, not, _&&_, _||_, and-false, or-true, or-false}
 use mathlib.Core.List.{List, [], _∷_, map}
 use Prim.Native.Nat.{ℕ, zero, suc, _+_, _≤_, _<_}
 use native.Mathlib.Nat.{add-zero, zero-add, not-suc-le-zero, le-of-suc-le-suc}
@@ -11,23 +11,21 @@ use lib.Dec.{eqb, ltb, leb·suc-suc}
 use borrow.Author.Tests.{lt-ltb, le-ltb}
 use Rattle.wire.specs.Lists.{someBelow}
 use Rattle.wire.proofs.Lists.{some-hit, some-miss, some-same, getD-listOf}
-use Rattle.pdi.specs.declared.BitLen.{BitLen}
 use Rattle.sheet.specs.Device.{Data}
 use Rattle.sheet.specs.Sheet.{noManager, sheetData}
 use Rattle.sheet.specs.declared.SyncManager.{SyncManager}
 use Rattle.pdo.specs.declared.PdoDirection.{PdoDirection}
 use Rattle.pdo.specs.declared.PdoDirection.the-variants.{MasterRead, MasterWrite}
-use Rattle.pdo.specs.Direction.{usageOf, kindOf, other}
+use Rattle.pdo.specs.Direction.{usageOf}
 use Rattle.pdo.specs.Bits.{Piece, byCoe, pathKind, bitsOf, piecesFrom, piecesOf}
-use Rattle.passes.specs.declared.FmmuMode.{FmmuMode}
-use Rattle.passes.specs.declared.FmmuMode.the-variants.{OwnNumber, Paired}
+use Rattle.passes.specs.declared.FmmuMode.the-variants.{Paired}
 use Rattle.passes.specs.declared.Chosen.{Chosen}
 use Rattle.passes.specs.Use.{Use, useOf, given, paired}
 use Rattle.passes.specs.Pairs.{numberAbove, someOn, comesBack, interrupted, badEntry, badPairs}
 use Rattle.passes.specs.Handed.{hasUsage}
 use Rattle.wanted.specs.declared.Entered.{Entered}
-use Rattle.wanted.specs.ByKind.{bitsAt, bitsIn, bitAt}
-use Rattle.wanted.specs.Judged.{pairsRead, numbersFrom, usesIn, Surveys, somePastLast, someShared, badChoice}
+use Rattle.wanted.specs.ByKind.{bitsAt, flagsIn}
+use Rattle.wanted.specs.Judged.{usesFrom, usesIn, Surveys, somePastLast, someShared, judgedUses, badChoice}
 use Rattle.wanted.proofs.Surveying.{some-or}
 
 -- whether an entry of sixteen is above 15: none so far, one that is, one more that isn't, none of sixteen
@@ -71,9 +69,9 @@ module _ (one two : List Bool) where
   unfolding someShared
   shared-nowhere k e h = sym h ∙ ap (someBelow shared) e
 
--- a use without its address: which entries are used doesn't ask for it
+-- a use without its size and address: which entries are used doesn't ask for them
 abbrev bare : Use → Use
-bare u = record { entry = u .entry; size = u .size; at = 0 }
+bare u = record { entry = u .entry; size = 0; at = 0 }
 
 some-bare : (k : ℕ) (us : List Use) → someOn k (map bare us) ≡ someOn k us
 some-bare k [] = refl
@@ -90,66 +88,60 @@ interrupted-bare k (u ∷ us) = λ i. (eqb (u .entry) k && back-bare k us i) || 
 bad-bare : (us vs : List Use) (k : ℕ) → badEntry (map bare us) (map bare vs) k ≡ badEntry us vs k
 bad-bare us vs k = λ i. (some-bare k us i && some-bare k vs i) || (interrupted-bare k us i || interrupted-bare k vs i)
 
--- whichever direction comes first
-bad-swap : (us vs : List Use) (k : ℕ) → badEntry us vs k ≡ badEntry vs us k
-bad-swap us vs k = λ i. and-comm (someOn k us) (someOn k vs) i || or-comm (interrupted k us) (interrupted k vs) i
-
--- the uses of the wanted sync managers are those of the numbers that have bits
-module _ (entry : ℕ → ℕ) (usage : ℕ) (bits g : ℕ → ℕ) where
-  -- the bits of a number from k on: those of a sync manager of the usage, else 0
+-- the uses of the wanted sync managers are those of the numbers that are flagged
+module _ (entry : ℕ → ℕ) (usage : ℕ) (bits : ℕ → ℕ) (on : ℕ → Bool) where
+  -- a number from k on is flagged if it is a sync manager of the usage that has bits
   abbrev Agree : ℕ → List SyncManager → ℕ → Type 0
-  Agree k ms n = (j : ℕ) → j < n → g (k + j) ≡ cond (hasUsage usage ms j) (bits (k + j)) 0
+  Agree k ms n = (j : ℕ) → j < n → on (k + j) ≡ ltb 0 (cond (hasUsage usage ms j) (bits (k + j)) 0)
 
   next : (k j : ℕ) → suc k + j ≡ k + suc j
   next k j = omega arith
 
-  first : (k : ℕ) (ms : List SyncManager) (n : ℕ) → Agree k ms (suc n) → g k ≡ cond (hasUsage usage ms 0) (bits k) 0
-  first k ms n h = subst (λ (m : ℕ). g m ≡ cond (hasUsage usage ms 0) (bits m) 0) (add-zero k) (h 0 (omega arith))
+  first : (k : ℕ) (ms : List SyncManager) (n : ℕ) → Agree k ms (suc n) → on k ≡ ltb 0 (cond (hasUsage usage ms 0) (bits k) 0)
+  first k ms n h = subst (λ (m : ℕ). on m ≡ ltb 0 (cond (hasUsage usage ms 0) (bits m) 0)) (add-zero k) (h 0 (omega arith))
 
-  -- a number without bits has no use
-  skipped : (k n : ℕ) → g k ≡ 0 → given entry (numbersFrom g k (suc n)) ≡ given entry (numbersFrom g (suc k) n)
-  unfolding given numbersFrom
+  -- a number that isn't has no use
+  skipped : (k n : ℕ) → on k ≡ false → usesFrom on entry k (suc n) ≡ usesFrom on entry (suc k) n
+  unfolding usesFrom
   skipped k n e = rw e
 
-  none-used : (k n : ℕ) → ((j : ℕ) → j < n → g (k + j) ≡ 0) → given entry (numbersFrom g k n) ≡ []
-  unfolding given numbersFrom
+  none-used : (k n : ℕ) → ((j : ℕ) → j < n → on (k + j) ≡ false) → usesFrom on entry k n ≡ []
+  unfolding usesFrom
   none-used k zero h = refl
-  none-used k (suc n) h = skipped k n (ap g (sym (add-zero k)) ∙ h 0 (omega arith)) ∙ none-used (suc k) n (λ j l. ap g (next k j) ∙ h (suc j) (omega arith))
+  none-used k (suc n) h = skipped k n (ap on (sym (add-zero k)) ∙ h 0 (omega arith)) ∙ none-used (suc k) n (λ j l. ap on (next k j) ∙ h (suc j) (omega arith))
 
-  -- one with bits has the same, its address aside
-  abbrev useWith : ℕ → ℕ → ℕ → Use
-  useWith k b at = useOf (entry k) (record { number = k; bits = b; address = at })
-
+  -- one that is has the same, its size and address aside
   used :
-      (k n at : ℕ) (ps : List Piece) → g k ≡ bits k → map bare (given entry ps) ≡ given entry (numbersFrom g (suc k) n)
-      → map bare (given entry (record { number = k; bits = bits k; address = at } ∷ ps)) ≡ given entry (numbersFrom g k (suc n))
-  unfolding given numbersFrom
-  used k n at ps e rest = go (ltb 0 (bits k)) ∙ ap (λ (b : ℕ). cond (ltb 0 b) (useWith k b 0 ∷ others) others) (sym e)
+      (k n at : ℕ) (ps : List Piece) → on k ≡ ltb 0 (bits k) → map bare (given entry ps) ≡ usesFrom on entry (suc k) n
+      → map bare (given entry (record { number = k; bits = bits k; address = at } ∷ ps)) ≡ usesFrom on entry k (suc n)
+  unfolding given usesFrom
+  used k n at ps e rest = go (ltb 0 (bits k)) ∙ ap (λ (b : Bool). cond b (record { entry = entry k; size = 0; at = 0 } ∷ others) others) (sym e)
     where
       others : List Use
-      others = given entry (numbersFrom g (suc k) n)
+      others = usesFrom on entry (suc k) n
 
-      go : (b : Bool) → map bare (cond b (useWith k (bits k) at ∷ given entry ps) (given entry ps)) ≡ cond b (useWith k (bits k) 0 ∷ others) others
-      go true = ap (λ (us : List Use). useWith k (bits k) 0 ∷ us) rest
+      go : (b : Bool) → map bare (cond b (useOf (entry k) (record { number = k; bits = bits k; address = at }) ∷ given entry ps) (given entry ps))
+          ≡ cond b (record { entry = entry k; size = 0; at = 0 } ∷ others) others
+      go true = ap (λ (us : List Use). record { entry = entry k; size = 0; at = 0 } ∷ us) rest
       go false = rest
 
-  uses-bare : (k : ℕ) (ms : List SyncManager) (n : ℕ) → length ms ≤ n → Agree k ms n → map bare (given entry (piecesFrom usage bits k ms)) ≡ given entry (numbersFrom g k n)
+  uses-bare : (k : ℕ) (ms : List SyncManager) (n : ℕ) → length ms ≤ n → Agree k ms n → map bare (given entry (piecesFrom usage bits k ms)) ≡ usesFrom on entry k n
   unfolding piecesFrom given
-  uses-bare k [] n l h = sym (none-used k n (λ j m. h j m ∙ ap (λ (b : Bool). cond (b && eqb (noManager .«usage_type») usage) (bits (k + j)) 0) (le-ltb j 0 (omega arith))))
+  uses-bare k [] n l h = sym (none-used k n (λ j m. h j m ∙ ap (λ (b : Bool). ltb 0 (cond (b && eqb (noManager .«usage_type») usage) (bits (k + j)) 0)) (le-ltb j 0 (omega arith))))
   uses-bare k (m ∷ ms) zero l h = absurd (not-suc-le-zero l)
   uses-bare k (m ∷ ms) (suc n) l h = go (eqb (m .«usage_type») usage) here (uses-bare (suc k) ms n (le-of-suc-le-suc l) others)
     where
-      here : g k ≡ cond (eqb (m .«usage_type») usage) (bits k) 0
-      here = first k (m ∷ ms) n h ∙ ap (λ (b : Bool). cond (b && eqb (m .«usage_type») usage) (bits k) 0) (lt-ltb 0 (suc (length ms)) (omega arith))
+      here : on k ≡ ltb 0 (cond (eqb (m .«usage_type») usage) (bits k) 0)
+      here = first k (m ∷ ms) n h ∙ ap (λ (b : Bool). ltb 0 (cond (b && eqb (m .«usage_type») usage) (bits k) 0)) (lt-ltb 0 (suc (length ms)) (omega arith))
 
       others : Agree (suc k) ms n
       others j e =
           let u = eqb (getD ms j noManager .«usage_type») usage in
-          ap g (next k j) ∙ h (suc j) (omega arith) ∙ (λ i. cond (leb·suc-suc (suc j) (length ms) i && u) (bits (sym (next k j) i)) 0)
+          ap on (next k j) ∙ h (suc j) (omega arith) ∙ (λ i. ltb 0 (cond (leb·suc-suc (suc j) (length ms) i && u) (bits (sym (next k j) i)) 0))
 
-      go : (b : Bool) → g k ≡ cond b (bits k) 0 → map bare (given entry (piecesFrom usage bits (suc k) ms)) ≡ given entry (numbersFrom g (suc k) n)
+      go : (b : Bool) → on k ≡ ltb 0 (cond b (bits k) 0) → map bare (given entry (piecesFrom usage bits (suc k) ms)) ≡ usesFrom on entry (suc k) n
           → map bare (given entry (cond b (record { number = k; bits = bits k; address = m .«start_addr» } ∷ piecesFrom usage bits (suc k) ms) (piecesFrom usage bits (suc k) ms)))
-          ≡ given entry (numbersFrom g k (suc n))
+          ≡ usesFrom on entry k (suc n)
       go true e rest = used k n (m .«start_addr») (piecesFrom usage bits (suc k) ms) e rest
       go false e rest = rest ∙ sym (skipped k n e)
 
@@ -157,52 +149,44 @@ module _ (s ws : List ℕ) (c : Chosen) (few : length (sheetData s .managers) �
   abbrev d : Data
   d = sheetData s
 
-  -- a direction's bits by the path's kind of PDO
-  abbrev bitsBy : PdoDirection → List BitLen
-  bitsBy r = bitsIn s (pathKind d r) (usageOf r) ws
+  -- a direction's uses by a kind of PDO
+  abbrev usesAlong : PdoDirection → ℕ → List Use
+  usesAlong r kind = usesIn (c .entries) (flagsIn s kind (usageOf r) ws)
 
-  uses-in : (r : PdoDirection) → map bare (paired c (piecesOf d ws r)) ≡ usesIn (c .entries) (bitsBy r)
+  uses-in : (r : PdoDirection) → map bare (paired c (piecesOf d ws r)) ≡ usesAlong r (pathKind d r)
   unfolding piecesOf
   uses-in r =
-      uses-bare (λ number. getD (c .entries) number 0) (usageOf r) (λ k. bitsOf (pathKind d r) k (d .pdos) ws) (bitAt (bitsBy r)) 0 (d .managers) 16 few
-      (λ j l. ap (λ (b : BitLen). b .0) (getD-listOf (λ k. record { 0 = bitsAt s (pathKind d r) (usageOf r) ws k }) 16 (0 + j) (record { 0 = 0 }) (omega arith))
-      ∙ ap (λ (k : ℕ). cond (hasUsage (usageOf r) (d .managers) k) (bitsOf (pathKind d r) (0 + j) (d .pdos) ws) 0) (zero-add j))
+      let flag : ℕ → Bool = λ k. ltb 0 (bitsAt s (pathKind d r) (usageOf r) ws k) in
+      uses-bare (λ number. getD (c .entries) number 0) (usageOf r) (λ k. bitsOf (pathKind d r) k (d .pdos) ws) (λ k. getD (flagsIn s (pathKind d r) (usageOf r) ws) k false) 0 (d .managers) 16 few
+      (λ j l. getD-listOf flag 16 (0 + j) false (omega arith)
+      ∙ ap (λ (k : ℕ). ltb 0 (cond (hasUsage (usageOf r) (d .managers) k) (bitsOf (pathKind d r) (0 + j) (d .pdos) ws) 0)) (zero-add j))
 
-  -- both directions
-  abbrev badBy : PdoDirection → PdoDirection → Bool
-  badBy r q = someBelow (badEntry (paired c (piecesOf d ws r)) (paired c (piecesOf d ws q))) 16
+  -- 18 by the flags of both directions, where the path is EEPROM's
+  both-directions :
+      byCoe d ≡ false → someBelow (badEntry (judgedUses c s ws MasterRead) (judgedUses c s ws MasterWrite)) 16 ≡ someBelow (badEntry (paired c (piecesOf d ws MasterRead)) (paired c (piecesOf d ws MasterWrite))) 16
+  both-directions e =
+      let reads = paired c (piecesOf d ws MasterRead) in
+      let writes = paired c (piecesOf d ws MasterWrite) in
+      some-same (badEntry (judgedUses c s ws MasterRead) (judgedUses c s ws MasterWrite)) (badEntry reads writes) 16
+      (λ k l. (λ i. badEntry (usesAlong MasterRead (cond (sym e i) 0 1)) (usesAlong MasterWrite (cond (sym e i) 0 2)) k)
+      ∙ (λ i. badEntry (sym (uses-in MasterRead) i) (sym (uses-in MasterWrite) i) k) ∙ bad-bare reads writes k)
 
-  bad-by : (r q : PdoDirection) → badBy r q ≡ someBelow (badEntry (usesIn (c .entries) (bitsBy r)) (usesIn (c .entries) (bitsBy q))) 16
-  bad-by r q =
-      some-same (badEntry (paired c (piecesOf d ws r)) (paired c (piecesOf d ws q))) (badEntry (usesIn (c .entries) (bitsBy r)) (usesIn (c .entries) (bitsBy q))) 16
-      (λ k l. sym (bad-bare (paired c (piecesOf d ws r)) (paired c (piecesOf d ws q)) k) ∙ (λ i. badEntry (uses-in r i) (uses-in q i) k))
-
-  whichever : (r : PdoDirection) → badBy MasterRead MasterWrite ≡ badBy r (other r)
-  whichever MasterRead = refl
-  whichever MasterWrite =
-      some-same (badEntry (paired c (piecesOf d ws MasterRead)) (paired c (piecesOf d ws MasterWrite)))
-      (badEntry (paired c (piecesOf d ws MasterWrite)) (paired c (piecesOf d ws MasterRead))) 16
-      (λ k l. bad-swap (paired c (piecesOf d ws MasterRead)) (paired c (piecesOf d ws MasterWrite)) k)
-
-  -- 18 by the bits of the wanted direction, and the other's by its own kind of PDO
-  pub bad-pairs :
-      (mode : FmmuMode) (r : PdoDirection)
-      → badPairs mode c d ws ≡ pairsRead (byCoe d) mode && badChoice c (bitsBy r) (bitsIn s (kindOf (other r)) (usageOf (other r)) ws)
+  pub bad-pairs : not (byCoe d) && badChoice c s ws ≡ badPairs Paired c d ws
   unfolding badPairs badChoice
-  bad-pairs OwnNumber r = refl
-  bad-pairs Paired r = ap (λ (b : Bool). not (byCoe d) && (numberAbove c || b)) (whichever r ∙ bad-by r (other r)) ∙ go (byCoe d) refl
+  bad-pairs = go (byCoe d) refl
     where
-      go : (b : Bool) → byCoe d ≡ b → not (byCoe d) && badChoice c (bitsBy r) (bitsBy (other r)) ≡ not (byCoe d) && badChoice c (bitsBy r) (bitsIn s (kindOf (other r)) (usageOf (other r)) ws)
-      go true e = rw e
-      go false e = λ i. not (byCoe d) && badChoice c (bitsBy r) (bitsIn s (cond (e i) 0 (kindOf (other r))) (usageOf (other r)) ws)
+      go : (b : Bool) → byCoe d ≡ b → not b && badChoice c s ws
+          ≡ not b && (numberAbove c || someBelow (badEntry (paired c (piecesOf d ws MasterRead)) (paired c (piecesOf d ws MasterWrite))) 16)
+      go true e = refl
+      go false e = ap (λ (b : Bool). numberAbove c || b) (both-directions e)
 
 -- each way through the judging
-module _ (c : Chosen) (these those : List BitLen) where
+module _ (c : Chosen) (s ws : List ℕ) where
   abbrev us : List Use
-  us = usesIn (c .entries) these
+  us = judgedUses c s ws MasterRead
 
   abbrev vs : List Use
-  vs = usesIn (c .entries) those
+  vs = judgedUses c s ws MasterWrite
 
   abbrev one : Bool
   one = someBelow (λ k. interrupted k us) 16
@@ -213,25 +197,25 @@ module _ (c : Chosen) (these those : List BitLen) where
   abbrev both : Bool
   both = someBelow (λ k. someOn k us && someOn k vs) 16
 
-  parts : badChoice c these those ≡ numberAbove c || (both || (one || two))
+  parts : badChoice c s ws ≡ numberAbove c || (both || (one || two))
   unfolding badChoice
   parts =
       ap (λ (b : Bool). numberAbove c || b)
       (some-or (λ k. someOn k us && someOn k vs) (λ k. interrupted k us || interrupted k vs) 16
       ∙ ap (λ (b : Bool). both || b) (some-or (λ k. interrupted k us) (λ k. interrupted k vs) 16))
 
-  pub above-bad : numberAbove c ≡ true → true ≡ badChoice c these those
+  pub above-bad : numberAbove c ≡ true → true ≡ badChoice c s ws
   above-bad e = sym (parts ∙ rw e)
 
   module _ (x : Entered) (h : Surveys us x) where
-    pub one-bad : x .interrupted ≡ true → true ≡ badChoice c these those
+    pub one-bad : x .interrupted ≡ true → true ≡ badChoice c s ws
     one-bad e = let o : one ≡ true = sym (h .breaks) ∙ e in sym (parts ∙ rw (o, or-true, or-true))
 
     module _ (y : Entered) (g : Surveys vs y) where
-      pub two-bad : y .interrupted ≡ true → true ≡ badChoice c these those
+      pub two-bad : y .interrupted ≡ true → true ≡ badChoice c s ws
       two-bad e = let t : two ≡ true = sym (g .breaks) ∙ e in sym (parts ∙ rw (t, or-true, or-true, or-true))
 
-      pub shared-bad : (r : Bool) → numberAbove c ≡ false → x .interrupted ≡ false → y .interrupted ≡ false → r ≡ someShared (x .used) (y .used) → r ≡ badChoice c these those
+      pub shared-bad : (r : Bool) → numberAbove c ≡ false → x .interrupted ≡ false → y .interrupted ≡ false → r ≡ someShared (x .used) (y .used) → r ≡ badChoice c s ws
       unfolding someShared
       shared-bad r a e f q =
           let o : one ≡ false = sym (h .breaks) ∙ e in

@@ -5,5 +5,6 @@ pub mod Sized
 pub mod Surveying
 pub mod Judging
 pub mod Wanting
+pub mod Pairing
 pub mod Answered
 pub mod Unique

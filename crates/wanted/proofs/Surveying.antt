@@ -1,4 +1,4 @@
--- A survey of uses from the last to the first: one more in front, the numbers that have bits, and its two ends.
+-- A survey of uses from the last to the first: one more in front, the numbers that are flagged, and its two ends.
 -- Assumes nothing.
 use mathlib.Core.Path.{_≡_, refl, sym, _∙_, ap, subst}
 use mathlib.Core.Bool.{Bool, true, false, cond, not, _&&_, _||_, and-false, or-self-left, or-assoc, or-comm}
@@ -8,16 +8,13 @@ use native.Mathlib.Omega.{arith}
 use lib.ListN.{getD, set, replicate, length-set, List·getD-eq-default}
 use lib.Seq.{ext-getD, getD-set-same, getD-set-other}
 use lib.Dec.{eqb, ltb}
-use borrow.Author.Tests.{eq-eqb, ne-eqb, lt-ltb, le-ltb, eqb-true, eqb-false, ltb-true, ltb-false}
+use borrow.Author.Tests.{eq-eqb, ne-eqb, eqb-true, eqb-false, ltb-true, ltb-false}
 use Rattle.wire.specs.Lists.{listOf, someBelow}
 use Rattle.wire.proofs.Lists.{some-hit, some-none, some-same, length-listOf, getD-listOf}
-use Rattle.pdi.specs.declared.BitLen.{BitLen}
-use Rattle.pdo.specs.Bits.{Piece}
-use Rattle.passes.specs.Use.{Use, useOf, given}
+use Rattle.passes.specs.Use.{Use}
 use Rattle.passes.specs.Pairs.{someOn, comesBack, interrupted}
 use Rattle.wanted.specs.declared.Entered.{Entered}
-use Rattle.wanted.specs.ByKind.{bitAt}
-use Rattle.wanted.specs.Judged.{numbersFrom, usesIn, comesAgain, withUse, Surveys}
+use Rattle.wanted.specs.Judged.{usesFrom, usesIn, comesAgain, withUse, Surveys}
 
 -- a question by number that is one of two
 pub some-or : (f g : ℕ → Bool) (n : ℕ) → someBelow (λ k. f k || g k) n ≡ someBelow f n || someBelow g n
@@ -162,38 +159,38 @@ seen-next us u x s =
       first = refl;
     }
 
--- a turn: the number before those that are seen, with bits or without, and the end
-module _ (bits : List BitLen) (entries : List ℕ) where
-  abbrev pub usesFrom : ℕ → List Use
-  usesFrom k = given (λ number. getD entries number 0) (numbersFrom (bitAt bits) k (16 - k))
+-- a turn: the number before those that are seen, flagged or not, and the end
+module _ (flags : List Bool) (entries : List ℕ) where
+  abbrev on : ℕ → Bool
+  on k = getD flags k false
 
-  module _ (k next : ℕ) (x : Entered) (e : next ≡ k + 1) (h : k < 16) (s : Seen (usesFrom next) x) where
-    piece : Piece
-    piece = record { number = k; bits = bitAt bits k; address = 0 }
+  abbrev entryAt : ℕ → ℕ
+  entryAt k = getD entries k 0
 
-    numbers : (n : ℕ) → n ≡ suc (16 - next) → numbersFrom (bitAt bits) k n ≡ piece ∷ numbersFrom (bitAt bits) next (16 - next)
-    unfolding numbersFrom piece
-    numbers n q =
+  abbrev pub usesAfter : ℕ → List Use
+  usesAfter k = usesFrom on entryAt k (16 - k)
+
+  module _ (k next : ℕ) (x : Entered) (e : next ≡ k + 1) (h : k < 16) (s : Seen (usesAfter next) x) where
+    abbrev mine : Use
+    mine = record { entry = entryAt k; size = 0; at = 0 }
+
+    uses : (b : Bool) (n : ℕ) → on k ≡ b → n ≡ suc (16 - next) → usesFrom on entryAt k n ≡ cond b (mine ∷ usesAfter next) (usesAfter next)
+    unfolding usesFrom
+    uses b n t q =
         let p : suc k ≡ next = omega arith in
-        ap (numbersFrom (bitAt bits) k) q ∙ ap (λ (j : ℕ). piece ∷ numbersFrom (bitAt bits) j (16 - next)) p
+        ap (usesFrom on entryAt k) q ∙ (λ i. cond (t i) (mine ∷ usesFrom on entryAt (p i) (16 - next)) (usesFrom on entryAt (p i) (16 - next)))
 
-    uses : (b : Bool) → ltb 0 (bitAt bits k) ≡ b → usesFrom k ≡ cond b (useOf (getD entries k 0) piece ∷ usesFrom next) (usesFrom next)
-    unfolding given piece
-    uses b t =
-        ap (given (λ number. getD entries number 0)) (numbers (16 - k) (omega arith)) ∙ ap (λ (c : Bool). cond c (useOf (getD entries k 0) piece ∷ usesFrom next) (usesFrom next)) t
+    pub seen-with : (y : Entered) → on k ≡ true → y ≡ withUse x (entryAt k) → Seen (usesAfter k) y
+    seen-with y t q =
+        let more = seen-next (usesAfter next) mine x s in
+        subst (λ (us : List Use). Seen us y) (sym (uses true (16 - k) t (omega arith))) (subst (λ (z : Entered). Seen (mine ∷ usesAfter next) z) (sym q) more)
 
-    pub seen-with : (y : Entered) → 0 < bitAt bits k → y ≡ withUse x (getD entries k 0) → Seen (usesFrom k) y
-    seen-with y l q =
-        let more = seen-next (usesFrom next) (useOf (getD entries k 0) piece) x s in
-        subst (λ (us : List Use). Seen us y) (sym (uses true (lt-ltb 0 (bitAt bits k) l)))
-        (subst (λ (z : Entered). Seen (useOf (getD entries k 0) piece ∷ usesFrom next) z) (sym q) more)
+    pub seen-without : on k ≡ false → Seen (usesAfter k) x
+    seen-without t = subst (λ (us : List Use). Seen us x) (sym (uses false (16 - k) t (omega arith))) s
 
-    pub seen-without : bitAt bits k ≤ 0 → Seen (usesFrom k) x
-    seen-without l = subst (λ (us : List Use). Seen us x) (sym (uses false (le-ltb 0 (bitAt bits k) l))) s
-
-  pub seen-start : Seen (usesFrom 16) (record { used = replicate 16 false; first = 0; interrupted = false })
-  unfolding numbersFrom given
+  pub seen-start : Seen (usesAfter 16) (record { used = replicate 16 false; first = 0; interrupted = false })
+  unfolding usesFrom
   seen-start = seen-none
 
-  pub seen-end : (k : ℕ) (x : Entered) → k ≡ 0 → Seen (usesFrom k) x → Surveys (usesIn entries bits) x
-  seen-end k x e s = subst (λ (j : ℕ). Surveys (usesFrom j) x) e (s .finds)
+  pub seen-end : (k : ℕ) (x : Entered) → k ≡ 0 → Seen (usesAfter k) x → Surveys (usesIn entries flags) x
+  seen-end k x e s = subst (λ (j : ℕ). Surveys (usesAfter j) x) e (s .finds)

@@ -1,21 +1,19 @@
--- What a pass wants as code goes: 18, 6 and 7 by number, and what each way through the call answers.
+-- What a pass wants as code goes: 6 and 7 by number, and what each way through the call answers.
 -- Assumes nothing.
 use mathlib.Core.Path.{_≡_, refl, sym, _∙_, ap}
-use mathlib.Core.Bool.{Bool, true, false, cond, _&&_, _||_, or-false, or-assoc, and-comm, and-false}
-use mathlib.Core.List.{List, [], _∷_, _++_, append-nil}
+use mathlib.Core.Bool.{Bool, true, false, cond, _&&_, _||_, or-false, or-assoc, and-comm}
+use mathlib.Core.List.{List, [], _∷_, _++_}
 use Prim.Native.Nat.{ℕ, zero, suc, _+_, _-_, _≤_, _<_}
 use native.Mathlib.Nat.{add-zero, zero-add}
 use native.Mathlib.Omega.{arith}
-use lib.ListN.{length, getD, replicate}
-use lib.Seq.{append-snoc}
+use lib.ListN.{length, getD}
 use lib.Dec.{eqb, ltb}
 use borrow.Author.Tests.{lt-ltb}
-use Rattle.wire.specs.Lists.{listOf, someBelow, someOf}
-use Rattle.wire.specs.Outcome.{refused, accepted, Refusal, when, decide}
-use Rattle.wire.proofs.Lists.{some-same, number-same, getD-listOf}
+use Rattle.wire.specs.Lists.{someBelow, someOf}
+use Rattle.wire.specs.Outcome.{refused, accepted, when, decide}
+use Rattle.wire.proofs.Lists.{some-same}
 use Rattle.wire.proofs.Order.{passed-first}
-use Rattle.pdi.specs.Unit.{bytesOf, tooManyBits}
-use Rattle.pdi.specs.declared.BitLen.{BitLen}
+use Rattle.pdi.specs.Unit.{tooManyBits}
 use Rattle.pdi.specs.declared.ByteLen.{ByteLen}
 use Rattle.grammar.specs.Grammar.{managerCount, usageCount}
 use Rattle.sheet.specs.Device.{Data}
@@ -27,22 +25,17 @@ use Rattle.sheet.proofs.Reading.{Checked, checked-accepts, checked-more, checke
 use Rattle.channels.specs.Channels.{sizeAt}
 use Rattle.pdo.specs.declared.PdoDirection.{PdoDirection}
 use Rattle.pdo.specs.declared.Terms.{Terms}
-use Rattle.pdo.specs.Direction.{usageOf, kindOf, other, termsOf}
+use Rattle.pdo.specs.Direction.{usageOf, termsOf}
 use Rattle.pdo.specs.Bits.{Piece, byCoe, pathKind, bitsOf, piecesFrom, piecesOf}
-use Rattle.passes.specs.declared.FmmuMode.{FmmuMode}
-use Rattle.passes.specs.declared.Chosen.{Chosen}
-use Rattle.passes.specs.Use.{firstWith, coeEntry}
-use Rattle.passes.specs.Pairs.{badPairs}
+use Rattle.passes.specs.declared.FmmuMode.the-variants.{OwnNumber}
+use Rattle.passes.specs.Use.{firstWith, coeEntry, nothingChosen}
 use Rattle.passes.specs.Pass.{someTooMany, noEntry, wantedRefusals}
-use Rattle.passes.specs.Handed.{hasUsage, exactBits, sizesOf, routeBy}
+use Rattle.passes.specs.Handed.{hasUsage, exactBits, sizesOf}
 use Rattle.passes.proofs.Pieces.{some-bytes, size-handed}
 use Rattle.wanted.specs.declared.Wanted.{Wanted}
-use Rattle.wanted.specs.ByKind.{bitsIn, bitAt, someTooWide, sizesIn, someSize}
-use Rattle.wanted.specs.Judged.{pairsRead, badChoice}
+use Rattle.wanted.specs.ByKind.{someTooWide, sizesIn, someSize, routedOf}
 use Rattle.wanted.specs.Wanted.{wantedFrom, noSizes, wantedAfter, Wants}
-use Rattle.wanted.proofs.Managers.{usage-nowhere}
-use Rattle.wanted.proofs.Sized.{was-refused, routedTo}
-use Rattle.wanted.proofs.Judging.{bad-pairs}
+use Rattle.wanted.proofs.Sized.{was-refused, no-bits}
 
 -- a question by number: its first part, and numbers of which it doesn't hold
 some-first : (f : ℕ → Bool) (n : ℕ) → someBelow f (suc n) ≡ f 0 || someBelow (λ j. f (suc j)) n
@@ -93,157 +86,83 @@ module _ (t : ℕ → Bool) (none : t 0 ≡ false) (usage : ℕ) (bits : ℕ →
           let u = eqb (getD ms k noManager .«usage_type») usage in
           (λ i. t (cond (sym (lt-ltb k (length ms) l) i && u) (bits (zero-add k i)) 0))
 
--- numbers past the n first hold d
-past : {A : Type 0} (f : ℕ → A) (d : A) (n e : ℕ) → ((j : ℕ) → n ≤ j → f j ≡ d) → listOf f n ++ replicate e d ≡ listOf f (n + e)
-unfolding listOf
-past f d n zero h = append-nil (listOf f n) ∙ ap (listOf f) (sym (add-zero n))
-past {A} f d n (suc e) h =
-    sym (append-snoc (listOf f n) d (replicate e d))
-    ∙ ap (λ (x : A). (listOf f n ++ (x ∷ [])) ++ replicate e d) (sym (h n (omega arith)))
-    ∙ past f d (suc n) e (λ j l. h j (omega arith))
-    ∙ ap (listOf f) (shift n e)
-  where
-    shift : (n e : ℕ) → suc n + e ≡ n + suc e
-    shift n e = omega arith
-
 module _ (s ws : List ℕ) (r : PdoDirection) where
   abbrev d : Data
   d = sheetData s
 
+  -- by own numbers
+  abbrev w : Wanted
+  w = wantedFrom OwnNumber nothingChosen d ws r
+
   abbrev exact : ℕ → ℕ
   exact k = exactBits d ws r k
 
-  -- the bits as they are handed on
-  abbrev bits : List BitLen
-  bits = bitsIn s (pathKind d r) (usageOf r) ws
+  -- 6 by number
+  too-wide : someTooWide s (pathKind d r) (usageOf r) ws ≡ someTooMany d ws r
+  unfolding someTooWide someTooMany piecesOf
+  too-wide =
+      ap (someBelow (λ k. tooManyBits (exact k))) (sym (manager-count s))
+      ∙ sym (ask-below tooManyBits refl (usageOf r) (λ k. bitsOf (pathKind d r) k (d .pdos) ws) (d .managers))
 
-  -- a number without a sync manager has none
-  no-bits : (k : ℕ) → managerCount s ≤ k → exact k ≡ 0
-  no-bits k h = ap (λ (b : Bool). cond b (bitsOf (pathKind d r) k (d .pdos) ws) 0) (usage-nowhere s (usageOf r) k h)
+  -- some size is above 0 exactly if a wanted sync manager has bits
+  some-bits : managerCount s ≤ 16 → someSize (sizesOf d ws r) ≡ someOf (λ (p : Piece). ltb 0 (p .bits)) (piecesOf d ws r)
+  unfolding someSize piecesOf
+  some-bits few =
+      let f : ℕ → Bool = λ k. ltb 0 (exact k) in
+      let n = managerCount s in
+      let e : 16 ≡ n + (16 - n) = omega arith in
+      some-same (λ k. ltb 0 (sizeAt (sizesOf d ws r) k)) f 16 (λ k l. ap (ltb 0) (size-handed d ws r k l) ∙ some-bytes (exact k))
+      ∙ ap (someBelow f) e
+      ∙ some-past f n (16 - n) (λ j h. ap (ltb 0) (no-bits s (pathKind d r) (usageOf r) ws j h))
+      ∙ ap (someBelow f) (sym (manager-count s))
+      ∙ sym (ask-below (ltb 0) refl (usageOf r) (λ k. bitsOf (pathKind d r) k (d .pdos) ws) (d .managers))
 
-  bits-read : (k : ℕ) → k < 16 → bitAt bits k ≡ exact k
-  bits-read k h = ap (λ (b : BitLen). b .0) (getD-listOf (λ j. record { 0 = exact j }) 16 k (record { 0 = 0 }) h)
+  -- 7 by number
+  seven-is : managerCount s ≤ 16 → byCoe d && (eqb (coeEntry d r) (usageCount s) && someSize (sizesOf d ws r)) ≡ noEntry d ws r
+  unfolding noEntry
+  seven-is few =
+      let some = some-bits few in
+      (λ i. byCoe d && (eqb (coeEntry d r) (sym (usage-count s) i) && some i))
+      ∙ ap (λ (b : Bool). byCoe d && b) (and-comm (eqb (coeEntry d r) (length (d .usages))) (someOf (λ (p : Piece). ltb 0 (p .bits)) (piecesOf d ws r)))
 
-  module _ (few : managerCount s ≤ 16) where
-    -- 6 by number
-    too-wide : someTooWide bits (managerCount s) ≡ someTooMany d ws r
-    unfolding someTooWide someTooMany piecesOf
-    too-wide =
-        some-same (λ k. tooManyBits (bitAt bits k)) (λ k. tooManyBits (exact k)) (managerCount s) (λ k l. ap tooManyBits (bits-read k (omega arith)))
-        ∙ ap (someBelow (λ k. tooManyBits (exact k))) (sym (manager-count s))
-        ∙ sym (ask-below tooManyBits refl (usageOf r) (λ k. bitsOf (pathKind d r) k (d .pdos) ws) (d .managers))
+  -- the sheet is refused
+  pub sheet-wants : (n : ℕ) (x : Wanted) → Checked s (Refused n) → x ≡ wantedAfter (refused n) → Wants s ws r x
+  sheet-wants n x e h = h ∙ ap wantedAfter (sym (checked-whole s (wantedRefusals d ws r) (w) e))
 
-    -- the sizes by number
-    sizes-are : sizesIn bits (managerCount s) ≡ sizesOf d ws r
-    sizes-are =
-        let n = managerCount s in
-        let size : ℕ → ByteLen = λ k. record { 0 = bytesOf (exact k) } in
-        let l : n + (16 - n) ≡ 16 = omega arith in
-        ap (λ (x : List ByteLen). x ++ replicate (16 - n) (record { 0 = 0 }))
-        (number-same (λ k. record { 0 = bytesOf (bitAt bits k) }) size n (λ k h. ap (λ (b : ℕ). record { 0 = bytesOf b }) (bits-read k (omega arith))))
-        ∙ past size (record { 0 = 0 }) n (16 - n) (λ j h. ap (λ (b : ℕ). record { 0 = bytesOf b }) (no-bits j h)) ∙ ap (listOf size) l
+  -- it is accepted: the path and the terms are known
+  module _ (sound : Checked s Accepted) (path : Bool) (terms : Terms) (kind : ℕ) (ep : path ≡ byCoe d) (et : terms ≡ termsOf r) (ek : kind ≡ cond path 0 (terms .kind)) where
+    kind-is : kind ≡ pathKind d r
+    kind-is = ek ∙ (λ i. cond (ep i) 0 (et i .kind))
 
-    -- some size is above 0 exactly if a wanted sync manager has bits
-    some-bits : someSize (sizesOf d ws r) ≡ someOf (λ (p : Piece). ltb 0 (p .bits)) (piecesOf d ws r)
-    unfolding someSize piecesOf
-    some-bits =
-        let f : ℕ → Bool = λ k. ltb 0 (exact k) in
-        let n = managerCount s in
-        let e : 16 ≡ n + (16 - n) = omega arith in
-        some-same (λ k. ltb 0 (sizeAt (sizesOf d ws r) k)) f 16 (λ k l. ap (ltb 0) (size-handed d ws r k l) ∙ some-bytes (exact k))
-        ∙ ap (someBelow f) e
-        ∙ some-past f n (16 - n) (λ j h. ap (ltb 0) (no-bits j h))
-        ∙ ap (someBelow f) (sym (manager-count s))
-        ∙ sym (ask-below (ltb 0) refl (usageOf r) (λ k. bitsOf (pathKind d r) k (d .pdos) ws) (d .managers))
+    abbrev wide : Bool
+    wide = someTooWide s kind (terms .usage) ws
 
-    -- 7 by number
-    seven-is : byCoe d && (eqb (coeEntry d r) (usageCount s) && someSize (sizesOf d ws r)) ≡ noEntry d ws r
-    unfolding noEntry
-    seven-is =
-        (λ i. byCoe d && (eqb (coeEntry d r) (sym (usage-count s) i) && some-bits i))
-        ∙ ap (λ (b : Bool). byCoe d && b) (and-comm (eqb (coeEntry d r) (length (d .usages))) (someOf (λ (p : Piece). ltb 0 (p .bits)) (piecesOf d ws r)))
+    wide-is : wide ≡ someTooMany d ws r
+    wide-is = (λ i. someTooWide s (kind-is i) (et i .usage) ws) ∙ too-wide
 
-  -- what is told of an accepted sheet before 18: the path, the terms, and the direction's bits
-  pub record Told (path : Bool) (terms : Terms) (handed : List BitLen) : Type 0 where
-    pub sound : Checked s Accepted
-    pub way : path ≡ byCoe d
-    pub takes : terms ≡ termsOf r
-    pub counted : handed ≡ bitsIn s (cond path 0 (terms .kind)) (terms .usage) ws
+    on : decide (wantedRefusals d ws r) (w) ≡ decide (sheetRefusals s ++ wantedRefusals d ws r) (w)
+    on = sym (checked-more s (wantedRefusals d ws r) (w) sound)
 
-  module _ (mode : FmmuMode) (c : Chosen) where
-    abbrev bad : Bool
-    bad = badPairs mode c d ws
+    pub six-wants : (n : ℕ) (x : Wanted) → refused n ≡ decide {A = Unit {0}} (when 6 wide ∷ []) tt → x ≡ wantedAfter (refused n) → Wants s ws r x
+    six-wants n x e h =
+        let held = was-refused {A = Unit {0}} 6 n wide tt e in
+        let t : someTooMany d ws r ≡ true = sym wide-is ∙ held .0 in
+        let six : refused 6 ≡ decide (wantedRefusals d ws r) (w) = rw t in
+        h ∙ ap wantedAfter (ap refused (held .1) ∙ six ∙ on)
 
-    -- the refusals after the sheet's
-    abbrev later : List Refusal
-    later = when 18 bad ∷ wantedRefusals d ws r
-
-    -- the sheet is refused
-    pub sheet-wants : (n : ℕ) (x : Wanted) → Checked s (Refused n) → x ≡ wantedAfter (refused n) → Wants mode c s ws r x
-    sheet-wants n x e h = h ∙ ap wantedAfter (sym (checked-whole s later (wantedFrom mode c d ws r) e))
-
-    -- it is accepted
-    module _ {path : Bool} {terms : Terms} {handed : List BitLen} (told : Told path terms handed) where
-      handed-is : handed ≡ bits
-      handed-is = told .counted ∙ (λ i. bitsIn s (cond (told .way i) 0 (told .takes i .kind)) (told .takes i .usage) ws)
-
-      few : managerCount s ≤ 16
-      few = checked-accepts s (told .sound) .managers
-
-      on : decide later (wantedFrom mode c d ws r) ≡ decide (sheetRefusals s ++ later) (wantedFrom mode c d ws r)
-      on = sym (checked-more s later (wantedFrom mode c d ws r) (told .sound))
-
-      -- 18 as code asks
-      abbrev choice : Bool
-      choice = badChoice c handed (bitsIn s (kindOf (other r)) (usageOf (other r)) ws)
-
-      bad-is : bad ≡ pairsRead path mode && choice
-      bad-is =
-          bad-pairs s ws c (omega (arith, few, manager-count s)) mode r
-          ∙ (λ i. pairsRead (sym (told .way) i) mode && badChoice c (sym handed-is i) (bitsIn s (kindOf (other r)) (usageOf (other r)) ws))
-
-      pub eighteen-wants : (x : Wanted) → true ≡ pairsRead path mode → true ≡ choice → x ≡ wantedAfter (refused 18) → Wants mode c s ws r x
-      eighteen-wants x e q h =
-          let t : bad ≡ true = bad-is ∙ (λ i. sym e i && sym q i) in
-          let first : refused 18 ≡ decide later (wantedFrom mode c d ws r) = rw t in
-          h ∙ ap wantedAfter (first ∙ on)
-
-      -- the pairs aren't read, or aren't bad
-      pub unread-good : false ≡ pairsRead path mode → badPairs mode c d ws ≡ false
-      unread-good e = bad-is ∙ ap (λ (b : Bool). b && choice) (sym e)
-
-      pub read-good : false ≡ choice → badPairs mode c d ws ≡ false
-      read-good e = bad-is ∙ ap (λ (b : Bool). pairsRead path mode && b) (sym e) ∙ and-false (pairsRead path mode)
-
-      module _ (good : bad ≡ false) where
-        after : decide (wantedRefusals d ws r) (wantedFrom mode c d ws r) ≡ decide (sheetRefusals s ++ later) (wantedFrom mode c d ws r)
-        after = (λ i. decide (when 18 (sym good i) ∷ wantedRefusals d ws r) (wantedFrom mode c d ws r)) ∙ on
-
-        abbrev wide : Bool
-        wide = someTooWide handed (managerCount s)
-
-        wide-is : wide ≡ someTooMany d ws r
-        wide-is = ap (λ (b : List BitLen). someTooWide b (managerCount s)) handed-is ∙ too-wide few
-
-        pub six-wants : (n : ℕ) (x : Wanted) → refused n ≡ decide {A = Unit {0}} (when 6 wide ∷ []) tt → x ≡ wantedAfter (refused n) → Wants mode c s ws r x
-        six-wants n x e h =
-            let w = was-refused {A = Unit {0}} 6 n wide tt e in
-            let t : someTooMany d ws r ≡ true = sym wide-is ∙ w .0 in
-            let six : refused 6 ≡ decide (wantedRefusals d ws r) (wantedFrom mode c d ws r) = rw t in
-            h ∙ ap wantedAfter (ap refused (w .1) ∙ six ∙ after)
-
-        -- 6 doesn't hold: the path decides
-        pub routed-wants :
-            (list : List ByteLen) (x : Wanted) → accepted tt ≡ decide {A = Unit {0}} (when 6 wide ∷ []) tt → list ≡ cond wide noSizes (sizesIn handed (managerCount s))
-            → x ≡ routedTo path (eqb (firstWith (terms .«fmmu_usage») (d .usages)) (usageCount s) && someSize list) (firstWith (terms .«fmmu_usage») (d .usages)) (routeBy mode c) list
-            → Wants mode c s ws r x
-        routed-wants list x a l h =
-            let f : wide ≡ false = passed-first {A = Unit {0}} (when 6 wide) [] tt tt a .0 in
-            let six : someTooMany d ws r ≡ false = sym wide-is ∙ f in
-            let all : list ≡ sizesOf d ws r = l ∙ (λ i. cond (f i) noSizes (sizesIn (handed-is i) (managerCount s))) ∙ sizes-are few in
-            let us = d .usages in
-            h
-            ∙ (λ i. routedTo (told .way i) (eqb (firstWith (told .takes i .«fmmu_usage») us) (usageCount s) && someSize (all i)) (firstWith (told .takes i .«fmmu_usage») us) (routeBy mode c) (all i))
-            ∙ (λ i. wantedAfter (decide (when 7 (seven-is few i) ∷ []) (wantedFrom mode c d ws r)))
-            ∙ (λ i. wantedAfter (decide (when 6 (sym six i) ∷ when 7 (noEntry d ws r) ∷ []) (wantedFrom mode c d ws r)))
-            ∙ ap wantedAfter after
+    -- 6 doesn't hold: the path decides
+    pub routed-wants :
+        (list : List ByteLen) (x : Wanted) → accepted tt ≡ decide {A = Unit {0}} (when 6 wide ∷ []) tt → list ≡ cond wide noSizes (sizesIn s kind (terms .usage) ws)
+        → x ≡ routedOf path (eqb (firstWith (terms .«fmmu_usage») (d .usages)) (usageCount s) && someSize list) (firstWith (terms .«fmmu_usage») (d .usages)) list
+        → Wants s ws r x
+    routed-wants list x a l h =
+        let f : wide ≡ false = passed-first {A = Unit {0}} (when 6 wide) [] tt tt a .0 in
+        let six : someTooMany d ws r ≡ false = sym wide-is ∙ f in
+        let all : list ≡ sizesOf d ws r = l ∙ (λ i. cond (f i) noSizes (sizesIn s (kind-is i) (et i .usage) ws)) in
+        let seven = seven-is (checked-accepts s sound .managers) in
+        let us = d .usages in
+        h
+        ∙ (λ i. routedOf (ep i) (eqb (firstWith (et i .«fmmu_usage») us) (usageCount s) && someSize (all i)) (firstWith (et i .«fmmu_usage») us) (all i))
+        ∙ (λ i. wantedAfter (decide (when 7 (seven i) ∷ []) (w)))
+        ∙ (λ i. wantedAfter (decide (when 6 (sym six i) ∷ when 7 (noEntry d ws r) ∷ []) (w)))
+        ∙ ap wantedAfter on

@@ -2,23 +2,22 @@
 ghost use mathlib.Core.Path.{_≡_};
 ghost use mathlib.Core.Bool.{true, false, cond, _&&_};
 ghost use mathlib.Core.List.{[], _∷_};
-ghost use Prim.Native.Nat.{_+_, _≤_};
-ghost use lib.ListN.{length, getD, set, replicate};
-ghost use lib.Dec.{eqb};
+ghost use Prim.Native.Nat.{_+_, _*_, _≤_};
+ghost use lib.ListN.{length, getD, set};
+ghost use lib.Dec.{eqb, ltb};
 ghost use Rattle.wire.specs.Lists.{sum};
 ghost use Rattle.wire.specs.Outcome as Outcome;
 ghost use Rattle.wire.specs.Outcome.{when, decide};
-ghost use Rattle.grammar.specs.Grammar.{managerCount, usageCount, usagesPlace, nextPdo, kindFits, broken};
+ghost use Rattle.grammar.specs.Grammar.{usageCount, usagesPlace, nextPdo, kindFits, broken};
 ghost use Rattle.sheet.specs.Device.{pdoAt};
 ghost use Rattle.sheet.specs.Sheet.{sheetData, answerOf};
-ghost use Rattle.pdo.specs.Direction as Direction;
-ghost use Rattle.pdo.specs.Direction.{usageOf, kindOf};
+ghost use Rattle.pdo.specs.Bits.{byCoe};
 ghost use Rattle.passes.specs.Use.{firstWith};
 ghost use Rattle.passes.specs.Pairs.{numberAbove};
-ghost use Rattle.passes.specs.Handed.{hasUsage, routeBy};
-ghost use Rattle.wanted.specs.ByKind.{bitsIn, someTooWide, sizesIn, someSize, routedOf};
-ghost use Rattle.wanted.specs.Judged.{pairsRead, usesIn, comesAgain, withUse, Surveys, somePastLast, someShared, badChoice};
-ghost use Rattle.wanted.specs.Wanted.{noSizes, wantedAfter, Wants};
+ghost use Rattle.passes.specs.Handed.{hasUsage};
+ghost use Rattle.wanted.specs.ByKind.{bitsIn, flagsIn, someTooWide, sizesIn, someSize, routedOf};
+ghost use Rattle.wanted.specs.Judged.{usesIn, comesAgain, withUse, Surveys, somePastLast, someShared, badChoice, firstFive, pairedOf};
+ghost use Rattle.wanted.specs.Wanted.{noSizes, wantedAfter, Wants, WantsBy};
 use passes::Chosen;
 use passes::FmmuMode;
 use passes::Route;
@@ -28,7 +27,7 @@ use pdi::Rounded;
 use pdo::PdoDirection;
 use sheet::Answer;
 
-// What a data pass wants: a size for each sync manager of its usage, and the route; or the first of 2 to 5, 18, 6 and 7 that holds.
+// What a data pass wants: a size for each sync manager of its usage, and the route; or the first of its refusals that holds.
 pub struct Wanted {
     pub answer: Answer,
     pub sizes: [ByteLen; 16],
@@ -134,10 +133,11 @@ struct Sizes {
     list: [ByteLen; 16],
 }
 
-fn sizes_of(sheet: &[u8], bits: [BitLen; 16]) -> Sizes
-    requires { ⌜ broken (now sheet) ≡ false ⌝ }
-    ensures { λ r. ⌜ (answerOf {A = Unit {0}} (r .answer) tt ≡ decide (when 6 (someTooWide bits (managerCount (now (sheet .entry)))) ∷ []) tt) × (r .list ≡ cond (someTooWide bits (managerCount (now (sheet .entry)))) noSizes (sizesIn bits (managerCount (now (sheet .entry))))) ⌝ }
+fn sizes_of(sheet: &[u8], kind: u8, usage: u8, multipliers: &[u8]) -> Sizes
+    requires { ⌜ (length (now sheet) ≤ 16386) × (broken (now sheet) ≡ false) ⌝ }
+    ensures { λ r. ⌜ (answerOf {A = Unit {0}} (r .answer) tt ≡ decide (when 6 (someTooWide (now (sheet .entry)) kind usage (now (multipliers .entry))) ∷ []) tt) × (r .list ≡ cond (someTooWide (now (sheet .entry)) kind usage (now (multipliers .entry))) noSizes (sizesIn (now (sheet .entry)) kind usage (now (multipliers .entry)))) ⌝ }
 {
+    let bits = tally(sheet, kind, usage, multipliers);
     let mut list = [ByteLen(0); 16];
     let n = wire::wide(grammar::manager_count(sheet));
     let mut k = 0;
@@ -206,42 +206,18 @@ fn refused(number: u8) -> Wanted
     }
 }
 
-// The route on the EEPROM path: each sync manager's own number, or what the pairs chose.
-fn route_by(mode: FmmuMode, chosen: Chosen) -> Route
-    ensures { λ r. ⌜ r ≡ routeBy mode chosen ⌝ }
-{
-    match mode {
-        FmmuMode::OwnNumber => Route {
-            own: true,
-            entries: [0u8; 16],
-        },
-        FmmuMode::Paired => {
-            let entries = chosen.entries;
-            Route {
-                own: false,
-                entries,
-            }
-        }
-    }
-}
-
-// By EEPROM the route is the mode's; on the CoE path all use the first entry with the usage, or it is 7 where there is none.
-fn routed(
-    sheet: &[u8],
-    coe: bool,
-    usage: u8,
-    sizes: [ByteLen; 16],
-    mode: FmmuMode,
-    chosen: Chosen,
-) -> Wanted
-    ensures { λ r. ⌜ r ≡ routedOf «coe» (eqb (firstWith usage (sheetData (now (sheet .entry)) .usages)) (usageCount (now (sheet .entry))) && someSize sizes) (record { own = false; entries = replicate 16 (firstWith usage (sheetData (now (sheet .entry)) .usages)) }) (routeBy mode chosen) sizes ⌝ }
+// By EEPROM each uses its own entry; on the CoE path all use the first with the usage, or it is 7 where there is none.
+fn routed(sheet: &[u8], coe: bool, usage: u8, sizes: [ByteLen; 16]) -> Wanted
+    ensures { λ r. ⌜ r ≡ routedOf «coe» (eqb (firstWith usage (sheetData (now (sheet .entry)) .usages)) (usageCount (now (sheet .entry))) && someSize sizes) (firstWith usage (sheetData (now (sheet .entry)) .usages)) sizes ⌝ }
 {
     if !coe {
-        let route = route_by(mode, chosen);
         return Wanted {
             answer: Answer::Accepted,
             sizes,
-            route,
+            route: Route {
+                own: true,
+                entries: [0u8; 16],
+            },
         };
     }
     let entry = first_with(sheet, usage);
@@ -258,24 +234,23 @@ fn routed(
     }
 }
 
-// Whether pairs are looked at: in the mode that reads them, on the EEPROM path.
-fn pairs_read(coe: bool, mode: FmmuMode) -> bool
-    ensures { λ r. ⌜ r ≡ pairsRead «coe» mode ⌝ }
+// What a direction's pass of a sheet wants by own numbers. Lent a multiplier for each PDO; one that is lacking is 1.
+pub fn wanted_of(sheet: &[u8], multipliers: &[u8], direction: PdoDirection) -> Wanted
+    ensures { λ r. ⌜ Wants (now (sheet .entry)) (now (multipliers .entry)) direction r ⌝ }
 {
-    match mode {
-        FmmuMode::OwnNumber => false,
-        FmmuMode::Paired => !coe,
+    let sound = sheet::check(sheet);
+    if let Answer::Refused(number) = sound {
+        return refused(number);
     }
-}
-
-// The other direction.
-fn other(direction: PdoDirection) -> PdoDirection
-    ensures { λ r. ⌜ r ≡ Direction.other direction ⌝ }
-{
-    match direction {
-        PdoDirection::MasterRead => PdoDirection::MasterWrite,
-        PdoDirection::MasterWrite => PdoDirection::MasterRead,
+    let terms = direction.filter_terms();
+    let coe = pdo::coe_on(sheet);
+    let sized = sizes_of(sheet, path_kind(coe, terms.kind), terms.usage, multipliers);
+    let answer = sized.answer;
+    if let Answer::Refused(number) = answer {
+        return refused(number);
     }
+    let sizes = sized.list;
+    routed(sheet, coe, terms.fmmu_usage, sizes)
 }
 
 // The uses of entries that are seen so far: which entries are used, the first one's, and whether one is left for another and come back to.
@@ -335,9 +310,44 @@ fn with_use(seen: Entered, entry: u8) -> Entered
     }
 }
 
+// Whether a PDO of an EEPROM kind adds bits.
+fn some_bits(sheet: &[u8], at: usize, multiplier: u8) -> bool
+    requires { ⌜ (getD (now sheet) at 0 ≡ 0 → ⊥) × (at + 7 ≤ length (now sheet)) × (length (now sheet) ≤ 16386) ⌝ }
+    ensures { λ r. ⌜ r ≡ ltb 0 (sum (pdoAt (now (sheet .entry)) at .lengths) * multiplier) ⌝ }
+{
+    if multiplier == 0 {
+        return false;
+    }
+    if sheet[at + grammar::PDO_BYTES] != 0 {
+        return true;
+    }
+    sheet[at + grammar::PDO_SECOND_BYTE] != 0
+}
+
+// Which sync managers of the usage have bits, by the PDOs of an EEPROM kind.
+fn with_bits(sheet: &[u8], kind: u8, usage: u8, multipliers: &[u8]) -> [bool; 16]
+    requires { ⌜ (length (now sheet) ≤ 16386) × (broken (now sheet) ≡ false) × (kind ≡ 0 → ⊥) ⌝ }
+    ensures { λ r. ⌜ r ≡ flagsIn (now (sheet .entry)) kind usage (now (multipliers .entry)) ⌝ }
+{
+    let mut flags = [false; 16];
+    let mut place = grammar::pdos_place(sheet);
+    let mut i = 0;
+    let count = wire::wide(grammar::pdo_count(sheet));
+    while i < count {
+        if counts(sheet, place, kind, usage) {
+            if some_bits(sheet, place, multiplier_at(multipliers, i)) {
+                flags[wire::wide(sheet[place + grammar::PDO_MANAGER])] = true;
+            }
+        }
+        place = place + grammar::PDO_BYTES + wire::wide(sheet[place + grammar::PDO_COUNT]);
+        i += 1;
+    }
+    flags
+}
+
 // The entry of each number that has bits, from the last number to the first.
-fn survey(bits: [BitLen; 16], entries: [u8; 16]) -> Entered
-    ensures { λ r. ⌜ Surveys (usesIn entries bits) r ⌝ }
+fn survey(flags: [bool; 16], entries: [u8; 16]) -> Entered
+    ensures { λ r. ⌜ Surveys (usesIn entries flags) r ⌝ }
 {
     let mut seen = Entered {
         used: [false; 16],
@@ -347,7 +357,7 @@ fn survey(bits: [BitLen; 16], entries: [u8; 16]) -> Entered
     let mut k = 16;
     while 0 < k {
         k -= 1;
-        if 0 < bits[k].0 {
+        if flags[k] {
             seen = with_use(seen, entries[k]);
         }
     }
@@ -395,28 +405,20 @@ fn number_above(chosen: Chosen) -> bool
     some_past_last(entries)
 }
 
-// 18: a number above 15, an entry of both directions, or one of a direction left for another and come back to. Given the bits of one direction.
-fn bad_pairs(
-    sheet: &[u8],
-    multipliers: &[u8],
-    direction: PdoDirection,
-    bits: [BitLen; 16],
-    chosen: Chosen,
-) -> bool
+// 18: a number above 15, an entry of both directions, or one of a direction left for another and come back to. Read has kind 1 and usage 4, write 2 and 3.
+fn bad_pairs(sheet: &[u8], multipliers: &[u8], chosen: Chosen) -> bool
     requires { ⌜ (length (now sheet) ≤ 16386) × (broken (now sheet) ≡ false) ⌝ }
-    ensures { λ r. ⌜ r ≡ badChoice chosen bits (bitsIn (now (sheet .entry)) (kindOf (Direction.other direction)) (usageOf (Direction.other direction)) (now (multipliers .entry))) ⌝ }
+    ensures { λ r. ⌜ r ≡ badChoice chosen (now (sheet .entry)) (now (multipliers .entry)) ⌝ }
 {
     if number_above(chosen) {
         return true;
     }
     let entries = chosen.entries;
-    let these = survey(bits, entries);
+    let these = survey(with_bits(sheet, 1, 4, multipliers), entries);
     if these.interrupted {
         return true;
     }
-    let terms = other(direction).filter_terms();
-    let others = tally(sheet, terms.kind, terms.usage, multipliers);
-    let those = survey(others, entries);
+    let those = survey(with_bits(sheet, 2, 3, multipliers), entries);
     if those.interrupted {
         return true;
     }
@@ -425,33 +427,61 @@ fn bad_pairs(
     some_shared(one, two)
 }
 
-// What a direction's pass of a sheet wants. Lent a multiplier for each PDO; one that is lacking is 1.
-pub fn wanted_of(
+// Whether an answer is one of the sheet's own refusals, 2 to 5.
+fn first_five(answer: Answer) -> bool
+    ensures { λ r. ⌜ r ≡ firstFive answer ⌝ }
+{
+    match answer {
+        Answer::Refused(number) => number < 6,
+        Answer::Accepted => false,
+    }
+}
+
+// What is wanted by own numbers, as pairs change it: 18 before 6 and 7, and the route of the chosen entries.
+fn by_pairs(sheet: &[u8], multipliers: &[u8], chosen: Chosen, wanted: Wanted) -> Wanted
+    requires { ⌜ (firstFive (wanted .answer) ≡ false → (length (now sheet) ≤ 16386) × (broken (now sheet) ≡ false)) ⌝ }
+    ensures { λ r. ⌜ r ≡ pairedOf (byCoe (sheetData (now (sheet .entry)))) (badChoice chosen (now (sheet .entry)) (now (multipliers .entry))) (chosen .entries) wanted ⌝ }
+{
+    let answer = wanted.answer;
+    if first_five(answer) {
+        return wanted;
+    }
+    if pdo::coe_on(sheet) {
+        return wanted;
+    }
+    if bad_pairs(sheet, multipliers, chosen) {
+        return refused(18);
+    }
+    match answer {
+        Answer::Refused(_) => wanted,
+        Answer::Accepted => {
+            let sizes = wanted.sizes;
+            let entries = chosen.entries;
+            Wanted {
+                answer: Answer::Accepted,
+                sizes,
+                route: Route {
+                    own: false,
+                    entries,
+                },
+            }
+        }
+    }
+}
+
+// What a direction's pass of a sheet wants by its mode.
+pub fn wanted_by(
     sheet: &[u8],
     multipliers: &[u8],
     direction: PdoDirection,
     mode: FmmuMode,
     chosen: Chosen,
 ) -> Wanted
-    ensures { λ r. ⌜ Wants mode chosen (now (sheet .entry)) (now (multipliers .entry)) direction r ⌝ }
+    ensures { λ r. ⌜ WantsBy mode chosen (now (sheet .entry)) (now (multipliers .entry)) direction r ⌝ }
 {
-    let sound = sheet::check(sheet);
-    if let Answer::Refused(broken) = sound {
-        return refused(broken);
+    let wanted = wanted_of(sheet, multipliers, direction);
+    match mode {
+        FmmuMode::OwnNumber => wanted,
+        FmmuMode::Paired => by_pairs(sheet, multipliers, chosen, wanted),
     }
-    let terms = direction.filter_terms();
-    let coe = pdo::coe_on(sheet);
-    let bits = tally(sheet, path_kind(coe, terms.kind), terms.usage, multipliers);
-    if pairs_read(coe, mode) {
-        if bad_pairs(sheet, multipliers, direction, bits, chosen) {
-            return refused(18);
-        }
-    }
-    let sized = sizes_of(sheet, bits);
-    let answer = sized.answer;
-    if let Answer::Refused(number) = answer {
-        return refused(number);
-    }
-    let sizes = sized.list;
-    routed(sheet, coe, terms.fmmu_usage, sizes, mode, chosen)
 }

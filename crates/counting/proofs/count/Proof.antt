@@ -9,9 +9,6 @@ use Rattle.counting.proofs.Counting.{unwanted-counts, nine-counts, foun
 use Rattle.counting.proofs.count.Statement.{statement}
 use Rattle.counting.proofs.count.Tie as tie
 
-none-requires : tie.Need-none-requires
-none-requires c κs = search needs
-
 wanted-of-requires : tie.Need-wanted-of-requires
 wanted-of-requires c κs = search needs
 
@@ -21,9 +18,9 @@ enum-known-answer c = search needs
 returns : tie.Need-returns
 returns c =
     let v = c .before .before .before in
-    let a = v .before .before .before .before .args in
+    let a = v .before .before .before .args in
     let n = c .before .answer .given in
-    unwanted-counts (v .before .none .result) (now (a .sheet)) (now (a .multipliers)) (a .direction) (a .offset .«start_address») (a .address)
+    unwanted-counts (now (a .sheet)) (now (a .multipliers)) (a .direction) (a .offset .«start_address») (a .address)
     (v .wanted-of .result) (v .wanted-of .ensures) (n .0 .0) (n .1)
 
 enum-told : tie.Need-enum-told
@@ -47,9 +44,9 @@ returns-2 c =
     let l = p .before in
     let e = l .before .before .before in
     let v = e .before .before in
-    let a = v .before .before .before .before .args in
+    let a = v .before .before .before .args in
     let n = c .before .number .given in
-    nine-counts (v .before .none .result) (now (a .sheet)) (now (a .multipliers)) (a .direction) (a .offset .«start_address») (a .address)
+    nine-counts (now (a .sheet)) (now (a .multipliers)) (a .direction) (a .offset .«start_address») (a .address)
     (v .wanted-of .result) (v .wanted-of .ensures) (e .enum-told .given .1) (ap (λ (t : Terms). t .usage) (l .before .filter-terms .ensures)) (l .lay-out .ensures)
     (n .0 .0) (sym (ap movedOf (n .1)) ∙ p .at .ensures)
 
@@ -62,9 +59,9 @@ returns-3 c =
     let l = p .before in
     let e = l .before .before .before in
     let v = e .before .before in
-    let a = v .before .before .before .before .args in
+    let a = v .before .before .before .args in
     let o = c .enum-told2 .given in
-    found-counts (v .before .none .result) (now (a .sheet)) (now (a .multipliers)) (a .direction) (a .offset .«start_address») (a .address)
+    found-counts (now (a .sheet)) (now (a .multipliers)) (a .direction) (a .offset .«start_address») (a .address)
     (v .wanted-of .result) (v .wanted-of .ensures) (e .enum-told .given .1) (ap (λ (t : Terms). t .usage) (l .before .filter-terms .ensures)) (l .lay-out .ensures)
     (o .0 .0 .«start_address») (sym (ap movedOf (o .1)) ∙ p .at .ensures)
 
@@ -72,7 +69,6 @@ pub count-spec : {M : Type 1} → statement M
 count-spec =
     tie.close
     (tie.spec
-    none-requires
     wanted-of-requires
     enum-known-answer
     returns

@@ -9,10 +9,10 @@ use Rattle.subdevice.proofs.pass.Statement.{statement}
 use Rattle.subdevice.proofs.pass.Tie as tie
 
 -- where both lengths are right, and where the call began
-abbrev lengths : tie.After-wanted-of → tie.Else2
+abbrev lengths : tie.After-wanted-by → tie.Else2
 lengths c = c .before .before .before
 
-abbrev start : tie.After-wanted-of → tie.Start
+abbrev start : tie.After-wanted-by → tie.Start
 start c = lengths c .before .before .before .before .before .before
 
 returns : tie.Need-returns
@@ -29,8 +29,8 @@ returns-2 c =
     one-configures (now (a .sheet)) (now (a .multipliers)) (a .place .chosen) (a .direction) (a .place .offset .«start_address») (a .place .settings) (now (a .fmmus)) (now (a .channels))
     (channels-wrong (now (a .fmmus)) (now (a .channels)) (c .before .if1 .left) (c .if2 .taken))
 
-wanted-of-requires : tie.Need-wanted-of-requires
-wanted-of-requires c κs = search needs
+wanted-by-requires : tie.Need-wanted-by-requires
+wanted-by-requires c κs = search needs
 
 enum-known-answer : tie.Need-enum-known-answer
 enum-known-answer c = search needs
@@ -41,7 +41,7 @@ returns-3 c =
     let a = start v .args in
     let n = c .before .answer .given in
     unwanted-configures (now (a .sheet)) (now (a .multipliers)) (a .place .chosen) (a .direction) (a .place .offset .«start_address») (a .place .settings) (now (a .fmmus)) (now (a .channels))
-    (lengths v .before .if1 .left) (lengths v .if2 .left) (v .wanted-of .result) (v .wanted-of .ensures) (n .0 .0) (n .1)
+    (lengths v .before .if1 .left) (lengths v .if2 .left) (v .wanted-by .result) (v .wanted-by .ensures) (n .0 .0) (n .1)
 
 enum-told : tie.Need-enum-told
 enum-told c = search needs
@@ -77,7 +77,7 @@ returns-4 c =
     let a = start v .args in
     let s = g .segment .given in
     mapped-configures (now (a .sheet)) (now (a .multipliers)) (a .place .chosen) (a .direction) (a .place .offset .«start_address») (a .place .settings) (now (a .fmmus)) (now (a .channels))
-    (lengths v .before .if1 .left) (lengths v .if2 .left) (v .wanted-of .result) (v .wanted-of .ensures) (e .enum-told .given .1)
+    (lengths v .before .if1 .left) (lengths v .if2 .left) (v .wanted-by .result) (v .wanted-by .ensures) (e .enum-told .given .1)
     (w .write-entries .last .0) (w .write-entries .result) (w .write-entries .ensures)
     (s .0 .0) (s .0 .1 .0) (i .write-channels .last .0) (s .1) (ap (λ (t : Terms). t .usage) (i .before .filter-terms .ensures)) (i .write-channels .ensures)
 
@@ -92,7 +92,7 @@ returns-5 c =
     let a = start v .args in
     let n = c .before .number .given in
     refused-configures (now (a .sheet)) (now (a .multipliers)) (a .place .chosen) (a .direction) (a .place .offset .«start_address») (a .place .settings) (now (a .fmmus)) (now (a .channels))
-    (lengths v .before .if1 .left) (lengths v .if2 .left) (v .wanted-of .result) (v .wanted-of .ensures) (e .enum-told .given .1)
+    (lengths v .before .if1 .left) (lengths v .if2 .left) (v .wanted-by .result) (v .wanted-by .ensures) (e .enum-told .given .1)
     (w .write-entries .last .0) (w .write-entries .result) (w .write-entries .ensures) (n .0 .0) (n .1)
 
 pub pass-spec : {M : Type 1} → statement M
@@ -101,7 +101,7 @@ pass-spec =
     (tie.spec
     returns
     returns-2
-    wanted-of-requires
+    wanted-by-requires
     enum-known-answer
     returns-3
     enum-told

@@ -1,21 +1,31 @@
 -- `wanted::bad_pairs`: a number above 15, either direction by itself, then both.
 -- Assumes nothing.
-use mathlib.Core.Path.{_≡_, sym, _∙_, ap, subst}
+use mathlib.Core.Path.{sym, _∙_, subst}
+use mathlib.Core.Bool.{Bool}
 use mathlib.Core.List.{List}
+use native.Mathlib.Omega.{arith}
 use denote.Ref.{now}
 use borrow.Author.Needs.{needs}
-use Rattle.pdi.specs.declared.BitLen.{BitLen}
-use Rattle.pdo.specs.declared.Terms.{Terms}
-use Rattle.pdo.specs.Direction.{usageOf, kindOf, other, termsOf}
-use Rattle.wanted.specs.ByKind.{bitsIn}
-use Rattle.wanted.specs.Judged.{usesIn, Surveys}
+use Rattle.pdo.specs.declared.PdoDirection.the-variants.{MasterRead, MasterWrite}
+use Rattle.wanted.specs.Judged.{usesIn, Surveys, judgedUses}
 use Rattle.wanted.proofs.Judging.{above-bad, one-bad, two-bad, shared-bad}
 use Rattle.wanted.proofs.bad_pairs.Statement.{statement}
 use Rattle.wanted.proofs.bad_pairs.Tie as tie
 
--- the bits of the other direction
-abbrev others : tie.Start → List BitLen
-others c = bitsIn (now (c .args .sheet)) (kindOf (other (c .args .direction))) (usageOf (other (c .args .direction))) (now (c .args .multipliers))
+-- where the call began
+abbrev start : tie.After-survey → tie.Start
+start c = c .before .before .before .before .before .before .before
+
+-- what each survey finds
+these : (c : tie.After-survey) → Surveys (judgedUses (start c .args .chosen) (now (start c .args .sheet)) (now (start c .args .multipliers)) MasterRead) (c .survey .result)
+these c = subst (λ (flags : List Bool). Surveys (usesIn (start c .args .chosen .entries) flags) (c .survey .result)) (c .before .with-bits .ensures) (c .survey .ensures)
+
+those :
+    (c : tie.After-survey2)
+    → Surveys (judgedUses (start (c .before .before .before) .args .chosen) (now (start (c .before .before .before) .args .sheet)) (now (start (c .before .before .before) .args .multipliers)) MasterWrite) (c .survey2 .result)
+those c =
+    let a = start (c .before .before .before) .args in
+    subst (λ (flags : List Bool). Surveys (usesIn (a .chosen .entries) flags) (c .survey2 .result)) (c .before .with-bits2 .ensures) (c .survey2 .ensures)
 
 number-above-requires : tie.Need-number-above-requires
 number-above-requires c κs = search needs
@@ -23,8 +33,11 @@ number-above-requires c κs = search needs
 returns : tie.Need-returns
 returns c =
     let n = c .before in
-    let b = n .before .before .before in
-    above-bad (b .args .chosen) (b .args .bits) (others b) (sym (n .number-above .ensures) ∙ c .if1 .taken)
+    let a = n .before .before .before .args in
+    above-bad (a .chosen) (now (a .sheet)) (now (a .multipliers)) (sym (n .number-above .ensures) ∙ c .if1 .taken)
+
+with-bits-requires : tie.Need-with-bits-requires
+with-bits-requires c κs = let b = c .before .before .before .before .before in (b .pre .0, b .pre .1, λ e. omega arith)
 
 survey-requires : tie.Need-survey-requires
 survey-requires c κs = search needs
@@ -32,40 +45,21 @@ survey-requires c κs = search needs
 returns-2 : tie.Need-returns-2
 returns-2 c =
     let s = c .before in
-    let b = s .before .before .before .before .before .before in
-    one-bad (b .args .chosen) (b .args .bits) (others b) (s .survey .result) (s .survey .ensures) (c .if2 .taken)
+    let a = start s .args in
+    one-bad (a .chosen) (now (a .sheet)) (now (a .multipliers)) (s .survey .result) (these s) (c .if2 .taken)
 
-other-requires : tie.Need-other-requires
-other-requires c κs = search needs
-
-filter-terms-requires : tie.Need-filter-terms-requires
-filter-terms-requires c κs = search needs
-
-tally-requires : tie.Need-tally-requires
-tally-requires c κs = c .before .before .before .before .before .before .before .before .before .pre
+with-bits-requires-2 : tie.Need-with-bits-requires-2
+with-bits-requires-2 c κs = let b = start (c .before) in (b .pre .0, b .pre .1, λ e. omega arith)
 
 survey-requires-2 : tie.Need-survey-requires-2
 survey-requires-2 c κs = search needs
 
--- where the call began, and what the second survey finds
-abbrev start : tie.After-survey2 → tie.Start
-start c = c .before .before .before .before .before .before .before .before .before .before .before
-
-there : (c : tie.After-survey2) → Surveys (usesIn (start c .args .chosen .entries) (others (start c))) (c .survey2 .result)
-there c =
-    let t = c .before in
-    let f = t .before in
-    let a = start c .args in
-    let terms : f .filter-terms .result ≡ termsOf (other (a .direction)) = f .filter-terms .ensures ∙ ap termsOf (f .before .other .ensures) in
-    let is = t .tally .ensures ∙ ap (λ (x : Terms). bitsIn (now (a .sheet)) (x .kind) (x .usage) (now (a .multipliers))) terms in
-    subst (λ (bits : List BitLen). Surveys (usesIn (a .chosen .entries) bits) (c .survey2 .result)) is (c .survey2 .ensures)
-
 returns-3 : tie.Need-returns-3
 returns-3 c =
     let s = c .before in
-    let o = s .before .before .before .before .before in
-    let b = start s in
-    two-bad (b .args .chosen) (b .args .bits) (others b) (o .survey .result) (o .survey .ensures) (s .survey2 .result) (there s) (c .if3 .taken)
+    let o = s .before .before .before in
+    let a = start o .args in
+    two-bad (a .chosen) (now (a .sheet)) (now (a .multipliers)) (o .survey .result) (these o) (s .survey2 .result) (those s) (c .if3 .taken)
 
 some-shared-requires : tie.Need-some-shared-requires
 some-shared-requires c κs = search needs
@@ -74,11 +68,12 @@ returns-4 : tie.Need-returns-4
 returns-4 c =
     let e = c .before .before .before in
     let s = e .before in
-    let p = s .before .before .before .before in
+    let p = s .before .before in
     let o = p .before in
-    let b = start s in
-    shared-bad (b .args .chosen) (b .args .bits) (others b) (o .survey .result) (o .survey .ensures) (s .survey2 .result) (there s) (c .some-shared .result)
-    (sym (o .before .before .before .number-above .ensures) ∙ o .before .before .if1 .left) (p .if2 .left) (e .if3 .left) (c .some-shared .ensures)
+    let f = o .before .before .before in
+    let a = start o .args in
+    shared-bad (a .chosen) (now (a .sheet)) (now (a .multipliers)) (o .survey .result) (these o) (s .survey2 .result) (those s) (c .some-shared .result)
+    (sym (f .before .number-above .ensures) ∙ f .if1 .left) (p .if2 .left) (e .if3 .left) (c .some-shared .ensures)
 
 pub bad-pairs-spec : {M : Type 1} → statement M
 bad-pairs-spec =
@@ -86,11 +81,10 @@ bad-pairs-spec =
     (tie.spec
     number-above-requires
     returns
+    with-bits-requires
     survey-requires
     returns-2
-    other-requires
-    filter-terms-requires
-    tally-requires
+    with-bits-requires-2
     survey-requires-2
     returns-3
     some-shared-requires

@@ -1,4 +1,4 @@
--- `wanted::routed`: by EEPROM the mode decides; on the CoE path the first entry with the usage decides.
+-- `wanted::routed`: by EEPROM nothing is asked; on the CoE path the first entry with the usage decides.
 -- Assumes nothing.
 use mathlib.Core.Path.{_≡_, sym, _∙_, ap}
 use mathlib.Core.Bool.{Bool, _&&_}
@@ -9,7 +9,6 @@ use borrow.Author.Tests.{not-true, not-false}
 use Rattle.grammar.specs.Grammar.{usageCount}
 use Rattle.sheet.specs.Sheet.{sheetData}
 use Rattle.passes.specs.Use.{firstWith}
-use Rattle.passes.specs.Handed.{routeBy}
 use Rattle.wanted.specs.ByKind.{someSize}
 use Rattle.wanted.proofs.Sized.{by-eeprom, by-none, by-coe}
 use borrow.Author.Needs.{needs}
@@ -23,15 +22,10 @@ entryOf c = firstWith (c .args .usage) (sheetData (now (c .args .sheet)) .usages
 abbrev missing : tie.Start → Bool
 missing c = eqb (entryOf c) (usageCount (now (c .args .sheet))) && someSize (c .args .sizes)
 
-route-by-requires : tie.Need-route-by-requires
-route-by-requires c κs = search needs
-
 returns : tie.Need-returns
 returns c =
-    let t = c .before in
-    let b = t .before .before in
-    by-eeprom (b .args .«coe») (missing b) (entryOf b) (routeBy (b .args .mode) (b .args .chosen)) (b .args .sizes) (c .route-by .result)
-    (not-true (b .args .«coe») (t .if1 .taken)) (c .route-by .ensures)
+    let b = c .before .before in
+    by-eeprom (b .args .«coe») (missing b) (entryOf b) (b .args .sizes) (not-true (b .args .«coe») (c .if1 .taken))
 
 first-with-requires : tie.Need-first-with-requires
 first-with-requires c κs = search needs
@@ -53,7 +47,7 @@ returns-2 c =
     let n = c .before .before in
     let e = n .before .before in
     let b = e .before .before in
-    by-none (b .args .«coe») (missing b) (entryOf b) (routeBy (b .args .mode) (b .args .chosen)) (b .args .sizes) (c .refused .result)
+    by-none (b .args .«coe») (missing b) (entryOf b) (b .args .sizes) (c .refused .result)
     (not-false (b .args .«coe») (e .if1 .left)) (sym (answers n) ∙ c .before .if2 .taken) (c .refused .ensures)
 
 returns-3 : tie.Need-returns-3
@@ -61,10 +55,10 @@ returns-3 c =
     let n = c .before in
     let e = n .before .before in
     let b = e .before .before in
-    by-coe (b .args .«coe») (missing b) (entryOf b) (routeBy (b .args .mode) (b .args .chosen)) (b .args .sizes) (n .before .first-with .result)
+    by-coe (b .args .«coe») (missing b) (entryOf b) (b .args .sizes) (n .before .first-with .result)
     (not-false (b .args .«coe») (e .if1 .left)) (sym (answers n) ∙ c .if2 .left) (n .before .first-with .ensures)
 
 pub routed-spec : {M : Type 1} → statement M
 routed-spec =
     tie.close
-    (tie.spec route-by-requires returns first-with-requires no-entry-requires refused-requires returns-2 returns-3)
+    (tie.spec returns first-with-requires no-entry-requires refused-requires returns-2 returns-3)

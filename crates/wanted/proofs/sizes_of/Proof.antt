@@ -8,19 +8,32 @@ use borrow.Author.Needs.{needs}
 use Rattle.pdi.specs.Unit.{roundedOf}
 use Rattle.grammar.specs.Grammar.{managerCount}
 use Rattle.grammar.proofs.Broken.{kept}
-use Rattle.wanted.proofs.Sized.{Rounding, rounding-start, rounding-turn, rounding-refused, rounding-end}
+use Rattle.wanted.specs.ByKind.{bitsAt, bitsIn}
+use Rattle.wanted.proofs.Sums.{bitAt}
+use Rattle.wanted.proofs.Sized.{Rounding, rounding-start, bits-read, rounding-turn, rounding-refused, rounding-end}
 use Rattle.wanted.proofs.sizes_of.Statement.{statement}
 use Rattle.wanted.proofs.sizes_of.Tie as tie
 
 abbrev Inv-loop : tie.InvT-loop
-Inv-loop sheet bits list₀ n k₀ list k = (k ≤ n) × (n ≡ managerCount sheet) × (n ≤ 16) × Rounding bits (managerCount sheet) list k
+Inv-loop sheet kind usage multipliers bits list₀ n k₀ list k =
+    (k ≤ n) × (n ≡ managerCount sheet) × (n ≤ 16) × (bits ≡ bitsIn sheet kind usage multipliers)
+    × Rounding sheet kind usage multipliers list k
 
 abbrev μ-loop : tie.MeasureT-loop
-μ-loop sheet bits list₀ n k₀ list k = n - k
+μ-loop sheet kind usage multipliers bits list₀ n k₀ list k = n - k
 
--- where the call began
-abbrev start : tie.At-loop Inv-loop μ-loop → tie.Start Inv-loop μ-loop
-start c = c .before .before .before .before
+-- the bits that are rounded up are those of the number
+of-number :
+    (c : tie.In-loop Inv-loop μ-loop)
+    → bitAt (c .before .before .before .before .tally .result) (c .before .loop .k)
+    ≡ bitsAt (now (c .before .before .before .before .before .before .before .args .sheet)) (c .before .before .before .before .before .before .before .args .kind)
+    (c .before .before .before .before .before .before .before .args .usage) (now (c .before .before .before .before .before .before .before .args .multipliers)) (c .before .loop .k)
+of-number c =
+    let b = c .before .before .before .before .before .before .before in
+    bits-read (now (b .args .sheet)) (b .args .kind) (b .args .usage) (now (b .args .multipliers)) _ (c .before .loop .k) (c .before .loop .inv .3) (omega arith)
+
+tally-requires : tie.Need-tally-requires Inv-loop μ-loop
+tally-requires c κs = c .before .before .pre
 
 manager-count-requires : tie.Need-manager-count-requires Inv-loop μ-loop
 manager-count-requires c κs = tt
@@ -30,10 +43,10 @@ wide-requires c κs = tt
 
 loop-holds : tie.Need-loop-holds Inv-loop μ-loop
 loop-holds c =
-    let b = c .before .before .before in
-    let k = kept (now (b .args .sheet)) (b .pre) in
+    let b = c .before .before .before .before .before in
+    let k = kept (now (b .args .sheet)) (b .pre .1) in
     let e = c .wide .ensures .0 ∙ c .before .manager-count .ensures in
-    (omega arith, e, omega (arith, k .managers), rounding-start _ _)
+    (omega arith, e, omega (arith, k .managers), c .before .before .tally .ensures, rounding-start _ _ _ _)
 
 mul-round-up : tie.Need-mul-round-up Inv-loop μ-loop
 mul-round-up c = omega arith
@@ -60,8 +73,10 @@ returns : tie.Need-returns Inv-loop μ-loop
 returns c =
     let u = c .before .before .before in
     let l = u .before .before .before .loop in
+    let b = u .before .before .before .before .before .before .before .before .before in
     let n = c .before .number .given in
-    rounding-refused (start (u .before .before .before) .args .t2) _ (l .k) (n .0 .0) (omega arith) (sym (ap roundedOf (n .1)) ∙ u .round-up .ensures)
+    rounding-refused (now (b .args .sheet)) (b .args .kind) (b .args .usage) (now (b .args .multipliers)) (l .k) _ (n .0 .0) (omega arith) (of-number (u .before .before))
+    (sym (ap roundedOf (n .1)) ∙ u .round-up .ensures)
 
 add-k : tie.Need-add-k Inv-loop μ-loop
 add-k c = omega arith
@@ -73,14 +88,17 @@ loop-again : tie.Need-loop-again Inv-loop μ-loop
 loop-again c =
     let u = c .before .before .before in
     let l = u .before .before .before .loop in
+    let b = u .before .before .before .before .before .before .before .before .before in
     let w = c .before .size .given in
-    let t = rounding-turn (start (u .before .before .before) .args .t2) _ (l .list) (l .k) (w .0 .0) (omega arith) (sym (ap roundedOf (w .1)) ∙ u .round-up .ensures) (l .inv .3) in
-    (omega arith, l .inv .1, l .inv .2, t)
+    let t = rounding-turn (now (b .args .sheet)) (b .args .kind) (b .args .usage) (now (b .args .multipliers)) (l .list) (l .k) _ (w .0 .0) (omega arith) (of-number (u .before .before))
+    (sym (ap roundedOf (w .1)) ∙ u .round-up .ensures) (l .inv .4) in
+    (omega arith, l .inv .1, l .inv .2, l .inv .3, t)
 
 returns-2 : tie.Need-returns-2 Inv-loop μ-loop
 returns-2 c =
     let l = c .before .loop in
-    rounding-end (start (c .before) .args .t2) _ (l .list) (l .k) (omega arith) (l .inv .3)
+    let b = c .before .before .before .before .before .before .before in
+    rounding-end (now (b .args .sheet)) (b .args .kind) (b .args .usage) (now (b .args .multipliers)) (l .list) (l .k) (omega arith) (omega arith) (l .inv .4)
 
 pub sizes-of-spec : {M : Type 1} → statement M
 sizes-of-spec =
@@ -88,6 +106,7 @@ sizes-of-spec =
     (tie.spec
     Inv-loop
     μ-loop
+    tally-requires
     manager-count-requires
     wide-requires
     loop-holds

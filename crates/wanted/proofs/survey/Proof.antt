@@ -2,15 +2,15 @@
 -- Assumes nothing.
 use Prim.Native.Nat.{_-_, _≤_}
 use native.Mathlib.Omega.{arith}
-use Rattle.wanted.proofs.Surveying.{Seen, usesFrom, seen-start, seen-with, seen-without, seen-end}
+use Rattle.wanted.proofs.Surveying.{Seen, usesAfter, seen-start, seen-with, seen-without, seen-end}
 use Rattle.wanted.proofs.survey.Statement.{statement}
 use Rattle.wanted.proofs.survey.Tie as tie
 
 abbrev Inv-loop : tie.InvT-loop
-Inv-loop bits entries seen₀ k₀ seen k = (k ≤ 16) × Seen (usesFrom bits entries k) seen
+Inv-loop flags entries seen₀ k₀ seen k = (k ≤ 16) × Seen (usesAfter flags entries k) seen
 
 abbrev μ-loop : tie.MeasureT-loop
-μ-loop bits entries seen₀ k₀ seen k = k
+μ-loop flags entries seen₀ k₀ seen k = k
 
 loop-holds : tie.Need-loop-holds Inv-loop μ-loop
 loop-holds c = (omega arith, seen-start (c .args .t1) (c .args .t2))
@@ -18,11 +18,8 @@ loop-holds c = (omega arith, seen-start (c .args .t1) (c .args .t2))
 sub-k : tie.Need-sub-k Inv-loop μ-loop
 sub-k c = omega arith
 
-mul-if1 : tie.Need-mul-if1 Inv-loop μ-loop
-mul-if1 c = omega arith
-
-element-copy-out-if1 : tie.Need-element-copy-out-if1 Inv-loop μ-loop
-element-copy-out-if1 c = omega arith
+array-read-if1 : tie.Need-array-read-if1 Inv-loop μ-loop
+array-read-if1 c = omega arith
 
 array-read-with-use : tie.Need-array-read-with-use Inv-loop μ-loop
 array-read-with-use c = omega arith
@@ -60,8 +57,7 @@ survey-spec =
     μ-loop
     loop-holds
     sub-k
-    mul-if1
-    element-copy-out-if1
+    array-read-if1
     array-read-with-use
     with-use-requires
     loop-less

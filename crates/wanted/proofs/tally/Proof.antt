@@ -32,7 +32,7 @@ start c = c .before .before .before .before .before .before
 
 -- the next record stands within the bytes; one that counts is of the kind, and names one of sixteen
 fit : (c : tie.In-loop Inv-loop μ-loop) → Fits (now (start (c .before) .args .sheet)) (pdoCount (now (start (c .before) .args .sheet)) - (c .before .loop .i + 1)) (c .before .loop .place)
-fit c = next-fits _ _ _ _ (c .before .loop .inv .5) (omega arith)
+fit c = next-fits _ _ _ _ (c .before .loop .inv .5 .walked) (omega arith)
 
 of-kind : (c : tie.Then1 Inv-loop μ-loop) → getD (now (start (c .before .before .before) .args .sheet)) (c .before .before .before .loop .place) 0 ≡ start (c .before .before .before) .args .kind
 of-kind c =
