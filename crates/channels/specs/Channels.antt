@@ -5,13 +5,14 @@ use mathlib.Core.List.{List, [], _∷_}
 use mathlib.Core.Option.{Option, none, some}
 use Prim.Native.Nat.{ℕ, suc}
 use lib.ListN.{getD, set}
-use lib.Dec.{eqb, ltb}
+use lib.Dec.{ltb}
 use Rattle.sync_manager_channel.specs.declared.SyncManagerChannel.{SyncManagerChannel}
 use Rattle.channel_bytes.specs.declared.Enable.{Enable}
 use Rattle.channel_bytes.specs.Bytes.{statusAt}
 use Rattle.sync_manager_channel.specs.Image.{imageOf}
 use Rattle.pdi.specs.declared.ByteLen.{ByteLen}
 use Rattle.sheet.specs.declared.SyncManager.{SyncManager}
+use Rattle.pdo.specs.Direction.{isData}
 use Rattle.area.specs.Area.{entriesOf, flat, notChannels}
 
 abbrev pub enabled : Bool → Enable
@@ -49,12 +50,12 @@ channelsAfter sizeFor k (m ∷ ms) area = channelsAfter sizeFor (suc k) ms (writ
 unfoldable pub channelArea : (List (List ℕ) → List (List ℕ)) → List ℕ → List ℕ
 channelArea write area = cond (notChannels area) area (flat (write (entriesOf 8 area)))
 
--- a size in bytes for each of sixteen numbers; those of a usage get their images
+-- a size in bytes for each of sixteen numbers; those with process data get their images
 abbrev pub sizeAt : List ByteLen → ℕ → ℕ
 sizeAt sizes k = getD sizes k (record { 0 = 0 }) .0
 
-abbrev pub wantedSize : ℕ → ℕ → SyncManager → Option ℕ
-wantedSize usage size m = cond (eqb (m .«usage_type») usage) (some size) none
+abbrev pub wantedSize : ℕ → SyncManager → Option ℕ
+wantedSize size m = cond (isData (m .«usage_type»)) (some size) none
 
-abbrev pub sizeBy : ℕ → List ByteLen → ℕ → SyncManager → Option ℕ
-sizeBy usage sizes k m = wantedSize usage (sizeAt sizes k) m
+abbrev pub sizeBy : List ByteLen → ℕ → SyncManager → Option ℕ
+sizeBy sizes k m = wantedSize (sizeAt sizes k) m

@@ -50,23 +50,23 @@ pub fn write_channel(area: &mut [u8], sheet: &[u8], k: u8, size: ByteLen)
     area::store(&image, area, 8 * wire::wide(k));
 }
 
-// Writes it if the sync manager has the usage.
-fn write_wanted(area: &mut [u8], sheet: &[u8], k: u8, usage: u8, size: ByteLen)
-    ensures { λ r. ⌜ now (area .exit) ≡ channelArea (written k (managerAt (now (sheet .entry)) (managerPlace k)) (wantedSize usage (size .0) (managerAt (now (sheet .entry)) (managerPlace k)))) (now (area .entry)) ⌝ }
+// Writes it if the sync manager has process data.
+fn write_wanted(area: &mut [u8], sheet: &[u8], k: u8, size: ByteLen)
+    ensures { λ r. ⌜ now (area .exit) ≡ channelArea (written k (managerAt (now (sheet .entry)) (managerPlace k)) (wantedSize (size .0) (managerAt (now (sheet .entry)) (managerPlace k)))) (now (area .entry)) ⌝ }
 {
-    if sheet::usage_of(sheet, k) == usage {
+    if pdo::is_data(sheet::usage_of(sheet, k)) {
         write_channel(area, sheet, k, size);
     }
 }
 
-// Writes the images of the sync managers of a usage, each with its size, in rising number; all other bytes stay.
-pub fn write_channels(area: &mut [u8], sheet: &[u8], usage: u8, sizes: [ByteLen; 16])
-    ensures { λ r. ⌜ now (area .exit) ≡ channelArea (channelsAfter (sizeBy usage sizes) 0 (managersIn (now (sheet .entry)))) (now (area .entry)) ⌝ }
+// Writes the images of the sync managers with process data, each with its size, in rising number; all other bytes stay.
+pub fn write_channels(area: &mut [u8], sheet: &[u8], sizes: [ByteLen; 16])
+    ensures { λ r. ⌜ now (area .exit) ≡ channelArea (channelsAfter (sizeBy sizes) 0 (managersIn (now (sheet .entry)))) (now (area .entry)) ⌝ }
 {
     let n = sheet::front_count(sheet);
     let mut k = 0;
     while k < n {
-        write_wanted(area, sheet, k, usage, sizes[wire::wide(k)]);
+        write_wanted(area, sheet, k, sizes[wire::wide(k)]);
         k += 1;
     }
 }

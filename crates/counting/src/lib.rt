@@ -89,12 +89,12 @@ pub fn count(
 ) -> Counted
     ensures { λ r. ⌜ countedOf r ≡ meaning.count direction address (now (sheet .entry)) (now (multipliers .entry)) (offset .«start_address») ⌝ }
 {
-    let wanted = wanted::wanted_of(sheet, multipliers, direction);
+    let wanted = wanted::sizes_of(sheet, multipliers, direction);
     let answer = wanted.answer;
     if let Answer::Refused(number) = answer {
         return Counted::Refused(number);
     }
-    let sizes = wanted.sizes;
+    let sizes = wanted.list;
     let laid = lay_out(
         sheet,
         direction.filter_terms().usage,

@@ -5,8 +5,6 @@ use mathlib.Core.Path.{_≡_}
 use mathlib.Core.List.{List}
 use Prim.Native.Nat.{ℕ}
 use Rattle.wire.specs.Outcome.{accepted}
-use Rattle.pdi.specs.declared.PdiOffset.{PdiOffset}
-use Rattle.pdi.specs.declared.Placed.{Placed}
 use Rattle.sheet.specs.declared.Answer.the-variants.{Accepted}
 use Rattle.sheet.specs.Sheet.{sheetData, readSheet}
 use Rattle.pdo.specs.declared.PdoDirection.{PdoDirection}
@@ -15,23 +13,25 @@ use Rattle.pdo.specs.Bits.{multipliersOf}
 use Rattle.mailboxes.specs.declared.MailboxAnswer.{MailboxAnswer}
 use Rattle.mailboxes.specs.Mailbox.{ConfiguresMailboxes}
 use Rattle.passes.specs.declared.FmmuPair.{FmmuPair}
+use Rattle.passes.specs.declared.Offsets.{Offsets}
+use Rattle.passes.specs.declared.Segments.{Segments}
 use Rattle.passes.specs.declared.Settings.{Settings}
 use Rattle.passes.specs.Use.{chosenBy}
-use Rattle.passes.specs.Pass.{Passes}
+use Rattle.passes.specs.Call.{Calls}
 use Rattle.counting.specs.Count.{count}
 use Rattle.report.specs.Plan.{Areas, reportText}
 use Rattle.dump.specs.Calls.{Call, given, sheetFrom}
 
--- what the mailbox pass and a data pass with any table and pairs promise for a sheet, what counting answers, and what `lockerplan` prints, they do for the other;
+-- what the mailbox pass and the call with any table and pairs promise for a sheet, what counting answers, and what `lockerplan` prints, they do for the other;
 -- and both hold the same data
 pub record PlannedAlike (s t : List ℕ) : Type 0 where
   pub holding : sheetData s ≡ sheetData t
   pub mailboxes : (area : List ℕ) (r : MailboxAnswer) (after : List ℕ) → ConfiguresMailboxes s area r after → ConfiguresMailboxes t area r after
-  pub passes :
-      (table : List Oversampling) (pairs : List FmmuPair) (r : PdoDirection) (offset : PdiOffset) (settings : Settings) (fmmus channels : List ℕ)
-      (answer : Placed) (offsetThen : PdiOffset) (fmmusThen channelsThen : List ℕ)
-      → Passes s (multipliersOf table (sheetData s .pdos)) (chosenBy (settings .mode) pairs) r offset settings fmmus channels answer offsetThen fmmusThen channelsThen
-      → Passes t (multipliersOf table (sheetData t .pdos)) (chosenBy (settings .mode) pairs) r offset settings fmmus channels answer offsetThen fmmusThen channelsThen
+  pub calls :
+      (table : List Oversampling) (pairs : List FmmuPair) (o : Offsets) (settings : Settings) (fmmus channels : List ℕ)
+      (answer : Segments) (offsetsThen : Offsets) (fmmusThen channelsThen : List ℕ)
+      → Calls s (multipliersOf table (sheetData s .pdos)) (chosenBy (settings .mode) pairs) o settings fmmus channels answer offsetsThen fmmusThen channelsThen
+      → Calls t (multipliersOf table (sheetData t .pdos)) (chosenBy (settings .mode) pairs) o settings fmmus channels answer offsetsThen fmmusThen channelsThen
   pub counting :
       (table : List Oversampling) (r : PdoDirection) (a offset : ℕ)
       → count r a s (multipliersOf table (sheetData s .pdos)) offset ≡ count r a t (multipliersOf table (sheetData t .pdos)) offset

@@ -1,20 +1,24 @@
-// The FMMU entries of a pass: `write_fmmu_config` of configuration.rs, over a whole area.
+// The FMMU entries of a call: `write_fmmu_config` of configuration.rs, over a whole area.
 ghost use mathlib.Core.Path.{_≡_};
 ghost use Prim.Native.Nat.{_+_, _<_, _≤_};
 ghost use lib.ListN.{length};
 ghost use Rattle.pdo.specs.Direction.{isRead};
 ghost use Rattle.sheet.specs.Sheet.{managersIn, answerOf};
-ghost use Rattle.passes.specs.Handed.{usesBy};
+ghost use Rattle.passes.specs.Handed.{usesBy, usesByBoth};
+ghost use Rattle.passes.specs.Start.{outputsFrom, configuredOf};
 ghost use Rattle.passes.specs.Entries as Entries;
-ghost use Rattle.passes.specs.Entries.{configuredOf, WritesEntries};
+ghost use Rattle.passes.specs.Entries.{WritesEntries};
 ghost use Rattle.entries.specs.Lay.{takesEntry, entryTaken, useAt, laidOne, Short, laidAll, laidOf, segmentTo, thenInTheWay};
 
 mod ready;
 
 use fmmu::Fmmu;
 use passes::Configured;
-use passes::Place;
+use passes::Mapping;
+use passes::Offsets;
+use passes::OutputStart;
 use passes::Route;
+use passes::Settings;
 use pdi::ByteLen;
 use pdi::Moved;
 use pdi::PdiOffset;
@@ -115,33 +119,33 @@ fn lay_one(
     Answer::Accepted
 }
 
-// Lays the sync managers of the direction one after another into the entries, from the offset on.
+// Lays the sync managers of the direction one after another into the entries, from a start on.
 fn lay(
     entries: &mut [[u8; 16]; 16],
     sheet: &[u8],
     sizes: [ByteLen; 16],
     route: Route,
-    offset: PdiOffset,
+    start: u64,
     direction: PdoDirection,
 ) -> Laid
-    requires { ⌜ Short (now entries) ⌝ }
-    ensures { λ r. ⌜ laidOf r (now (entries .exit)) ≡ laidAll direction (offset .«start_address») (usesBy route sizes direction (managersIn (now (sheet .entry)))) (now (entries .entry)) ⌝ }
+    requires { ⌜ Short (now entries) × (start < 0x2_0000_0000) ⌝ }
+    ensures { λ r. ⌜ laidOf r (now (entries .exit)) ≡ laidAll direction start (usesBy route sizes direction (managersIn (now (sheet .entry)))) (now (entries .entry)) ⌝ }
 {
     let usage = direction.filter_terms().usage;
     let n = grammar::manager_count(sheet);
-    let mut end = offset.start_address as u64;
+    let mut end = start;
     let mut k = 0;
     while k < n && k < 16 {
         if sheet::usage_of(sheet, k) == usage {
             let size = sizes[wire::wide(k)];
             if takes(route, size) {
                 // 9 is judged after 8: until then the start may be past the last address
-                let start = (end % 0x1_0000_0000) as u32;
+                let at = (end % 0x1_0000_0000) as u32;
                 let e = entry_of(route, k);
                 if let Answer::Refused(number) = lay_one(
                     entries,
                     e,
-                    start,
+                    at,
                     size,
                     sheet::start_of(sheet, k),
                     direction,
@@ -156,24 +160,115 @@ fn lay(
     Laid::End(end)
 }
 
-// Where a pass ends, counted from the group start: 9, then 10.
-fn segment_to(end: u64, place: Place) -> Configured
-    ensures { λ r. ⌜ configuredOf r ≡ segmentTo (place .offset .«start_address») (place .settings .group) end ⌝ }
+// Where the outputs start: at their own offset, or where the inputs end.
+fn outputs_from(how: OutputStart, given: u64, end: u64) -> u64
+    ensures { λ r. ⌜ r ≡ outputsFrom how given end ⌝ }
 {
-    let offset = place.offset;
-    match PdiOffset::at(end) {
-        Moved::To(next) => match offset.up_to(next).less(place.settings.group) {
-            Placed::Segment(segment) => Configured::Mapped(segment, next),
+    match how {
+        OutputStart::Given => given,
+        OutputStart::AfterInputs => end,
+    }
+}
+
+// Where inputs and outputs end that are laid, exactly; or 8.
+enum Ends {
+    At(u64, u64),
+    Refused(u8),
+}
+
+// Lays the outputs after the inputs, of which it is known where they end.
+fn lay_outputs(
+    entries: &mut [[u8; 16]; 16],
+    sheet: &[u8],
+    sizes: [ByteLen; 16],
+    route: Route,
+    start: u64,
+    middle: u64,
+) -> Ends {
+    match lay(
+        entries,
+        sheet,
+        sizes,
+        route,
+        start,
+        PdoDirection::MasterWrite,
+    ) {
+        Laid::End(end) => Ends::At(middle, end),
+        Laid::Refused(number) => Ends::Refused(number),
+    }
+}
+
+// Lays both directions into the entries.
+fn lay_both(
+    entries: &mut [[u8; 16]; 16],
+    sheet: &[u8],
+    sizes: [ByteLen; 16],
+    inputs: Route,
+    outputs: Route,
+    offsets: Offsets,
+    how: OutputStart,
+) -> Ends {
+    let from = offsets.inputs.start_address as u64;
+    match lay(
+        entries,
+        sheet,
+        sizes,
+        inputs,
+        from,
+        PdoDirection::MasterRead,
+    ) {
+        Laid::End(middle) => {
+            let start = outputs_from(how, offsets.outputs.start_address as u64, middle);
+            lay_outputs(entries, sheet, sizes, outputs, start, middle)
+        }
+        Laid::Refused(number) => Ends::Refused(number),
+    }
+}
+
+// Both ranges, counted from the group start; or 10.
+fn placed(
+    inputs: PdiOffset,
+    next: PdiOffset,
+    outputs: PdiOffset,
+    last: PdiOffset,
+    group: u32,
+) -> Configured {
+    match inputs.up_to(next).less(group) {
+        Placed::Segment(one) => match outputs.up_to(last).less(group) {
+            Placed::Segment(two) => Configured::Mapped(
+                Mapping { segment: one, next },
+                Mapping {
+                    segment: two,
+                    next: last,
+                },
+            ),
             Placed::Refused(number) => Configured::Refused(number),
+        },
+        Placed::Refused(number) => Configured::Refused(number),
+    }
+}
+
+// Where inputs and outputs stand that end there: 9 of either, then 10 of either.
+fn segments_to(middle: u64, end: u64, offsets: Offsets, settings: Settings) -> Configured {
+    let inputs = offsets.inputs;
+    match PdiOffset::at(middle) {
+        Moved::To(next) => match PdiOffset::at(end) {
+            Moved::To(last) => {
+                let how = settings.outputs;
+                let start = outputs_from(how, offsets.outputs.start_address as u64, middle);
+                let outputs = PdiOffset {
+                    start_address: start as u32,
+                };
+                placed(inputs, next, outputs, last, settings.group)
+            }
+            Moved::Refused(number) => Configured::Refused(number),
         },
         Moved::Refused(number) => Configured::Refused(number),
     }
 }
 
 // 15, unless something before it was found.
-fn unless_in_the_way(answer: Configured, blocked: bool) -> Configured
-    ensures { λ r. ⌜ configuredOf r ≡ thenInTheWay blocked (configuredOf answer) ⌝ }
-{
+fn unless_in_the_way(answer: Configured, blocked: bool) -> Configured {
     if !blocked {
         return answer;
     }
@@ -183,33 +278,34 @@ fn unless_in_the_way(answer: Configured, blocked: bool) -> Configured
     }
 }
 
-// Writes the entries of a pass into a lent FMMU area, or refuses with 1, 8, 9, 10 or 15 and writes nothing.
+// Writes the entries of both directions into a lent FMMU area, or refuses with 1, 8, 9, 10 or 15 and writes nothing.
 pub fn write_entries(
     area: &mut [u8],
     sheet: &[u8],
     sizes: [ByteLen; 16],
-    route: Route,
-    place: Place,
-    direction: PdoDirection,
+    inputs: Route,
+    outputs: Route,
+    offsets: Offsets,
+    settings: Settings,
 ) -> Configured
-    ensures { λ r. ⌜ WritesEntries (usesBy route sizes direction (managersIn (now (sheet .entry)))) direction (place .offset .«start_address») (place .settings) (now (area .entry)) r (now (area .exit)) ⌝ }
+    ensures { λ r. ⌜ WritesEntries (usesByBoth inputs outputs sizes (managersIn (now (sheet .entry)))) offsets settings (now (area .entry)) r (now (area .exit)) ⌝ }
 {
     if area.len() != 256 {
         return Configured::Refused(1);
     }
     let mut entries = [[0u8; 16]; 16];
     area::load(area, &mut entries);
-    let settings = place.settings;
     let old = settings.old;
-    let blocked = ready::make_ready(&mut entries, sheet, sizes, route, old, direction);
-    match lay(&mut entries, sheet, sizes, route, place.offset, direction) {
-        Laid::End(end) => {
-            let answer = unless_in_the_way(segment_to(end, place), blocked);
+    let blocked = ready::make_ready(&mut entries, sheet, sizes, inputs, outputs, old);
+    let how = settings.outputs;
+    match lay_both(&mut entries, sheet, sizes, inputs, outputs, offsets, how) {
+        Ends::At(middle, end) => {
+            let answer = unless_in_the_way(segments_to(middle, end, offsets, settings), blocked);
             if let Configured::Mapped(_, _) = answer {
                 area::store_all(&entries, area);
             }
             answer
         }
-        Laid::Refused(number) => Configured::Refused(number),
+        Ends::Refused(number) => Configured::Refused(number),
     }
 }

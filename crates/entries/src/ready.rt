@@ -1,4 +1,4 @@
-// Old entries, before a pass is laid: those of its direction are cleared, and it is found whether another is in the way.
+// Old entries, before a call is laid: those of both directions are cleared, and it is found whether another is in the way.
 ghost use mathlib.Core.Path.{_≡_};
 ghost use mathlib.Core.Bool.{true, _||_};
 ghost use lib.ListN.{length, getD};
@@ -36,29 +36,15 @@ fn access_of(image: [u8; 16]) -> u8
     image[11] & 0x03
 }
 
-// The access bits that have the direction's alone.
-fn alone(direction: PdoDirection) -> u8
-    ensures { λ r. ⌜ r ≡ accessAlone direction ⌝ }
-{
-    match direction {
-        PdoDirection::MasterRead => 1,
-        PdoDirection::MasterWrite => 2,
-    }
-}
-
-// Whether an entry carries the direction's bit alone.
-fn carries_alone(image: [u8; 16], direction: PdoDirection) -> bool
-    ensures { λ r. ⌜ r ≡ carriesAlone direction (fieldsOf image) ⌝ }
-{
-    access_of(image) == alone(direction)
+// Whether an entry carries one direction's bit alone.
+fn carries_one(image: [u8; 16]) -> bool {
+    let access = access_of(image);
+    access == 1 || access == 2
 }
 
 // What is left of an enabled entry: an old one is set to zero, all sixteen bytes of it.
-fn cleared(image: [u8; 16], direction: PdoDirection) -> [u8; 16]
-    requires { ⌜ fieldsOf image .enable ≡ true ⌝ }
-    ensures { λ r. ⌜ r ≡ Old.cleared direction image ⌝ }
-{
-    if carries_alone(image, direction) {
+fn cleared(image: [u8; 16]) -> [u8; 16] {
+    if carries_one(image) {
         return [0u8; 16];
     }
     image
@@ -74,10 +60,10 @@ fn found_both(before: bool, image: [u8; 16]) -> bool
     access_of(image) == 3
 }
 
-// Clears each old entry of the direction, and answers what is still enabled then.
-fn clear_old(entries: &mut [[u8; 16]; 16], direction: PdoDirection) -> Left
+// Clears each old entry of either direction, and answers what is still enabled then.
+fn clear_old(entries: &mut [[u8; 16]; 16]) -> Left
     requires { ⌜ length (now entries) ≡ 16 ⌝ }
-    ensures { λ r. ⌜ Clears direction (now (entries .entry)) (now (entries .exit)) (r .enabled) (r .both) ⌝ }
+    ensures { λ r. ⌜ Clears (now (entries .entry)) (now (entries .exit)) (r .enabled) (r .both) ⌝ }
 {
     let mut enabled = false;
     let mut both = false;
@@ -85,7 +71,7 @@ fn clear_old(entries: &mut [[u8; 16]; 16], direction: PdoDirection) -> Left
     while k < 16 {
         let image = entries[k];
         if is_enabled(image) {
-            let left = cleared(image, direction);
+            let left = cleared(image);
             entries[k] = left;
             if is_enabled(left) {
                 enabled = true;
@@ -135,27 +121,38 @@ fn some_enabled(
     false
 }
 
-// Makes the entries ready for a pass: by default the direction's old ones are cleared. Answers whether one is in the way then.
+// Whether an entry that either direction uses is enabled.
+fn some_wanted(
+    entries: &[[u8; 16]; 16],
+    sheet: &[u8],
+    sizes: [ByteLen; 16],
+    inputs: Route,
+    outputs: Route,
+) -> bool {
+    if some_enabled(entries, sheet, sizes, inputs, PdoDirection::MasterRead) {
+        return true;
+    }
+    some_enabled(entries, sheet, sizes, outputs, PdoDirection::MasterWrite)
+}
+
+// Makes the entries ready for a call: by default the old ones of both directions are cleared. Answers whether one is in the way then.
 pub(crate) fn make_ready(
     entries: &mut [[u8; 16]; 16],
     sheet: &[u8],
     sizes: [ByteLen; 16],
-    route: Route,
+    inputs: Route,
+    outputs: Route,
     old: OldEntries,
-    direction: PdoDirection,
-) -> bool
-    requires { ⌜ length (now entries) ≡ 16 ⌝ }
-    ensures { λ r. ⌜ Readies old direction (usesBy route sizes direction (managersIn (now (sheet .entry)))) (now (entries .entry)) (now (entries .exit)) r ⌝ }
-{
+) -> bool {
     if let OldEntries::Keep = old {
         return false;
     }
-    let left = clear_old(entries, direction);
+    let left = clear_old(entries);
     if !left.both {
         if !left.enabled {
             return false;
         }
-        if !some_enabled(entries, sheet, sizes, route, direction) {
+        if !some_wanted(entries, sheet, sizes, inputs, outputs) {
             return false;
         }
     }

@@ -1,28 +1,28 @@
--- The FMMU entries that a pass leaves.
+-- The FMMU entries that a call leaves.
 -- Assumes nothing.
 use mathlib.Core.Path.{_≡_}
-use mathlib.Core.Bool.{Bool, true, cond}
-use mathlib.Core.List.{List, [], _∷_}
-use Prim.Native.Nat.{ℕ, _+_, _-_}
+use mathlib.Core.Bool.{Bool, true, cond, _&&_}
+use mathlib.Core.List.{List, [], _∷_, _++_}
+use Prim.Native.Nat.{ℕ, _+_}
 use lib.ListN.{getD, set}
 use lib.Dec.{ltb}
 use Rattle.wire.specs.Lists.{someBelow}
 use Rattle.wire.specs.Outcome.{Outcome, refused, accepted, Refusal, when, decide}
 use Rattle.pdi.specs.Offset.{pastEnd}
-use Rattle.pdi.specs.Segment.{segment}
-use Rattle.pdi.specs.declared.PdiSegment.{PdiSegment}
 use Rattle.area.specs.Area.{entriesOf, flat, notEntries}
 use Rattle.fmmu.specs.declared.Fmmu.{Fmmu}
 use Rattle.fmmu.specs.Image.{fieldsOf, imageOf}
 use Rattle.pdo.specs.declared.PdoDirection.{PdoDirection}
+use Rattle.pdo.specs.declared.PdoDirection.the-variants.{MasterRead, MasterWrite}
 use Rattle.pdo.specs.Direction.{isRead, isWrite}
 use Rattle.passes.specs.Use.{Use, total, totalOn}
 use Rattle.passes.specs.Old.{beginning, inTheWay}
+use Rattle.passes.specs.Start.{offsetOf, startOf, endOf, ofEither, isGiven, Both, bothPlanned, configuredOf}
 use Rattle.passes.specs.declared.OldEntries.{OldEntries}
 use Rattle.passes.specs.declared.OldEntries.the-variants.{Clear, Keep}
+use Rattle.passes.specs.declared.Offsets.{Offsets}
 use Rattle.passes.specs.declared.Settings.{Settings}
 use Rattle.passes.specs.declared.Configured.{Configured}
-use Rattle.passes.specs.declared.Configured.the-variants.{Mapped, Refused}
 
 -- a disabled entry becomes: logical start the offset, the size, bits 0 to 7, the physical start, physical bit 0, its direction bit, enabled
 abbrev pub mapped : PdoDirection → ℕ → ℕ → ℕ → Fmmu
@@ -84,39 +84,39 @@ lengthBefore Keep e = lengthNow e
 unfoldable pub tooLong : OldEntries → List Use → List (List ℕ) → Bool
 tooLong old us entries = someBelow (λ k. ltb 65535 (lengthBefore old (getD entries k []) + totalOn k us)) 16
 
--- an accepted pass: the segment, start to end less the group start, and the next offset
-pub record Planned : Type 0 where
-  pub segment : PdiSegment
-  pub next : ℕ
+-- the uses of both directions
+abbrev pub usesOfBoth : (PdoDirection → List Use) → List Use
+usesOfBoth uses = uses MasterRead ++ uses MasterWrite
 
-abbrev pub planned : ℕ → ℕ → ℕ → Planned
-planned offset group size = record { segment = segment (offset - group) (offset + size - group); next = offset + size }
-
--- what the cases of `Configured` say
-abbrev pub configuredOf : Configured → Outcome Planned
-configuredOf (Mapped s o) = accepted (record { segment = s; next = o .«start_address» })
-configuredOf (Refused n) = refused n
-
--- the refusals that look at the entries and the offset, in their order, in which 15 is last; 9: the exact end offset exceeds 4,294,967,295; 10: the offset is below the group start
-abbrev pub entryRefusals : List Use → ℕ → PdoDirection → ℕ → Settings → List (List ℕ) → List Refusal
-entryRefusals us size r offset settings entries =
-    when 8 (tooLong (settings .old) us entries)
-    ∷ when 9 (pastEnd (offset + size))
-    ∷ when 10 (ltb offset (settings .group))
-    ∷ when 15 (inTheWay (settings .old) r us entries)
+-- the refusals that look at the entries and the offsets, in their order, in which 15 is last; 8 counts all that is laid on an entry; 9: an exact end offset exceeds
+-- 4,294,967,295; 10: an offset that is given is below the group start
+abbrev pub entryRefusals : (PdoDirection → List Use) → (PdoDirection → ℕ) → Offsets → Settings → List (List ℕ) → List Refusal
+entryRefusals uses size o settings entries =
+    when 8 (tooLong (settings .old) (usesOfBoth uses) entries)
+    ∷ when 9 (ofEither (λ r. pastEnd (endOf (settings .outputs) o size r)))
+    ∷ when 10 (ofEither (λ r. isGiven r (settings .outputs) && ltb (offsetOf r o) (settings .group)))
+    ∷ when 15 (inTheWay (settings .old) (usesOfBoth uses) entries)
     ∷ []
 
+-- the bytes of a direction's uses
+abbrev pub totals : (PdoDirection → List Use) → PdoDirection → ℕ
+totals uses r = total (uses r)
+
 -- 1 comes before them
-abbrev pub entriesOutcome : List Use → PdoDirection → ℕ → Settings → List ℕ → Outcome Planned
-entriesOutcome us r offset settings area =
-    decide (when 1 (notEntries area) ∷ entryRefusals us (total us) r offset settings (entriesOf 16 area)) (planned offset (settings .group) (total us))
+abbrev pub entriesOutcome : (PdoDirection → List Use) → Offsets → Settings → List ℕ → Outcome Both
+entriesOutcome uses o settings area =
+    decide (when 1 (notEntries area) ∷ entryRefusals uses (totals uses) o settings (entriesOf 16 area)) (bothPlanned (settings .outputs) o (settings .group) (totals uses))
+
+-- the inputs are laid, then the outputs, each from its start
+abbrev pub planBoth : (PdoDirection → ℕ) → (PdoDirection → List Use) → List (List ℕ) → List (List ℕ)
+planBoth start uses entries = plan MasterWrite (start MasterWrite) (uses MasterWrite) (plan MasterRead (start MasterRead) (uses MasterRead) entries)
 
 -- what the area then holds: a refusal writes nothing
-abbrev pub entryArea : Outcome Planned → PdoDirection → ℕ → OldEntries → List Use → List ℕ → List ℕ
-entryArea (refused n) r offset old us area = area
-entryArea (accepted p) r offset old us area = flat (plan r offset us (beginning old r (entriesOf 16 area)))
+abbrev pub entryArea : Outcome Both → (PdoDirection → ℕ) → OldEntries → (PdoDirection → List Use) → List ℕ → List ℕ
+entryArea (refused n) start old uses area = area
+entryArea (accepted b) start old uses area = flat (planBoth start uses (beginning old (entriesOf 16 area)))
 
 -- the promise of writing the entries
-pub record WritesEntries (us : List Use) (r : PdoDirection) (offset : ℕ) (settings : Settings) (area : List ℕ) (answer : Configured) (after : List ℕ) : Type 0 where
-  pub says : configuredOf answer ≡ entriesOutcome us r offset settings area
-  pub holds : after ≡ entryArea (entriesOutcome us r offset settings area) r offset (settings .old) us area
+pub record WritesEntries (uses : PdoDirection → List Use) (o : Offsets) (settings : Settings) (area : List ℕ) (answer : Configured) (after : List ℕ) : Type 0 where
+  pub says : configuredOf answer ≡ entriesOutcome uses o settings area
+  pub holds : after ≡ entryArea (entriesOutcome uses o settings area) (startOf (settings .outputs) o (totals uses)) (settings .old) uses area

@@ -1,8 +1,8 @@
--- What the parts of a pass hand to one another: a size in bytes for each of sixteen numbers, and the route.
+-- What the parts of a call hand to one another: a size in bytes for each of sixteen numbers, and the routes.
 -- Assumes nothing.
 use mathlib.Core.Bool.{Bool, true, false, cond, _&&_}
 use mathlib.Core.List.{List}
-use Prim.Native.Nat.{ℕ, _*_}
+use Prim.Native.Nat.{ℕ, _+_, _*_}
 use lib.ListN.{length, getD, replicate}
 use lib.Dec.{eqb, ltb}
 use Rattle.wire.specs.Lists.{listOf}
@@ -12,6 +12,7 @@ use Rattle.sheet.specs.Device.{Data}
 use Rattle.sheet.specs.Sheet.{noManager}
 use Rattle.sheet.specs.declared.SyncManager.{SyncManager}
 use Rattle.pdo.specs.declared.PdoDirection.{PdoDirection}
+use Rattle.pdo.specs.declared.PdoDirection.the-variants.{MasterRead, MasterWrite}
 use Rattle.pdo.specs.Direction.{usageOf}
 use Rattle.pdo.specs.Bits.{Piece, byCoe, pathKind, bitsOf, piecesFrom}
 use Rattle.channels.specs.Channels.{sizeAt}
@@ -32,6 +33,13 @@ exactBits d ws r k = cond (hasUsage (usageOf r) (d .managers) k) (bitsOf (pathKi
 -- each rounded up by itself
 abbrev pub sizesOf : Data → List ℕ → PdoDirection → List ByteLen
 sizesOf d ws r = listOf (λ k. record { 0 = bytesOf (exactBits d ws r k) }) 16
+
+-- of both directions: no sync manager is of both
+abbrev pub dataBits : Data → List ℕ → ℕ → ℕ
+dataBits d ws k = exactBits d ws MasterRead k + exactBits d ws MasterWrite k
+
+abbrev pub sizesOfBoth : Data → List ℕ → List ByteLen
+sizesOfBoth d ws = listOf (λ k. record { 0 = bytesOf (dataBits d ws k) }) 16
 
 -- the route of a mode on the EEPROM path
 abbrev pub routeBy : FmmuMode → Chosen → Route
@@ -56,3 +64,8 @@ byRoute route ps = cond (route .own) (own ps) (given (entryBy route) ps)
 
 abbrev pub usesBy : Route → List ByteLen → PdoDirection → List SyncManager → List Use
 usesBy route sizes r ms = byRoute route (piecesBy (usageOf r) sizes ms)
+
+-- of both directions
+abbrev pub usesByBoth : Route → Route → List ByteLen → List SyncManager → PdoDirection → List Use
+usesByBoth inputs outputs sizes ms MasterRead = usesBy inputs sizes MasterRead ms
+usesByBoth inputs outputs sizes ms MasterWrite = usesBy outputs sizes MasterWrite ms

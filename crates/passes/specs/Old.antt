@@ -1,4 +1,4 @@
--- Old entries: what a pass finds enabled, and what becomes of it (document 02, 3/13).
+-- Old entries: what a call finds enabled, and what becomes of it (document 02, 3/13 and 7/13).
 -- Assumes nothing.
 use mathlib.Core.Bool.{Bool, false, cond, not, _&&_, _||_}
 use mathlib.Core.List.{List, [], map}
@@ -14,14 +14,15 @@ use Rattle.passes.specs.Use.{Use}
 use Rattle.passes.specs.declared.OldEntries.{OldEntries}
 use Rattle.passes.specs.declared.OldEntries.the-variants.{Clear, Keep}
 use Rattle.passes.specs.declared.FmmuMode.{FmmuMode}
+use Rattle.passes.specs.declared.OutputStart.{OutputStart}
 use Rattle.passes.specs.declared.Settings.{Settings}
 
--- the default, and keeping, which is asked for by name; by own numbers or by pairs
-abbrev pub clean : FmmuMode → ℕ → Settings
-clean mode group = record { group = group; old = Clear; mode = mode }
+-- the default, and keeping, which is asked for by name; by own numbers or by pairs, the outputs at a given offset or straight after the inputs
+abbrev pub clean : FmmuMode → OutputStart → ℕ → Settings
+clean mode how group = record { group = group; old = Clear; mode = mode; outputs = how }
 
-abbrev pub keeping : FmmuMode → ℕ → Settings
-keeping mode group = record { group = group; old = Keep; mode = mode }
+abbrev pub keeping : FmmuMode → OutputStart → ℕ → Settings
+keeping mode how group = record { group = group; old = Keep; mode = mode; outputs = how }
 
 -- an entry's bit of a direction
 abbrev pub bitOf : PdoDirection → Fmmu → Bool
@@ -43,20 +44,24 @@ isOld r f = f .enable && carriesAlone r f
 unfoldable pub cleared : PdoDirection → List ℕ → List ℕ
 cleared r e = cond (isOld r (fieldsOf e)) (replicate 16 0) e
 
--- what a pass plans on: by default as if those were never there; keeping, the entries as they are
-abbrev pub beginning : OldEntries → PdoDirection → List (List ℕ) → List (List ℕ)
-beginning Clear r entries = map (cleared r) entries
-beginning Keep r entries = entries
+-- of either direction: one direction's are cleared, then the other's
+abbrev pub clearedOfBoth : List ℕ → List ℕ
+clearedOfBoth e = cleared MasterWrite (cleared MasterRead e)
+
+-- what a call plans on: by default as if those were never there, of both directions before either is planned; keeping, the entries as they are
+abbrev pub beginning : OldEntries → List (List ℕ) → List (List ℕ)
+beginning Clear entries = map clearedOfBoth entries
+beginning Keep entries = entries
 
 -- an enabled entry with both bits
 abbrev pub bothBits : List ℕ → Bool
 bothBits e = fieldsOf e .enable && carriesBoth (fieldsOf e)
 
--- a wanted entry, that is one that the pass uses, is enabled
+-- a wanted entry, that is one that the call uses, is enabled
 abbrev pub someEnabled : List Use → List (List ℕ) → Bool
 someEnabled us entries = someOf (λ (u : Use). fieldsOf (getD entries (u .entry) []) .enable) us
 
--- 15: an enabled entry with both bits, any of the sixteen, or a wanted entry still enabled after the clearing; keeping never gives it
-unfoldable pub inTheWay : OldEntries → PdoDirection → List Use → List (List ℕ) → Bool
-inTheWay Clear r us entries = someOf bothBits entries || someEnabled us (map (cleared r) entries)
-inTheWay Keep r us entries = false
+-- 15: an enabled entry with both bits, any of the sixteen, or a wanted entry of either direction still enabled after the clearing; keeping never gives it
+unfoldable pub inTheWay : OldEntries → List Use → List (List ℕ) → Bool
+inTheWay Clear us entries = someOf bothBits entries || someEnabled us (map clearedOfBoth entries)
+inTheWay Keep us entries = false

@@ -1,6 +1,7 @@
-// What the parts of a data pass hand to one another; what a pass means stands in specs/.
+// What the parts of a call hand to one another; what a call means stands in specs/.
 ghost use mathlib.Core.Path.{_≡_};
 ghost use Rattle.passes.specs.declared.FmmuMode.the-variants as mode;
+ghost use Rattle.passes.specs.declared.OutputStart.the-variants as start;
 ghost use Rattle.passes.specs.Old as Old;
 ghost use Rattle.passes.specs.Use.{nothingChosen};
 use pdi::PdiOffset;
@@ -42,42 +43,61 @@ impl Chosen {
     }
 }
 
-// What a pass does with entries that it finds enabled: it clears those that carry its direction bit alone and refuses what else is in its way, or it adds to
+// What a call does with entries that it finds enabled: it clears those that carry one direction's bit alone and refuses what else is in its way, or it adds to
 // whatever is there.
 pub enum OldEntries {
     Clear,
     Keep,
 }
 
-// How a pass is made: its group's start, what becomes of old entries, and which entries the EEPROM path uses.
+// Where the outputs start: at the offset that is lent for them, or straight after the inputs.
+pub enum OutputStart {
+    Given,
+    AfterInputs,
+}
+
+// How a call is made: its group's start, what becomes of old entries, which entries the EEPROM path uses, and where the outputs start.
 pub struct Settings {
     pub group: u32,
     pub old: OldEntries,
     pub mode: FmmuMode,
+    pub outputs: OutputStart,
 }
 
 impl Settings {
-    // The default: old entries are cleared, and no pairs are read. Keeping and pairs are asked for by their names.
+    // The default: old entries are cleared, no pairs are read, and the outputs start straight after the inputs. All else is asked for by its name.
     pub fn clean(group: u32) -> Settings
-        ensures { λ r. ⌜ r ≡ Old.clean mode.OwnNumber group ⌝ }
+        ensures { λ r. ⌜ r ≡ Old.clean mode.OwnNumber start.AfterInputs group ⌝ }
     {
         Settings {
             group,
             old: OldEntries::Clear,
             mode: FmmuMode::OwnNumber,
+            outputs: OutputStart::AfterInputs,
         }
     }
 }
 
-// Where a pass begins, how it is made, and what its list of pairs handed on.
-pub struct Place {
-    pub offset: PdiOffset,
-    pub settings: Settings,
-    pub chosen: Chosen,
+// The offsets of both directions.
+pub struct Offsets {
+    pub inputs: PdiOffset,
+    pub outputs: PdiOffset,
 }
 
-// What a pass answers: the segment, counted from the group start, and the next offset.
+// What a call answers for a direction: the segment, counted from the group start, and the next offset.
+pub struct Mapping {
+    pub segment: PdiSegment,
+    pub next: PdiOffset,
+}
+
+// What a call answers: the inputs' mapping and the outputs'.
 pub enum Configured {
-    Mapped(PdiSegment, PdiOffset),
+    Mapped(Mapping, Mapping),
+    Refused(u8),
+}
+
+// What a caller that lends its offsets is answered: the inputs' segment and the outputs', counted from the group start.
+pub enum Segments {
+    Both(PdiSegment, PdiSegment),
     Refused(u8),
 }

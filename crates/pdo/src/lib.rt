@@ -1,7 +1,7 @@
 // Which way process data goes, what an oversampling record is, and whether CoE is on.
 ghost use mathlib.Core.Path.{_≡_};
 ghost use Rattle.sheet.specs.Sheet.{sheetData};
-ghost use Rattle.pdo.specs.Direction.{termsOf};
+ghost use Rattle.pdo.specs.Direction.{termsOf, isData};
 ghost use Rattle.pdo.specs.Bits.{someUsage, byCoe};
 
 // Which way process data goes.
@@ -35,6 +35,16 @@ impl PdoDirection {
             },
         }
     }
+}
+
+// Whether a sync manager of a usage has process data, of either direction.
+pub fn is_data(usage: u8) -> bool
+    ensures { λ r. ⌜ r ≡ isData usage ⌝ }
+{
+    if usage == PdoDirection::MasterRead.filter_terms().usage {
+        return true;
+    }
+    usage == PdoDirection::MasterWrite.filter_terms().usage
 }
 
 // An oversampling record: a PDO index, and how many times its bits count.

@@ -3,21 +3,20 @@ use crate::parts;
 use crate::say;
 use crate::say::Line;
 use crate::table;
-use crate::table::Begin;
-use crate::table::Passed;
+use crate::table::Called;
 use counting::Counted;
 use mailboxes::MailboxAnswer;
 use mailboxes::MailboxConfig;
 use mailboxes::Slot;
 use passes::FmmuMode;
 use passes::FmmuPair;
+use passes::Offsets;
 use passes::OldEntries;
+use passes::OutputStart;
+use passes::Segments;
 use passes::Settings;
 use pdi::PdiOffset;
-use pdi::PdiSegment;
-use pdi::Placed;
 use pdo::Oversampling;
-use pdo::PdoDirection;
 use sheet::Answer;
 use sheet::Device;
 use sheet::SheetRead;
@@ -126,83 +125,56 @@ pub fn mailboxes(request: &[u8]) {
     say::then_bytes(channels);
 }
 
-fn passed(answer: Placed, next: u64) -> Line {
+// Both segments, then both offsets as they stand.
+fn called(answer: Segments, next: Offsets) -> Line {
+    let inputs = next.inputs.start_address as u64;
+    let outputs = next.outputs.start_address as u64;
     match answer {
-        Placed::Segment(segment) => say::row(
+        Segments::Both(one, two) => [
             say::OK,
-            segment.start as u64,
-            segment.end as u64,
-            next,
-        ),
-        Placed::Refused(number) => say::row(say::REFUSED, number as u64, next, say::END),
+            one.start as u64,
+            one.end as u64,
+            two.start as u64,
+            two.end as u64,
+            inputs,
+            outputs,
+            say::END,
+        ],
+        Segments::Refused(number) => say::row(say::REFUSED, number as u64, inputs, outputs),
     }
 }
 
-// By default old entries are cleared; keeping is asked for by its name.
-pub fn by_default(request: &[u8]) -> Settings {
-    Settings::clean(parts::number4(request, 8))
-}
-
-pub fn keeping(request: &[u8]) -> Settings {
-    Settings {
-        group: parts::number4(request, 8),
-        old: OldEntries::Keep,
-        mode: FmmuMode::OwnNumber,
-    }
-}
-
-fn data_pass(
+fn both_directions(
     request: &[u8],
-    count: usize,
     fmmus: &mut [u8],
     channels: &mut [u8],
     settings: Settings,
-    direction: PdoDirection,
 ) -> Line {
     let done = table::plan(
         parts::sheet(request),
         parts::table(request),
         parts::records(request),
         parts::pairs(request),
-        count,
+        parts::pair_count(request) as usize,
         fmmus,
         channels,
-        Begin {
-            offset: parts::offset(request),
-            settings,
-        },
-        direction,
+        parts::offsets(request),
+        settings,
     );
     let answer = done.answer;
-    passed(answer, done.next.start_address as u64)
+    let next = done.next;
+    called(answer, next)
 }
 
-// The data pass, lent so many of the request's pairs, over copies of the FMMU bytes and of the channel part.
-pub fn pass_over(
-    request: &[u8],
-    count: usize,
-    area: &[u8],
-    settings: Settings,
-    direction: PdoDirection,
-) {
+// The call, over copies of the FMMU bytes behind the pairs and of the channel part.
+pub fn call(request: &[u8], settings: Settings) {
     let mut entries = [0u8; 512];
     let mut images = [0u8; 512];
-    let fmmus = parts::copied(area, &mut entries);
+    let fmmus = parts::copied(parts::behind_pairs(request), &mut entries);
     let channels = parts::copied(parts::channels(request), &mut images);
-    say::line(data_pass(request, count, fmmus, channels, settings, direction));
+    say::line(both_directions(request, fmmus, channels, settings));
     say::then_bytes(fmmus);
     say::then_bytes(channels);
-}
-
-// Lent no pairs.
-pub fn pass(request: &[u8], settings: Settings) {
-    pass_over(
-        request,
-        0,
-        parts::fmmus(request),
-        settings,
-        parts::direction(request),
-    );
 }
 
 // A device address, or none.
@@ -301,11 +273,11 @@ pub fn plan(request: &[u8]) {
     say::text(wire::front(&text, without_end(answer)));
 }
 
-// How many records and pairs count of what a plan is lent, and how its passes are made.
+// How many records and pairs count of what a plan is lent, and which entries it uses.
 struct Lent {
     records: usize,
     count: usize,
-    settings: Settings,
+    mode: FmmuMode,
 }
 
 // Whether it is lent anything, or reads an empty list of pairs.
@@ -316,56 +288,29 @@ fn lends(mode: FmmuMode, records: usize) -> bool {
     0 < records
 }
 
-// Both segments, or the second pass's refusal.
-fn both(inputs: PdiSegment, second: Placed) -> Line {
-    match second {
-        Placed::Segment(outputs) => say::row(
-            inputs.start as u64,
-            inputs.end as u64,
-            outputs.start as u64,
-            outputs.end as u64,
-        ),
-        Placed::Refused(number) => say::refused(number),
+// The default in group 0, from offset 0.
+fn from_zero() -> Offsets {
+    let start = PdiOffset { start_address: 0 };
+    Offsets {
+        inputs: start,
+        outputs: start,
     }
 }
 
-// Input and output pass from offset 0, up to the first refusal, lent neither a table nor pairs.
-fn bare_passes(sheet: &[u8], fmmus: &mut [u8], channels: &mut [u8], settings: Settings) -> Line {
-    let offset = PdiOffset { start_address: 0 };
-    let begin = Begin { offset, settings };
-    let first = table::plan_without_table(sheet, fmmus, channels, begin, PdoDirection::MasterRead);
-    let answer = first.answer;
-    let offset = first.next;
-    let begin = Begin { offset, settings };
-    match answer {
-        Placed::Segment(inputs) => {
-            let second = table::plan_without_table(
-                sheet,
-                fmmus,
-                channels,
-                begin,
-                PdoDirection::MasterWrite,
-            );
-            let outputs = second.answer;
-            both(inputs, outputs)
-        }
-        Placed::Refused(number) => say::refused(number),
-    }
+// The call, lent neither a table nor pairs.
+fn bare_call(sheet: &[u8], fmmus: &mut [u8], channels: &mut [u8]) -> Called {
+    table::plan_without_table(sheet, fmmus, channels, from_zero(), Settings::clean(0))
 }
 
-// A pass that is lent both.
-fn lent_pass(
+// The call, lent both.
+fn lent_call(
     sheet: &[u8],
     table: [Oversampling; 256],
     pairs: [FmmuPair; 256],
     lent: Lent,
     fmmus: &mut [u8],
     channels: &mut [u8],
-    offset: PdiOffset,
-    direction: PdoDirection,
-) -> Passed {
-    let settings = lent.settings;
-    let begin = Begin { offset, settings };
+) -> Called {
     table::plan(
         sheet,
         table,
@@ -374,94 +319,56 @@ fn lent_pass(
         lent.count,
         fmmus,
         channels,
-        begin,
-        direction,
+        from_zero(),
+        Settings {
+            group: 0,
+            old: OldEntries::Clear,
+            mode: lent.mode,
+            outputs: OutputStart::AfterInputs,
+        },
     )
 }
 
-// The same passes, lent both.
-fn lent_passes(
-    sheet: &[u8],
-    table: [Oversampling; 256],
-    pairs: [FmmuPair; 256],
-    lent: Lent,
-    fmmus: &mut [u8],
-    channels: &mut [u8],
-) -> Line {
-    let start = PdiOffset { start_address: 0 };
-    let first = lent_pass(
-        sheet,
-        table,
-        pairs,
-        lent,
-        fmmus,
-        channels,
-        start,
-        PdoDirection::MasterRead,
-    );
-    let answer = first.answer;
-    let next = first.next;
+// Both segments, or a refusal.
+fn segments(answer: Segments) -> Line {
     match answer {
-        Placed::Segment(inputs) => {
-            let second = lent_pass(
-                sheet,
-                table,
-                pairs,
-                lent,
-                fmmus,
-                channels,
-                next,
-                PdoDirection::MasterWrite,
-            );
-            let outputs = second.answer;
-            both(inputs, outputs)
-        }
-        Placed::Refused(number) => say::refused(number),
+        Segments::Both(inputs, outputs) => say::row(
+            inputs.start as u64,
+            inputs.end as u64,
+            outputs.start as u64,
+            outputs.end as u64,
+        ),
+        Segments::Refused(number) => say::refused(number),
     }
 }
 
-// Mailbox, input and output pass over areas of zeros, up to the first refusal.
+// The mailbox pass and the call over areas of zeros.
 fn plan_once(sheet: &[u8], table: [Oversampling; 256], pairs: [FmmuPair; 256], lent: Lent) -> Line {
     let mut fmmus = [0u8; 256];
     let mut channels = [0u8; 128];
     if let MailboxAnswer::Refused(number) = mailboxes::configure_mailboxes(sheet, &mut channels) {
         return say::refused(number);
     }
-    let settings = lent.settings;
-    let mode = settings.mode;
-    if lends(mode, lent.records) {
-        return lent_passes(sheet, table, pairs, lent, &mut fmmus, &mut channels);
-    }
-    bare_passes(sheet, &mut fmmus, &mut channels, settings)
-}
-
-// The default, in group 0. Byte 1 says whether a plan goes by the pairs at the front of the FMMU part; else it is lent none.
-fn lent_of(request: &[u8]) -> Lent {
-    let records = parts::records(request);
-    if wire::byte_at(request, 1) == 0 {
-        return Lent {
-            records,
-            count: 0,
-            settings: Settings::clean(0),
-        };
-    }
-    Lent {
-        records,
-        count: parts::pair_count(request) as usize,
-        settings: Settings {
-            group: 0,
-            old: OldEntries::Clear,
-            mode: FmmuMode::Paired,
-        },
-    }
+    let mode = lent.mode;
+    let done = if lends(mode, lent.records) {
+        lent_call(sheet, table, pairs, lent, &mut fmmus, &mut channels)
+    } else {
+        bare_call(sheet, &mut fmmus, &mut channels)
+    };
+    let answer = done.answer;
+    segments(answer)
 }
 
 // The same plan over and over, for whoever counts its cost.
-pub fn again(request: &[u8]) {
+pub fn again(request: &[u8], mode: FmmuMode) {
     let sheet = parts::sheet(request);
     let table = parts::table(request);
     let pairs = parts::pairs(request);
-    let lent = lent_of(request);
+    let lent = Lent {
+        records: parts::records(request),
+        count: parts::pair_count(request) as usize,
+        mode,
+    };
     let mut last = say::one(say::NONE);
     let mut left = parts::number4(request, 4);
     while 0 < left {

@@ -1,9 +1,9 @@
 // Answers requests for every entry point of the library: docs/PROBE.md says how a request looks, and what is answered.
 mod arrivals;
+mod asked;
 mod bays;
 mod dumps;
 mod numbers;
-mod paired;
 mod parts;
 mod records;
 mod say;
@@ -81,11 +81,9 @@ fn answer(letter: u8, request: &[u8], c: u32, times: u32) {
         b'D' => dumps::read(request),
         b'E' => dumps::write(request),
         b'm' => bays::mailboxes(request),
-        b'p' => bays::pass(request, bays::by_default(request)),
-        b'K' => bays::pass(request, bays::keeping(request)),
-        b'P' => paired::pass(request),
-        b'M' => paired::mappings(request),
-        b'B' => bays::again(request),
+        b'p' => asked::call(request),
+        b'M' => asked::mappings(request),
+        b'B' => bays::again(request, asked::asked_mode(request)),
         b'L' => bays::plan(request),
         b's' | b'f' | b'W' | b'y' | b'Z' => records::roomed(letter, request),
         _ => lines(letter, request, c, times),

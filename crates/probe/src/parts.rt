@@ -1,5 +1,6 @@
 // What stands where in a request: a head of 28 bytes, then its parts without gaps.
 use passes::FmmuPair;
+use passes::Offsets;
 use pdi::PdiOffset;
 use pdo::Oversampling;
 use pdo::PdoDirection;
@@ -150,5 +151,15 @@ pub fn direction(request: &[u8]) -> PdoDirection {
 pub fn offset(request: &[u8]) -> PdiOffset {
     PdiOffset {
         start_address: number4(request, 4),
+    }
+}
+
+// a and c, as the offsets of inputs and outputs.
+pub fn offsets(request: &[u8]) -> Offsets {
+    Offsets {
+        inputs: offset(request),
+        outputs: PdiOffset {
+            start_address: number4(request, 12),
+        },
     }
 }

@@ -1,4 +1,4 @@
--- Mailbox, input and output pass over two areas: offset and group 0, no oversampling, no pairs; refused by the first pass that refuses.
+-- The mailbox pass and the call for both directions over two areas: offset and group 0, no oversampling, no pairs; refused by the first that refuses.
 -- Assumes nothing.
 use mathlib.Core.List.{List, [], _∷_, _++_}
 use Prim.Native.Nat.{ℕ}
@@ -10,18 +10,18 @@ use Rattle.sync_manager_channel.specs.Image.{channelOf}
 use Rattle.sync_manager_channel.specs.Text.{channelText}
 use Rattle.area.specs.Area.{entriesOf}
 use Rattle.sheet.specs.Sheet.{sheetData, managerCount}
-use Rattle.pdo.specs.declared.PdoDirection.{PdoDirection}
-use Rattle.pdo.specs.declared.PdoDirection.the-variants.{MasterRead, MasterWrite}
 use Rattle.pdo.specs.Bits.{multipliersOf}
 use Rattle.passes.specs.declared.FmmuMode.the-variants.{OwnNumber}
+use Rattle.passes.specs.declared.OutputStart.the-variants.{AfterInputs}
+use Rattle.passes.specs.declared.Offsets.{Offsets}
+use Rattle.passes.specs.declared.Segments.{Segments}
+use Rattle.passes.specs.declared.Segments.the-variants as segments
 use Rattle.passes.specs.Use.{nothingChosen}
 use Rattle.passes.specs.Old.{clean}
-use Rattle.passes.specs.Entries.{Planned}
+use Rattle.passes.specs.Start.{offsets, Both}
+use Rattle.passes.specs.Call.{call, entriesAfter, imagesAfter}
 use Rattle.mailboxes.specs.Mailbox.{Recorded, mailboxPass, mailboxArea}
 use Rattle.lines.specs.Text.{line, numbered, inputsFront, outputsFront, lines, enabledLine, refusedText, bayText}
-use Rattle.report.specs.declared.Plan.{Plan}
-use Rattle.report.specs.declared.Plan.the-variants.{Segments, Refused}
-use Rattle.passes.specs.Pass.{dataPass, entriesAfter, channelAreaAfter}
 
 -- what comes after an accepted answer; a refusal stays the answer
 abbrev pub andThen : {A B : Type 0} → Outcome A → (A → Outcome B) → Outcome B
@@ -49,35 +49,27 @@ bay inputs outputs left = record { inputs = inputs; outputs = outputs; left = le
 abbrev pub once : List ℕ → List ℕ
 once sheet = multipliersOf [] (sheetData sheet .pdos)
 
--- an accepted pass: its segment, and where the next one starts
-abbrev pub ended : PdiSegment → ℕ → Planned
-ended segment next = record { segment = segment; next = next }
+-- the call by default from offset 0, in group 0, the outputs straight after the inputs; and the areas that it leaves where it is accepted
+abbrev pub fromZero : Offsets
+fromZero = offsets (record { «start_address» = 0 }) (record { «start_address» = 0 })
 
--- a data pass by default from an offset, in group 0, and the areas that it leaves where it is accepted
-abbrev pub pass : List ℕ → PdoDirection → ℕ → Areas → Outcome Planned
-pass sheet r offset a = dataPass sheet (once sheet) nothingChosen r offset (clean OwnNumber 0) (a .fmmus) (a .channels)
+abbrev pub dataCall : List ℕ → Areas → Outcome Both
+dataCall sheet a = call sheet (once sheet) nothingChosen fromZero (clean OwnNumber AfterInputs 0) (a .fmmus) (a .channels)
 
-abbrev pub passLeaves : List ℕ → PdoDirection → ℕ → Areas → Planned → Areas
-passLeaves sheet r offset a p =
+abbrev pub callLeaves : List ℕ → Areas → Both → Areas
+callLeaves sheet a b =
     areas
-    (entriesAfter (accepted p) (sheetData sheet) (once sheet) nothingChosen r offset (clean OwnNumber 0) (a .fmmus))
-    (channelAreaAfter (accepted p) (sheetData sheet) (once sheet) r (a .channels))
+    (entriesAfter (accepted b) (sheetData sheet) (once sheet) nothingChosen fromZero (clean OwnNumber AfterInputs 0) (a .fmmus))
+    (imagesAfter (accepted b) (sheetData sheet) (once sheet) (a .channels))
 
--- the output pass starts at the offset where the input pass ended
-unfoldable pub withOutputs : List ℕ → Planned → Areas → Outcome Bay
-withOutputs sheet i a =
-    andThen (pass sheet MasterWrite (i .next) a)
-    (λ (o : Planned). accepted (bay (i .segment) (o .segment) (passLeaves sheet MasterWrite (i .next) a o)))
-
--- the input pass starts at offset 0
-unfoldable pub withInputs : List ℕ → Areas → Outcome Bay
-withInputs sheet a = andThen (pass sheet MasterRead 0 a) (λ (i : Planned). withOutputs sheet i (passLeaves sheet MasterRead 0 a i))
+unfoldable pub withData : List ℕ → Areas → Outcome Bay
+withData sheet a = andThen (dataCall sheet a) (λ (b : Both). accepted (bay (b .inputs .segment) (b .outputs .segment) (callLeaves sheet a b)))
 
 abbrev pub mailboxLeaves : List ℕ → Areas → Recorded → Areas
 mailboxLeaves sheet a c = areas (a .fmmus) (mailboxArea (accepted c) (sheetData sheet) (a .channels))
 
 unfoldable pub planBay : List ℕ → Areas → Outcome Bay
-planBay sheet a = andThen (mailboxPass sheet (a .channels)) (λ (c : Recorded). withInputs sheet (mailboxLeaves sheet a c))
+planBay sheet a = andThen (mailboxPass sheet (a .channels)) (λ (c : Recorded). withData sheet (mailboxLeaves sheet a c))
 
 -- both segments, the images of the sheet's n sync managers, the enabled entries; or only the refusal
 abbrev pub outcomeText : ℕ → Outcome Bay → List ℕ
@@ -98,7 +90,7 @@ plainText n b =
     ++ lines channelLineOf 0 (take n (entriesOf 8 (b .left .channels)))
     ++ lines enabledLine 0 (entriesOf 16 (b .left .fmmus))
 
--- what the cases of `Plan` say, beside the areas that are left
-abbrev pub bayOf : Plan → Areas → Outcome Bay
-bayOf (Segments inputs outputs) a = accepted (bay inputs outputs a)
-bayOf (Refused n) a = refused n
+-- what the cases of `Segments` say, beside the areas that are left
+abbrev pub bayOf : Segments → Areas → Outcome Bay
+bayOf (segments.Both inputs outputs) a = accepted (bay inputs outputs a)
+bayOf (segments.Refused n) a = refused n

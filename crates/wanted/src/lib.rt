@@ -1,4 +1,4 @@
-// Which sync managers a data pass wants, with which sizes, and by which path: configuration.rs up to the first register that it writes.
+// Which sync managers a call wants, with which sizes, and by which path: configuration.rs up to the first register that it writes.
 ghost use mathlib.Core.Path.{_≡_};
 ghost use mathlib.Core.Bool.{true, false, cond, _&&_};
 ghost use mathlib.Core.List.{[], _∷_};
@@ -26,13 +26,6 @@ use pdi::ByteLen;
 use pdi::Rounded;
 use pdo::PdoDirection;
 use sheet::Answer;
-
-// What a data pass wants: a size for each sync manager of its usage, and the route; or the first of its refusals that holds.
-pub struct Wanted {
-    pub answer: Answer,
-    pub sizes: [ByteLen; 16],
-    pub route: Route,
-}
 
 // The sum of the bytes of a part.
 fn sum_bytes(part: &[u8]) -> u32
@@ -63,19 +56,29 @@ fn pdo_bits(sheet: &[u8], at: usize, kind: u8) -> u32
     ) as u32
 }
 
-// Whether the PDO at a place counts: it is of the kind, and names a sync manager of the usage.
-fn counts(sheet: &[u8], at: usize, kind: u8, usage: u8) -> bool
-    requires { ⌜ (at + 5 ≤ length (now sheet)) × (usagesPlace (now sheet) ≤ length (now sheet)) × (length (now sheet) ≤ 16386) ⌝ }
-    ensures { λ r. ⌜ r ≡ eqb (getD (now (sheet .entry)) at 0) kind && hasUsage usage (sheetData (now (sheet .entry)) .managers) (getD (now (sheet .entry)) (at + 1) 0) ⌝ }
-{
-    if sheet[at] != kind {
-        return false;
+// The kind of PDO that counts for a sync manager of a usage: 0 on the CoE path, else its direction's.
+fn kind_for(coe: bool, usage: u8) -> u8 {
+    if coe {
+        return 0;
     }
+    let inputs = PdoDirection::MasterRead.filter_terms();
+    if usage == inputs.usage {
+        return inputs.kind;
+    }
+    PdoDirection::MasterWrite.filter_terms().kind
+}
+
+// Whether the PDO at a place counts: it names a sync manager with process data, and is of the kind for it.
+fn counts(sheet: &[u8], at: usize, coe: bool) -> bool {
     let manager = sheet[at + grammar::PDO_MANAGER];
     if grammar::manager_count(sheet) <= manager {
         return false;
     }
-    sheet[grammar::manager_place(manager) + grammar::USAGE] == usage
+    let usage = sheet[grammar::manager_place(manager) + grammar::USAGE];
+    if !pdo::is_data(usage) {
+        return false;
+    }
+    sheet[at] == kind_for(coe, usage)
 }
 
 // The multiplier of a PDO; 1 where none is lent.
@@ -88,27 +91,39 @@ fn multiplier_at(multipliers: &[u8], i: usize) -> u8
     1
 }
 
-// The exact bits of each sync manager of the usage: over the PDOs that are of the kind, bits times multiplier.
-fn tally(sheet: &[u8], kind: u8, usage: u8, multipliers: &[u8]) -> [BitLen; 16]
-    requires { ⌜ (length (now sheet) ≤ 16386) × (broken (now sheet) ≡ false) ⌝ }
-    ensures { λ r. ⌜ r ≡ bitsIn (now (sheet .entry)) kind usage (now (multipliers .entry)) ⌝ }
-{
+// The exact bits of each sync manager with process data: over the PDOs that count, bits times multiplier.
+fn tally(sheet: &[u8], coe: bool, multipliers: &[u8]) -> [BitLen; 16] {
     let mut sums = [BitLen(0); 16];
     let mut place = grammar::pdos_place(sheet);
     let mut i = 0;
     let count = wire::wide(grammar::pdo_count(sheet));
     while i < count {
-        if counts(sheet, place, kind, usage) {
+        if counts(sheet, place, coe) {
             let slot = wire::wide(sheet[place + grammar::PDO_MANAGER]);
             let before = sums[slot].0;
             sums[slot] = BitLen(
-                before + pdo_bits(sheet, place, kind) * (multiplier_at(multipliers, i) as u32),
+                before
+                    + pdo_bits(sheet, place, sheet[place]) * (multiplier_at(multipliers, i) as u32),
             );
         }
         place = place + grammar::PDO_BYTES + wire::wide(sheet[place + grammar::PDO_COUNT]);
         i += 1;
     }
     sums
+}
+
+// Those of the sync managers of a usage; 0 for any other.
+fn of_usage(sheet: &[u8], bits: [BitLen; 16], usage: u8) -> [BitLen; 16] {
+    let mut out = [BitLen(0); 16];
+    let n = sheet::front_count(sheet);
+    let mut k = 0;
+    while k < n {
+        if sheet::usage_of(sheet, k) == usage {
+            out[wire::wide(k)] = bits[wire::wide(k)];
+        }
+        k += 1;
+    }
+    out
 }
 
 // The place of the first FMMU entry with the usage; the count where there is none.
@@ -127,19 +142,24 @@ fn first_with(sheet: &[u8], usage: u8) -> u8
     k
 }
 
-// Exact bits rounded up, each by itself, or 6.
-struct Sizes {
-    answer: Answer,
-    list: [ByteLen; 16],
+// Sizes in bytes, or the first refusal that holds.
+pub struct Sizes {
+    pub answer: Answer,
+    pub list: [ByteLen; 16],
 }
 
-fn sizes_of(sheet: &[u8], kind: u8, usage: u8, multipliers: &[u8]) -> Sizes
-    requires { ⌜ (length (now sheet) ≤ 16386) × (broken (now sheet) ≡ false) ⌝ }
-    ensures { λ r. ⌜ (answerOf {A = Unit {0}} (r .answer) tt ≡ decide (when 6 (someTooWide (now (sheet .entry)) kind usage (now (multipliers .entry))) ∷ []) tt) × (r .list ≡ cond (someTooWide (now (sheet .entry)) kind usage (now (multipliers .entry))) noSizes (sizesIn (now (sheet .entry)) kind usage (now (multipliers .entry)))) ⌝ }
-{
-    let bits = tally(sheet, kind, usage, multipliers);
+// A refusal has nothing beside it.
+fn no_sizes(number: u8) -> Sizes {
+    Sizes {
+        answer: Answer::Refused(number),
+        list: [ByteLen(0); 16],
+    }
+}
+
+// The exact bits of a sheet's sync managers rounded up, each by itself, or 6.
+fn rounded(sheet: &[u8], bits: [BitLen; 16]) -> Sizes {
     let mut list = [ByteLen(0); 16];
-    let n = wire::wide(grammar::manager_count(sheet));
+    let n = wire::wide(sheet::front_count(sheet));
     let mut k = 0;
     while k < n {
         match bits[k].round_up() {
@@ -147,10 +167,7 @@ fn sizes_of(sheet: &[u8], kind: u8, usage: u8, multipliers: &[u8]) -> Sizes
                 list[k] = size;
             }
             Rounded::Refused(number) => {
-                return Sizes {
-                    answer: Answer::Refused(number),
-                    list: [ByteLen(0); 16],
-                };
+                return no_sizes(number);
             }
         }
         k += 1;
@@ -161,96 +178,53 @@ fn sizes_of(sheet: &[u8], kind: u8, usage: u8, multipliers: &[u8]) -> Sizes
     }
 }
 
-// Whether some size is above 0.
-fn some_size(sizes: [ByteLen; 16]) -> bool
-    ensures { λ r. ⌜ r ≡ someSize sizes ⌝ }
-{
+// Whether some sync manager of a usage has a size above 0.
+fn some_size(sheet: &[u8], usage: u8, sizes: [ByteLen; 16]) -> bool {
+    let n = sheet::front_count(sheet);
     let mut k = 0;
-    while k < 16 {
-        if 0 < sizes[k].0 {
-            return true;
+    while k < n {
+        if sheet::usage_of(sheet, k) == usage {
+            if 0 < sizes[wire::wide(k)].0 {
+                return true;
+            }
         }
         k += 1;
     }
     false
 }
 
-// 7: whether no entry has the usage though some sync manager has bits.
-fn no_entry(sheet: &[u8], entry: u8, sizes: [ByteLen; 16]) -> bool
-    ensures { λ r. ⌜ r ≡ eqb entry (usageCount (now (sheet .entry))) && someSize sizes ⌝ }
-{
-    if entry != grammar::usage_count(sheet) {
+// 7: whether no entry is the direction's though one of its sync managers has bits.
+fn no_entry(sheet: &[u8], direction: PdoDirection, sizes: [ByteLen; 16]) -> bool {
+    let terms = direction.filter_terms();
+    if first_with(sheet, terms.fmmu_usage) != grammar::usage_count(sheet) {
         return false;
     }
-    some_size(sizes)
+    some_size(sheet, terms.usage, sizes)
 }
 
-// The kind of PDO that counts: 0 on the CoE path, else the direction's.
-fn path_kind(coe: bool, kind: u8) -> u8
-    ensures { λ r. ⌜ r ≡ cond «coe» 0 kind ⌝ }
-{
-    if coe { 0 } else { kind }
-}
-
-// A refusal has nothing beside it.
-fn refused(number: u8) -> Wanted
-    ensures { λ r. ⌜ r ≡ wantedAfter (Outcome.refused number) ⌝ }
-{
-    Wanted {
-        answer: Answer::Refused(number),
-        sizes: [ByteLen(0); 16],
-        route: Route {
-            own: true,
-            entries: [0u8; 16],
-        },
-    }
-}
-
-// By EEPROM each uses its own entry; on the CoE path all use the first with the usage, or it is 7 where there is none.
-fn routed(sheet: &[u8], coe: bool, usage: u8, sizes: [ByteLen; 16]) -> Wanted
-    ensures { λ r. ⌜ r ≡ routedOf «coe» (eqb (firstWith usage (sheetData (now (sheet .entry)) .usages)) (usageCount (now (sheet .entry))) && someSize sizes) (firstWith usage (sheetData (now (sheet .entry)) .usages)) sizes ⌝ }
-{
-    if !coe {
-        return Wanted {
-            answer: Answer::Accepted,
-            sizes,
-            route: Route {
-                own: true,
-                entries: [0u8; 16],
-            },
-        };
-    }
-    let entry = first_with(sheet, usage);
-    if no_entry(sheet, entry, sizes) {
-        return refused(7);
-    }
-    Wanted {
-        answer: Answer::Accepted,
-        sizes,
-        route: Route {
-            own: false,
-            entries: [entry; 16],
-        },
-    }
-}
-
-// What a direction's pass of a sheet wants by own numbers. Lent a multiplier for each PDO; one that is lacking is 1.
-pub fn wanted_of(sheet: &[u8], multipliers: &[u8], direction: PdoDirection) -> Wanted
-    ensures { λ r. ⌜ Wants (now (sheet .entry)) (now (multipliers .entry)) direction r ⌝ }
+// What counting wants of a sheet: the sizes of a direction's sync managers, or the first of 2 to 7 that holds. Lent a multiplier for each PDO; one that is
+// lacking is 1.
+pub fn sizes_of(sheet: &[u8], multipliers: &[u8], direction: PdoDirection) -> Sizes
+    ensures { λ r. ⌜ Sized (now (sheet .entry)) (now (multipliers .entry)) direction r ⌝ }
 {
     let sound = sheet::check(sheet);
     if let Answer::Refused(number) = sound {
-        return refused(number);
+        return no_sizes(number);
     }
-    let terms = direction.filter_terms();
     let coe = pdo::coe_on(sheet);
-    let sized = sizes_of(sheet, path_kind(coe, terms.kind), terms.usage, multipliers);
-    let answer = sized.answer;
-    if let Answer::Refused(number) = answer {
-        return refused(number);
+    let bits = tally(sheet, coe, multipliers);
+    let sized = rounded(sheet, of_usage(sheet, bits, direction.filter_terms().usage));
+    if !coe {
+        return sized;
     }
-    let sizes = sized.list;
-    routed(sheet, coe, terms.fmmu_usage, sizes)
+    let answer = sized.answer;
+    let list = sized.list;
+    if let Answer::Accepted = answer {
+        if no_entry(sheet, direction, list) {
+            return no_sizes(7);
+        }
+    }
+    sized
 }
 
 // The uses of entries that are seen so far: which entries are used, the first one's, and whether one is left for another and come back to.
@@ -310,45 +284,8 @@ fn with_use(seen: Entered, entry: u8) -> Entered
     }
 }
 
-// Whether a PDO of an EEPROM kind adds bits.
-fn some_bits(sheet: &[u8], at: usize, multiplier: u8) -> bool
-    requires { ⌜ (getD (now sheet) at 0 ≡ 0 → ⊥) × (at + 7 ≤ length (now sheet)) × (length (now sheet) ≤ 16386) ⌝ }
-    ensures { λ r. ⌜ r ≡ ltb 0 (sum (pdoAt (now (sheet .entry)) at .lengths) * multiplier) ⌝ }
-{
-    if multiplier == 0 {
-        return false;
-    }
-    if sheet[at + grammar::PDO_BYTES] != 0 {
-        return true;
-    }
-    sheet[at + grammar::PDO_SECOND_BYTE] != 0
-}
-
-// Which sync managers of the usage have bits, by the PDOs of an EEPROM kind.
-fn with_bits(sheet: &[u8], kind: u8, usage: u8, multipliers: &[u8]) -> [bool; 16]
-    requires { ⌜ (length (now sheet) ≤ 16386) × (broken (now sheet) ≡ false) × (kind ≡ 0 → ⊥) ⌝ }
-    ensures { λ r. ⌜ r ≡ flagsIn (now (sheet .entry)) kind usage (now (multipliers .entry)) ⌝ }
-{
-    let mut flags = [false; 16];
-    let mut place = grammar::pdos_place(sheet);
-    let mut i = 0;
-    let count = wire::wide(grammar::pdo_count(sheet));
-    while i < count {
-        if counts(sheet, place, kind, usage) {
-            if some_bits(sheet, place, multiplier_at(multipliers, i)) {
-                flags[wire::wide(sheet[place + grammar::PDO_MANAGER])] = true;
-            }
-        }
-        place = place + grammar::PDO_BYTES + wire::wide(sheet[place + grammar::PDO_COUNT]);
-        i += 1;
-    }
-    flags
-}
-
 // The entry of each number that has bits, from the last number to the first.
-fn survey(flags: [bool; 16], entries: [u8; 16]) -> Entered
-    ensures { λ r. ⌜ Surveys (usesIn entries flags) r ⌝ }
-{
+fn survey(bits: [BitLen; 16], entries: [u8; 16]) -> Entered {
     let mut seen = Entered {
         used: [false; 16],
         first: 0,
@@ -357,7 +294,7 @@ fn survey(flags: [bool; 16], entries: [u8; 16]) -> Entered
     let mut k = 16;
     while 0 < k {
         k -= 1;
-        if flags[k] {
+        if 0 < bits[k].0 {
             seen = with_use(seen, entries[k]);
         }
     }
@@ -405,20 +342,19 @@ fn number_above(chosen: Chosen) -> bool
     some_past_last(entries)
 }
 
-// 18: a number above 15, an entry of both directions, or one of a direction left for another and come back to. Read has kind 1 and usage 4, write 2 and 3.
-fn bad_pairs(sheet: &[u8], multipliers: &[u8], chosen: Chosen) -> bool
-    requires { ⌜ (length (now sheet) ≤ 16386) × (broken (now sheet) ≡ false) ⌝ }
-    ensures { λ r. ⌜ r ≡ badChoice chosen (now (sheet .entry)) (now (multipliers .entry)) ⌝ }
-{
+// 18: a number above 15, an entry of both directions, or one of a direction left for another and come back to.
+fn bad_pairs(sheet: &[u8], bits: [BitLen; 16], chosen: Chosen) -> bool {
     if number_above(chosen) {
         return true;
     }
     let entries = chosen.entries;
-    let these = survey(with_bits(sheet, 1, 4, multipliers), entries);
+    let inputs = PdoDirection::MasterRead.filter_terms().usage;
+    let these = survey(of_usage(sheet, bits, inputs), entries);
     if these.interrupted {
         return true;
     }
-    let those = survey(with_bits(sheet, 2, 3, multipliers), entries);
+    let outputs = PdoDirection::MasterWrite.filter_terms().usage;
+    let those = survey(of_usage(sheet, bits, outputs), entries);
     if those.interrupted {
         return true;
     }
@@ -427,61 +363,105 @@ fn bad_pairs(sheet: &[u8], multipliers: &[u8], chosen: Chosen) -> bool
     some_shared(one, two)
 }
 
-// Whether an answer is one of the sheet's own refusals, 2 to 5.
-fn first_five(answer: Answer) -> bool
-    ensures { λ r. ⌜ r ≡ firstFive answer ⌝ }
-{
-    match answer {
-        Answer::Refused(number) => number < 6,
-        Answer::Accepted => false,
+// Whether the pairs are read: by the mode that asks for them, and not on the CoE path.
+fn by_pairs(coe: bool, mode: FmmuMode) -> bool {
+    match mode {
+        FmmuMode::OwnNumber => false,
+        FmmuMode::Paired => !coe,
     }
 }
 
-// What is wanted by own numbers, as pairs change it: 18 before 6 and 7, and the route of the chosen entries.
-fn by_pairs(sheet: &[u8], multipliers: &[u8], chosen: Chosen, wanted: Wanted) -> Wanted
-    requires { ⌜ (firstFive (wanted .answer) ≡ false → (length (now sheet) ≤ 16386) × (broken (now sheet) ≡ false)) ⌝ }
-    ensures { λ r. ⌜ r ≡ pairedOf (byCoe (sheetData (now (sheet .entry)))) (badChoice chosen (now (sheet .entry)) (now (multipliers .entry))) (chosen .entries) wanted ⌝ }
+// What a call wants: a size for each sync manager with process data, and each direction's route; or the first of its refusals that holds.
+pub struct Wanted {
+    pub answer: Answer,
+    pub sizes: [ByteLen; 16],
+    pub inputs: Route,
+    pub outputs: Route,
+}
+
+// Each uses its own entry, also at 0 bits.
+fn own_entries() -> Route {
+    Route {
+        own: true,
+        entries: [0u8; 16],
+    }
+}
+
+// A refusal has nothing beside it.
+fn refused(number: u8) -> Wanted {
+    Wanted {
+        answer: Answer::Refused(number),
+        sizes: [ByteLen(0); 16],
+        inputs: own_entries(),
+        outputs: own_entries(),
+    }
+}
+
+// By EEPROM both directions go by own numbers, or by the chosen entries.
+fn by_eeprom(mode: FmmuMode, chosen: Chosen, sizes: [ByteLen; 16]) -> Wanted {
+    let route = match mode {
+        FmmuMode::OwnNumber => own_entries(),
+        FmmuMode::Paired => Route {
+            own: false,
+            entries: chosen.entries,
+        },
+    };
+    Wanted {
+        answer: Answer::Accepted,
+        sizes,
+        inputs: route,
+        outputs: route,
+    }
+}
+
+// On the CoE path all of a direction use the first entry with its usage.
+fn first_entry(sheet: &[u8], direction: PdoDirection) -> Route {
+    let entry = first_with(sheet, direction.filter_terms().fmmu_usage);
+    Route {
+        own: false,
+        entries: [entry; 16],
+    }
+}
+
+// By CoE it is 7 where there is none for a direction that has bits.
+fn by_coe(sheet: &[u8], sizes: [ByteLen; 16]) -> Wanted {
+    if no_entry(sheet, PdoDirection::MasterRead, sizes) {
+        return refused(7);
+    }
+    if no_entry(sheet, PdoDirection::MasterWrite, sizes) {
+        return refused(7);
+    }
+    Wanted {
+        answer: Answer::Accepted,
+        sizes,
+        inputs: first_entry(sheet, PdoDirection::MasterRead),
+        outputs: first_entry(sheet, PdoDirection::MasterWrite),
+    }
+}
+
+// What a call wants of a sheet, read once for both directions. Lent a multiplier for each PDO; one that is lacking is 1.
+pub fn wanted_of(sheet: &[u8], multipliers: &[u8], mode: FmmuMode, chosen: Chosen) -> Wanted
+    ensures { λ r. ⌜ Wants mode chosen (now (sheet .entry)) (now (multipliers .entry)) r ⌝ }
 {
-    let answer = wanted.answer;
-    if first_five(answer) {
-        return wanted;
+    let sound = sheet::check(sheet);
+    if let Answer::Refused(number) = sound {
+        return refused(number);
     }
-    if pdo::coe_on(sheet) {
-        return wanted;
-    }
-    if bad_pairs(sheet, multipliers, chosen) {
-        return refused(18);
-    }
-    match answer {
-        Answer::Refused(_) => wanted,
-        Answer::Accepted => {
-            let sizes = wanted.sizes;
-            let entries = chosen.entries;
-            Wanted {
-                answer: Answer::Accepted,
-                sizes,
-                route: Route {
-                    own: false,
-                    entries,
-                },
-            }
+    let coe = pdo::coe_on(sheet);
+    let bits = tally(sheet, coe, multipliers);
+    if by_pairs(coe, mode) {
+        if bad_pairs(sheet, bits, chosen) {
+            return refused(18);
         }
     }
-}
-
-// What a direction's pass of a sheet wants by its mode.
-pub fn wanted_by(
-    sheet: &[u8],
-    multipliers: &[u8],
-    direction: PdoDirection,
-    mode: FmmuMode,
-    chosen: Chosen,
-) -> Wanted
-    ensures { λ r. ⌜ WantsBy mode chosen (now (sheet .entry)) (now (multipliers .entry)) direction r ⌝ }
-{
-    let wanted = wanted_of(sheet, multipliers, direction);
-    match mode {
-        FmmuMode::OwnNumber => wanted,
-        FmmuMode::Paired => by_pairs(sheet, multipliers, chosen, wanted),
+    let sized = rounded(sheet, bits);
+    let answer = sized.answer;
+    if let Answer::Refused(number) = answer {
+        return refused(number);
     }
+    let sizes = sized.list;
+    if coe {
+        return by_coe(sheet, sizes);
+    }
+    by_eeprom(mode, chosen, sizes)
 }

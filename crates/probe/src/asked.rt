@@ -1,23 +1,23 @@
-// The entry points that are lent pairs: byte 1 says how, and they stand at the front of the FMMU part.
+// The entry points that byte 1 tells how to plan; their pairs stand at the front of the FMMU part.
 use crate::bays;
 use crate::parts;
 use crate::say;
 use crate::table;
 use passes::FmmuMode;
 use passes::OldEntries;
+use passes::OutputStart;
 use passes::Settings;
-use pdo::PdoDirection;
 
-// Byte 1 is a sum: 1 MasterWrite, 2 keeping, 4 by own numbers.
+// Byte 1 is a sum: 1 the outputs straight after the inputs, 2 keeping, 4 by pairs.
 fn asked(request: &[u8], bit: u8) -> bool {
     wire::flag(wire::byte_at(request, 1), bit)
 }
 
-fn asked_direction(request: &[u8]) -> PdoDirection {
+fn asked_outputs(request: &[u8]) -> OutputStart {
     if asked(request, 0) {
-        return PdoDirection::MasterWrite;
+        return OutputStart::AfterInputs;
     }
-    PdoDirection::MasterRead
+    OutputStart::Given
 }
 
 fn asked_old(request: &[u8]) -> OldEntries {
@@ -27,26 +27,23 @@ fn asked_old(request: &[u8]) -> OldEntries {
     OldEntries::Clear
 }
 
-fn asked_mode(request: &[u8]) -> FmmuMode {
+pub fn asked_mode(request: &[u8]) -> FmmuMode {
     if asked(request, 2) {
-        return FmmuMode::OwnNumber;
+        return FmmuMode::Paired;
     }
-    FmmuMode::Paired
+    FmmuMode::OwnNumber
 }
 
-// Lent those at the front of the FMMU part.
-pub fn pass(request: &[u8]) {
-    let settings = Settings {
-        group: parts::number4(request, 8),
-        old: asked_old(request),
-        mode: asked_mode(request),
-    };
-    bays::pass_over(
+// The call for both directions.
+pub fn call(request: &[u8]) {
+    bays::call(
         request,
-        parts::pair_count(request) as usize,
-        parts::behind_pairs(request),
-        settings,
-        asked_direction(request),
+        Settings {
+            group: parts::number4(request, 8),
+            old: asked_old(request),
+            mode: asked_mode(request),
+            outputs: asked_outputs(request),
+        },
     );
 }
 
