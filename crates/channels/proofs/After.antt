@@ -18,7 +18,7 @@ use Rattle.sync_manager_channel.proofs.RoundTrip.{image-length}
 use Rattle.area.specs.Area.{entriesOf, storedAt, flat}
 use Rattle.area.proofs.Entry.{stored-entry, stored-not, length-stored}
 use Rattle.area.proofs.Flat.{rows-set, length-chunks, flat-chunks, flat-bytes, Sixteen, sixteen-of, flat-entries}
-use Rattle.channels.specs.Channels.{channelFor, written, channelsAfter, channelArea, wantedSize}
+use Rattle.channels.specs.Channels.{channelFor, written, channelsAfter, channelArea}
 
 -- an area of 128 bytes is all entries; any other stays
 module _ (write : List (List ℕ) → List (List ℕ)) (area : List ℕ) where
@@ -70,14 +70,6 @@ pub channels-kept : (f : ℕ → SyncManager → Option ℕ) (k : ℕ) (ms : Lis
 unfolding channelsAfter
 channels-kept f k [] = record { kept = λ es h. h }
 channels-kept f k (m ∷ ms) = record { kept = λ es h. channels-kept f (suc k) ms .kept (written k m (f k m) es) (written-kept k m (f k m) .kept es h) }
-
--- who has the usage gets the size
-module _ (usage size : ℕ) (m : SyncManager) where
-  pub size-wanted : m .«usage_type» ≡ usage → wantedSize usage size m ≡ some size
-  size-wanted e = rw (eq-eqb (m .«usage_type») usage e) refl
-
-  pub size-unwanted : (m .«usage_type» ≡ usage → ⊥) → wantedSize usage size m ≡ none
-  size-unwanted e = rw (ne-eqb (m .«usage_type») usage e) refl
 
 -- an image stored at its place; a number past the last has none
 pub image-stored :

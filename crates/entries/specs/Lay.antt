@@ -28,18 +28,9 @@ entryTaken route number = cond (route .own) number (entryBy route number)
 abbrev pub useAt : ℕ → ℕ → ℕ → Use
 useAt e size at = record { entry = e; size = size; at = at }
 
--- the use's own entry has no room for it; a number past the last one is no entry
-abbrev pub noRoom : Use → List (List ℕ) → Bool
-noRoom u entries = ltb (u .entry) 16 && ltb 65535 (lengthNow (getD entries (u .entry) []) + u .size)
-
 -- one use laid, or 8
 abbrev pub laidOne : PdoDirection → ℕ → Use → List (List ℕ) → Outcome (List (List ℕ))
 laidOne r start u entries = decide (when 8 (noRoom u entries) ∷ []) (withUse r start u entries)
-
--- sixteen entries, none longer than its two bytes say
-pub record Short (entries : List (List ℕ)) : Type 0 where
-  pub many : length entries ≡ 16
-  pub short : (k : ℕ) → k < 16 → lengthNow (getD entries k []) ≤ 65535
 
 -- where uses end that are laid one after another, and the entries then
 pub record Run : Type 0 where

@@ -1,4 +1,4 @@
--- Old entries cleared: one entry, and all that a pass begins with; and 8, which counts from zero then.
+-- Old entries cleared: one entry, and all that a call begins with; and 8, which counts from zero then.
 -- Assumes nothing.
 use mathlib.Core.Path.{_≡_, refl, sym, _∙_, ap, subst}
 use mathlib.Core.Bool.{Bool, true, false, cond, not, _&&_, _||_, true≢false}
@@ -26,7 +26,7 @@ use Rattle.pdo.specs.Direction.{other}
 use Rattle.passes.specs.declared.OldEntries.{OldEntries}
 use Rattle.passes.specs.declared.OldEntries.the-variants.{Clear, Keep}
 use Rattle.passes.specs.Use.{Use, totalOn}
-use Rattle.passes.specs.Old.{bitOf, isOld, cleared, beginning, bothBits, someEnabled, inTheWay}
+use Rattle.passes.specs.Old.{bitOf, isOld, cleared, clearedOfBoth, beginning, bothBits, someEnabled, inTheWay}
 use Rattle.passes.specs.Entries.{lengthNow, tooLong}
 
 -- a disabled entry
@@ -86,21 +86,32 @@ cleared-has r e P zeros same = go (isOld r (fieldsOf e)) refl
     go true h = subst P (sym (cleared-old r e h)) zeros
     go false h = subst P (sym (cleared-not r e h)) (same h)
 
--- what a pass begins with: entry by entry, as many, each as long
-pub cleared-at : (r : PdoDirection) (es : List (List ℕ)) (k : ℕ) → getD (map (cleared r) es) k [] ≡ cleared r (getD es k [])
-cleared-at r es k = ap (getD (map (cleared r) es) k) (sym (cleared-off r [] nil-off)) ∙ List·getD-map (cleared r) es k []
+-- so of both directions
+pub both-off : (e : List ℕ) → Off e → clearedOfBoth e ≡ e
+both-off e h = ap (cleared MasterWrite) (cleared-off MasterRead e h) ∙ cleared-off MasterWrite e h
 
-pub begun-length : (old : OldEntries) (r : PdoDirection) (es : List (List ℕ)) → length (beginning old r es) ≡ length es
-begun-length Keep r es = refl
-begun-length Clear r es = length-map es (cleared r)
+pub both-has :
+    (e : List ℕ) (P : List ℕ → Type 0) → P (replicate 16 0) → (isOld MasterRead (fieldsOf e) ≡ false → isOld MasterWrite (fieldsOf e) ≡ false → P e)
+    → P (clearedOfBoth e)
+both-has e P zeros same =
+    cleared-has MasterWrite (cleared MasterRead e) P zeros
+    (cleared-has MasterRead e (λ x. isOld MasterWrite (fieldsOf x) ≡ false → P x) (λ w. zeros) (λ n w. same n w))
 
-rows-begun : (old : OldEntries) (r : PdoDirection) (es : List (List ℕ)) → Rows 16 es → Rows 16 (beginning old r es)
-rows-begun Keep r es h = h
-rows-begun Clear r [] h = tt
-rows-begun Clear r (e ∷ es) h = (cleared-has r e (λ x. length x ≡ 16) refl (λ z. h .0), rows-begun Clear r es (h .1))
+-- what a call begins with: entry by entry, as many, each as long
+pub cleared-at : (es : List (List ℕ)) (k : ℕ) → getD (map clearedOfBoth es) k [] ≡ clearedOfBoth (getD es k [])
+cleared-at es k = ap (getD (map clearedOfBoth es) k) (sym (both-off [] nil-off)) ∙ List·getD-map clearedOfBoth es k []
 
-pub sixteen-begun : (old : OldEntries) (r : PdoDirection) (es : List (List ℕ)) → Sixteen 16 es → Sixteen 16 (beginning old r es)
-sixteen-begun old r es s = (begun-length old r es ∙ s .0, rows-begun old r es (s .1))
+pub begun-length : (old : OldEntries) (es : List (List ℕ)) → length (beginning old es) ≡ length es
+begun-length Keep es = refl
+begun-length Clear es = length-map es clearedOfBoth
+
+rows-begun : (old : OldEntries) (es : List (List ℕ)) → Rows 16 es → Rows 16 (beginning old es)
+rows-begun Keep es h = h
+rows-begun Clear [] h = tt
+rows-begun Clear (e ∷ es) h = (both-has e (λ x. length x ≡ 16) refl (λ z w. h .0), rows-begun Clear es (h .1))
+
+pub sixteen-begun : (old : OldEntries) (es : List (List ℕ)) → Sixteen 16 es → Sixteen 16 (beginning old es)
+sixteen-begun old es s = (begun-length old es ∙ s .0, rows-begun old es (s .1))
 
 -- a disabled entry has no length
 pub length-off : (e : List ℕ) → Off e → lengthNow e ≡ 0
@@ -115,8 +126,8 @@ length-bytes e b = go (flagAt (getD e 12 0) 0)
     go true = let h = little-fits 2 4 b in omega arith
     go false = omega arith
 
-pub cleared-short : (r : PdoDirection) (e : List ℕ) → lengthNow e ≤ 65535 → lengthNow (cleared r e) ≤ 65535
-cleared-short r e h = cleared-has r e (λ x. lengthNow x ≤ 65535) (let z = length-off (replicate 16 0) zeros-off in omega arith) (λ n. h)
+pub cleared-short : (e : List ℕ) → lengthNow e ≤ 65535 → lengthNow (clearedOfBoth e) ≤ 65535
+cleared-short e h = both-has e (λ x. lengthNow x ≤ 65535) (let z = length-off (replicate 16 0) zeros-off in omega arith) (λ n m. h)
 
 -- where none that is used is enabled, an entry is disabled or no use is on it
 off-or-unused : (us : List Use) (es : List (List ℕ)) (k : ℕ) → someEnabled us es ≡ false → Off (getD es k []) ⊎ (totalOn k us ≡ 0)
@@ -145,10 +156,10 @@ from-zero us ls es short f =
 
 -- where nothing is in the way, 8 on the entries cleared is 8 from zero
 pub cleared-eight :
-    (r : PdoDirection) (us : List Use) (es : List (List ℕ)) → ((k : ℕ) → k < 16 → lengthNow (getD es k []) ≤ 65535) → inTheWay Clear r us es ≡ false
-    → tooLong Keep us (map (cleared r) es) ≡ tooLong Clear us es
+    (us : List Use) (es : List (List ℕ)) → ((k : ℕ) → k < 16 → lengthNow (getD es k []) ≤ 65535) → inTheWay Clear us es ≡ false
+    → tooLong Keep us (map clearedOfBoth es) ≡ tooLong Clear us es
 unfolding inTheWay
-cleared-eight r us es short free =
-    from-zero us (map (cleared r) es) es
-    (λ k h. subst (λ (e : List ℕ). lengthNow e ≤ 65535) (sym (cleared-at r es k)) (cleared-short r (getD es k []) (short k h)))
-    (λ k. off-or-unused us (map (cleared r) es) k (or-none (someOf bothBits es) (someEnabled us (map (cleared r) es)) free .1))
+cleared-eight us es short free =
+    from-zero us (map clearedOfBoth es) es
+    (λ k h. subst (λ (e : List ℕ). lengthNow e ≤ 65535) (sym (cleared-at es k)) (cleared-short (getD es k []) (short k h)))
+    (λ k. off-or-unused us (map clearedOfBoth es) k (or-none (someOf bothBits es) (someEnabled us (map clearedOfBoth es)) free .1))

@@ -1,7 +1,7 @@
 -- The uses of the wanted sync managers: from sizes as from bits, their bytes whatever entries they use, and the images that those sizes give.
 -- Assumes nothing.
 use mathlib.Core.Path.{_≡_, refl, sym, _∙_, ap, subst}
-use mathlib.Core.Bool.{Bool, true, false, cond}
+use mathlib.Core.Bool.{Bool, true, false, cond, _||_}
 use mathlib.Core.List.{List, [], _∷_}
 use mathlib.Core.Option.{none, some}
 use Prim.Native.Nat.{ℕ, suc, _+_, _*_, _<_, _≤_}
@@ -9,7 +9,7 @@ use native.Mathlib.Nat.{add-zero, zero-add}
 use native.Mathlib.Omega.{arith}
 use lib.ListN.{length, getD, replicate, getD-replicate}
 use lib.Dec.{eqb, ltb}
-use borrow.Author.Tests.{lt-ltb, le-ltb, ltb-true, ltb-false}
+use borrow.Author.Tests.{lt-ltb, le-ltb, ltb-true, ltb-false, eqb-true}
 use Rattle.wire.proofs.Lists.{getD-listOf}
 use Rattle.pdi.specs.Unit.{bytesOf}
 use Rattle.pdi.specs.declared.ByteLen.{ByteLen}
@@ -19,14 +19,15 @@ use Rattle.sheet.specs.declared.SyncManager.{SyncManager}
 use Rattle.channels.specs.Channels.{channelsAfter, sizeAt, sizeBy}
 use Rattle.channels.proofs.After.{channels-same}
 use Rattle.pdo.specs.declared.PdoDirection.{PdoDirection}
+use Rattle.pdo.specs.declared.PdoDirection.the-variants.{MasterRead, MasterWrite}
 use Rattle.pdo.specs.Direction.{usageOf}
 use Rattle.pdo.specs.Bits.{Piece, byCoe, pathKind, bitsOf, piecesFrom, piecesOf}
 use Rattle.passes.specs.declared.FmmuMode.{FmmuMode}
 use Rattle.passes.specs.declared.FmmuMode.the-variants.{OwnNumber, Paired}
 use Rattle.passes.specs.declared.Chosen.{Chosen}
 use Rattle.passes.specs.Use.{Use, useOf, own, given, coeEntry, byMode, usesOf, total, sizeOf}
-use Rattle.passes.specs.Pass.{dataSize}
-use Rattle.passes.specs.Handed.{exactBits, sizesOf, routeBy, routeOf, piecesBy, usesBy}
+use Rattle.passes.specs.Call.{orElse, bothSize}
+use Rattle.passes.specs.Handed.{exactBits, dataBits, sizesOfBoth, routeBy, routeOf, piecesBy, usesBy, usesByBoth}
 
 -- bits take bytes exactly if there are any
 pub some-bytes : (bits : ℕ) → ltb 0 (bytesOf bits) ≡ ltb 0 bits
@@ -109,9 +110,6 @@ module _ (d : Data) (ws : List ℕ) (r : PdoDirection) where
   pub exact-at : (k : ℕ) → k < length (d .managers) → eqb (getD (d .managers) k noManager .«usage_type») (usageOf r) ≡ true → exactBits d ws r k ≡ bitsOf (pathKind d r) k (d .pdos) ws
   exact-at k h e = rw (lt-ltb k (length (d .managers)) h, e)
 
-  pub size-handed : (k : ℕ) → k < 16 → sizeAt (sizesOf d ws r) k ≡ bytesOf (exactBits d ws r k)
-  size-handed k h = ap (λ (b : ByteLen). b .0) (getD-listOf (λ j. record { 0 = bytesOf (exactBits d ws r j) }) 16 k (record { 0 = 0 }) h)
-
   -- leaving out those without bits changes no total
   pub uses-total : (mode : FmmuMode) (c : Chosen) → total (usesOf mode c d ws r) ≡ sizeOf d ws r
   unfolding usesOf sizeOf
@@ -122,42 +120,69 @@ module _ (d : Data) (ws : List ℕ) (r : PdoDirection) where
       go OwnNumber false = refl
       go Paired false = given-total (λ number. getD (c .entries) number 0) (piecesOf d ws r)
 
+  -- of both directions it is what the direction has: the other's is 0
+  pub data-at :
+      (k : ℕ) → k < length (d .managers) → eqb (getD (d .managers) k noManager .«usage_type») (usageOf r) ≡ true
+      → dataBits d ws k ≡ bitsOf (pathKind d r) k (d .pdos) ws
+  data-at k h e = both r (eqb-true (getD (d .managers) k noManager .«usage_type») (usageOf r) e) ∙ exact-at k h e
+    where
+      both : (q : PdoDirection) → getD (d .managers) k noManager .«usage_type» ≡ usageOf q → dataBits d ws k ≡ exactBits d ws q k
+      both MasterRead u = rw (lt-ltb k (length (d .managers)) h, u, add-zero) refl
+      both MasterWrite u = rw (lt-ltb k (length (d .managers)) h, u, zero-add) refl
+
+module _ (d : Data) (ws : List ℕ) where
+  pub size-handed : (k : ℕ) → k < 16 → sizeAt (sizesOfBoth d ws) k ≡ bytesOf (dataBits d ws k)
+  size-handed k h = ap (λ (b : ByteLen). b .0) (getD-listOf (λ j. record { 0 = bytesOf (dataBits d ws j) }) 16 k (record { 0 = 0 }) h)
+
   module _ (few : length (d .managers) ≤ 16) where
     size-at :
-        (k : ℕ) → k < length (d .managers) → eqb (getD (d .managers) k noManager .«usage_type») (usageOf r) ≡ true
-        → sizeAt (sizesOf d ws r) k ≡ bytesOf (bitsOf (pathKind d r) k (d .pdos) ws)
-    size-at k h e = size-handed k (omega arith) ∙ ap bytesOf (exact-at k h e)
+        (r : PdoDirection) (k : ℕ) → k < length (d .managers) → eqb (getD (d .managers) k noManager .«usage_type») (usageOf r) ≡ true
+        → sizeAt (sizesOfBoth d ws) k ≡ bytesOf (bitsOf (pathKind d r) k (d .pdos) ws)
+    size-at r k h e = size-handed k (omega arith) ∙ ap bytesOf (data-at d ws r k h e)
 
-    -- the uses of what is handed on, on entries that are the same below sixteen
-    handed : (mine : Bool) (e c : ℕ → ℕ) → ((j : ℕ) → j < 16 → mine ≡ false → e j ≡ c j) → onEntries mine e (piecesBy (usageOf r) (sizesOf d ws r) (d .managers)) ≡ onEntries mine c (piecesOf d ws r)
-    unfolding piecesOf
-    handed mine e c meet =
-        uses-same mine e c (usageOf r) (λ k. 8 * sizeAt (sizesOf d ws r) k) (λ k. bitsOf (pathKind d r) k (d .pdos) ws) (d .managers)
-        (λ j l z. bytes-back (sizeAt (sizesOf d ws r) j) ∙ size-at j l z) (λ j l z. meet j (omega arith) z)
+    module _ (r : PdoDirection) where
+      -- the uses of what is handed on, on entries that are the same below sixteen
+      handed : (mine : Bool) (e c : ℕ → ℕ) → ((j : ℕ) → j < 16 → mine ≡ false → e j ≡ c j) → onEntries mine e (piecesBy (usageOf r) (sizesOfBoth d ws) (d .managers)) ≡ onEntries mine c (piecesOf d ws r)
+      unfolding piecesOf
+      handed mine e c meet =
+          uses-same mine e c (usageOf r) (λ k. 8 * sizeAt (sizesOfBoth d ws) k) (λ k. bitsOf (pathKind d r) k (d .pdos) ws) (d .managers)
+          (λ j l z. bytes-back (sizeAt (sizesOfBoth d ws) j) ∙ size-at r j l z) (λ j l z. meet j (omega arith) z)
 
-    -- are those of the pass
-    pub uses-are : (mode : FmmuMode) (c : Chosen) → usesBy (routeOf mode c d r) (sizesOf d ws r) r (d .managers) ≡ usesOf mode c d ws r
-    unfolding usesOf
-    uses-are mode c = go mode (byCoe d)
+      -- are those of the call
+      pub uses-are : (mode : FmmuMode) (c : Chosen) → usesBy (routeOf mode c d r) (sizesOfBoth d ws) r (d .managers) ≡ usesOf mode c d ws r
+      unfolding usesOf
+      uses-are mode c = go mode (byCoe d)
+        where
+          go : (m : FmmuMode) (b : Bool)
+              → usesBy (cond b (record { own = false; entries = replicate 16 (coeEntry d r) }) (routeBy m c)) (sizesOfBoth d ws) r (d .managers)
+              ≡ cond b (given (λ number. coeEntry d r) (piecesOf d ws r)) (byMode m c (piecesOf d ws r))
+          go m true =
+              handed false (λ number. getD (replicate 16 (coeEntry d r)) number 0) (λ number. coeEntry d r)
+              (λ j l z. getD-replicate 16 j (coeEntry d r) 0 l)
+          go OwnNumber false = handed true (λ number. number) (λ number. number) (λ j l z. refl)
+          go Paired false = handed false (λ number. getD (c .entries) number 0) (λ number. getD (c .entries) number 0) (λ j l z. refl)
+
+    -- of both directions at once
+    pub both-are : (mode : FmmuMode) (c : Chosen) → usesByBoth (routeOf mode c d MasterRead) (routeOf mode c d MasterWrite) (sizesOfBoth d ws) (d .managers) ≡ usesOf mode c d ws
+    both-are mode c = λ i r. go r i
       where
-        go : (m : FmmuMode) (b : Bool)
-            → usesBy (cond b (record { own = false; entries = replicate 16 (coeEntry d r) }) (routeBy m c)) (sizesOf d ws r) r (d .managers)
-            ≡ cond b (given (λ number. coeEntry d r) (piecesOf d ws r)) (byMode m c (piecesOf d ws r))
-        go m true =
-            handed false (λ number. getD (replicate 16 (coeEntry d r)) number 0) (λ number. coeEntry d r)
-            (λ j l z. getD-replicate 16 j (coeEntry d r) 0 l)
-        go OwnNumber false = handed true (λ number. number) (λ number. number) (λ j l z. refl)
-        go Paired false = handed false (λ number. getD (c .entries) number 0) (λ number. getD (c .entries) number 0) (λ j l z. refl)
+        go : (r : PdoDirection) → usesByBoth (routeOf mode c d MasterRead) (routeOf mode c d MasterWrite) (sizesOfBoth d ws) (d .managers) r ≡ usesOf mode c d ws r
+        go MasterRead = uses-are MasterRead mode c
+        go MasterWrite = uses-are MasterWrite mode c
 
-    -- who gets which size is what the pass says
-    sizes-agree : (k : ℕ) → k < length (d .managers) → sizeBy (usageOf r) (sizesOf d ws r) k (getD (d .managers) k noManager) ≡ dataSize d ws r k (getD (d .managers) k noManager)
-    sizes-agree k h = go (eqb (getD (d .managers) k noManager .«usage_type») (usageOf r)) (size-at k h)
+    -- who gets which size is what the call says
+    sizes-agree : (k : ℕ) → k < length (d .managers) → sizeBy (sizesOfBoth d ws) k (getD (d .managers) k noManager) ≡ bothSize d ws k (getD (d .managers) k noManager)
+    sizes-agree k h =
+        go (eqb (getD (d .managers) k noManager .«usage_type») 4) (eqb (getD (d .managers) k noManager .«usage_type») 3) (size-at MasterRead k h) (size-at MasterWrite k h)
       where
-        go : (b : Bool) → (b ≡ true → sizeAt (sizesOf d ws r) k ≡ bytesOf (bitsOf (pathKind d r) k (d .pdos) ws))
-            → cond b (some (sizeAt (sizesOf d ws r) k)) none ≡ cond b (some (bytesOf (bitsOf (pathKind d r) k (d .pdos) ws))) none
-        go true e = ap some (e refl)
-        go false e = refl
+        go : (a b : Bool) → (a ≡ true → sizeAt (sizesOfBoth d ws) k ≡ bytesOf (bitsOf (pathKind d MasterRead) k (d .pdos) ws))
+            → (b ≡ true → sizeAt (sizesOfBoth d ws) k ≡ bytesOf (bitsOf (pathKind d MasterWrite) k (d .pdos) ws))
+            → cond (a || b) (some (sizeAt (sizesOfBoth d ws) k)) none
+            ≡ orElse (cond a (some (bytesOf (bitsOf (pathKind d MasterRead) k (d .pdos) ws))) none) (cond b (some (bytesOf (bitsOf (pathKind d MasterWrite) k (d .pdos) ws))) none)
+        go true b e f = ap some (e refl)
+        go false true e f = ap some (f refl)
+        go false false e f = refl
 
     -- so the images are the same
-    pub images-are : (area : List (List ℕ)) → channelsAfter (sizeBy (usageOf r) (sizesOf d ws r)) 0 (d .managers) area ≡ channelsAfter (dataSize d ws r) 0 (d .managers) area
-    images-are area = channels-same noManager (sizeBy (usageOf r) (sizesOf d ws r)) (dataSize d ws r) (d .managers) area sizes-agree
+    pub images-are : (area : List (List ℕ)) → channelsAfter (sizeBy (sizesOfBoth d ws)) 0 (d .managers) area ≡ channelsAfter (bothSize d ws) 0 (d .managers) area
+    images-are area = channels-same noManager (sizeBy (sizesOfBoth d ws)) (bothSize d ws) (d .managers) area sizes-agree

@@ -1,8 +1,9 @@
 -- What the parts of a call hand to one another: a size in bytes for each of sixteen numbers, and the routes.
 -- Assumes nothing.
+use mathlib.Core.Path.{_≡_}
 use mathlib.Core.Bool.{Bool, true, false, cond, _&&_}
-use mathlib.Core.List.{List}
-use Prim.Native.Nat.{ℕ, _+_, _*_}
+use mathlib.Core.List.{List, []}
+use Prim.Native.Nat.{ℕ, _+_, _*_, _<_, _≤_}
 use lib.ListN.{length, getD, replicate}
 use lib.Dec.{eqb, ltb}
 use Rattle.wire.specs.Lists.{listOf}
@@ -17,6 +18,7 @@ use Rattle.pdo.specs.Direction.{usageOf}
 use Rattle.pdo.specs.Bits.{Piece, byCoe, pathKind, bitsOf, piecesFrom}
 use Rattle.channels.specs.Channels.{sizeAt}
 use Rattle.passes.specs.Use.{Use, own, given, coeEntry}
+use Rattle.passes.specs.Entries.{lengthNow}
 use Rattle.passes.specs.declared.FmmuMode.{FmmuMode}
 use Rattle.passes.specs.declared.FmmuMode.the-variants.{OwnNumber, Paired}
 use Rattle.passes.specs.declared.Chosen.{Chosen}
@@ -69,3 +71,12 @@ usesBy route sizes r ms = byRoute route (piecesBy (usageOf r) sizes ms)
 abbrev pub usesByBoth : Route → Route → List ByteLen → List SyncManager → PdoDirection → List Use
 usesByBoth inputs outputs sizes ms MasterRead = usesBy inputs sizes MasterRead ms
 usesByBoth inputs outputs sizes ms MasterWrite = usesBy outputs sizes MasterWrite ms
+
+-- a use's own entry has no room for it; a number past the last one is no entry
+abbrev pub noRoom : Use → List (List ℕ) → Bool
+noRoom u entries = ltb (u .entry) 16 && ltb 65535 (lengthNow (getD entries (u .entry) []) + u .size)
+
+-- sixteen entries, none longer than its two bytes say
+pub record Short (entries : List (List ℕ)) : Type 0 where
+  pub many : length entries ≡ 16
+  pub short : (k : ℕ) → k < 16 → lengthNow (getD entries k []) ≤ 65535

@@ -13,13 +13,13 @@ use Rattle.channels.proofs.write_channels.Statement.{statement}
 use Rattle.channels.proofs.write_channels.Tie as tie
 
 abbrev Inv-loop : tie.InvT-loop
-Inv-loop area₀ sheet usage sizes n k₀ area k =
+Inv-loop area₀ sheet sizes n k₀ area k =
     (k ≤ n)
     × (length area ≡ length area₀)
-    × (channelArea (channelsAfter (sizeBy usage sizes) k (drop k (managersIn sheet))) area ≡ channelArea (channelsAfter (sizeBy usage sizes) 0 (managersIn sheet)) area₀)
+    × (channelArea (channelsAfter (sizeBy sizes) k (drop k (managersIn sheet))) area ≡ channelArea (channelsAfter (sizeBy sizes) 0 (managersIn sheet)) area₀)
 
 abbrev μ-loop : tie.MeasureT-loop
-μ-loop area₀ sheet usage sizes n k₀ area k = n - k
+μ-loop area₀ sheet sizes n k₀ area k = n - k
 
 front-count-requires : tie.Need-front-count-requires Inv-loop μ-loop
 front-count-requires c κs = tt
@@ -54,9 +54,9 @@ loop-again c =
     let s = now (a .sheet) in
     let m = managerAt s (managerPlace (l .k)) in
     let ms = managersIn s in
-    let f = sizeBy (a .usage) (a .t4) in
+    let f = sizeBy (a .t3) in
     let q = c .before .before .before .before .wide .ensures .0 in
-    let here : f (l .k) m ≡ wantedSize (a .usage) (sizeAt (a .t4) _) m = ap (λ j. wantedSize (a .usage) (sizeAt (a .t4) j) m) (sym q) in (
+    let here : f (l .k) m ≡ wantedSize (sizeAt (a .t3) _) m = ap (λ j. wantedSize (sizeAt (a .t3) j) m) (sym q) in (
       omega arith,
       omega arith,
       ap (channelArea (channelsAfter f (l .k + 1) (drop (l .k + 1) ms))) w
@@ -72,7 +72,7 @@ returns c =
     let l = c .before .loop in
     let n = c .before .before .front-count .ensures in
     let a = c .before .before .before .before .before .args in
-    sym (area-end (sizeBy (a .usage) (a .t4)) (l .k) (drop (l .k) (managersIn (now (a .sheet)))) (l .area) (front-over (now (a .sheet)) (l .k) (omega arith))) ∙ l .inv .2
+    sym (area-end (sizeBy (a .t3)) (l .k) (drop (l .k) (managersIn (now (a .sheet)))) (l .area) (front-over (now (a .sheet)) (l .k) (omega arith))) ∙ l .inv .2
 
 pub write-channels-spec : {M : Type 1} → statement M
 write-channels-spec =

@@ -1,8 +1,8 @@
 -- The lengths of entries while uses are laid: the first use whose entry has no room decides 8, and each use that has room leaves it to the rest.
 -- Assumes nothing.
 use mathlib.Core.Path.{_≡_, refl, sym, _∙_, ap, ap₂, subst}
-use mathlib.Core.Bool.{Bool, true, false, cond, _&&_, false≢true}
-use mathlib.Core.List.{List, [], _∷_}
+use mathlib.Core.Bool.{Bool, true, false, cond, _&&_, _||_, false≢true}
+use mathlib.Core.List.{List, [], _∷_, _++_}
 use Prim.Native.Nat.{ℕ, _+_, _<_, _≤_}
 use native.Mathlib.Nat.{zero-add}
 use native.Mathlib.Decide.{ℕ-discrete}
@@ -18,13 +18,13 @@ use Rattle.wire.proofs.Lists.{some-hit, some-none, some-same}
 use Rattle.fmmu.specs.declared.Fmmu.{Fmmu}
 use Rattle.fmmu.specs.Image.{fieldsOf, imageOf}
 use Rattle.pdo.specs.declared.PdoDirection.{PdoDirection}
 use Rattle.passes.specs.declared.OldEntries.the-variants.{Keep}
 use Rattle.passes.specs.Use.{Use, totalOn}
-use Rattle.passes.specs.Entries.{mapped, grown, laid, withUse, lengthOf, lengthNow, tooLong}
+use Rattle.passes.specs.Entries.{mapped, grown, laid, withUse, plan, lengthOf, lengthNow, tooLong}
 use Rattle.area.specs.Area.{entriesOf}
 use Rattle.area.proofs.Flat.{length-chunks, entry-bytes}
 use Rattle.passes.proofs.Cleared.{length-bytes}
-use Rattle.entries.specs.Lay.{noRoom, Short}
+use Rattle.passes.specs.Handed.{noRoom, Short}
 
 -- two bytes hold no more
 pub short-area : (area : List ℕ) → Bytes area → Short (entriesOf 16 area)
@@ -122,3 +122,32 @@ module _ (u : Use) (entries : List (List ℕ)) (r : PdoDirection) (o : ℕ) (man
       go : (k : ℕ) → k < 16 → Dec (u .entry ≡ k) → Same us k
       go k h (yes e) = subst (Same us) e (let a = here (omega arith) in let t = total-here u us (u .entry) refl in omega arith)
       go k h (no d) = let a = there k d in let t = total-other u us k d in omega arith
+
+-- laid one after the other: 8 of all is 8 of the first, or of the rest on what those leave
+pub too-long-both : (r : PdoDirection) (o : ℕ) (us vs : List Use) (entries : List (List ℕ)) → Short entries → tooLong Keep (us ++ vs) entries ≡ tooLong Keep us entries || tooLong Keep vs (plan r o us entries)
+unfolding plan
+too-long-both r o [] vs entries s = ap (λ (b : Bool). b || tooLong Keep vs entries) (sym (too-long-none entries s))
+too-long-both r o (u ∷ us) vs entries s = go (noRoom u entries) refl (λ f. too-long-both r (o + u .size) us vs (withUse r o u entries) (short-after u entries r o (s .many) f s))
+  where
+    go : (b : Bool) → noRoom u entries ≡ b
+        → (noRoom u entries ≡ false → tooLong Keep (us ++ vs) (withUse r o u entries) ≡ tooLong Keep us (withUse r o u entries) || tooLong Keep vs (plan r (o + u .size) us (withUse r o u entries)))
+        → tooLong Keep (u ∷ us ++ vs) entries ≡ tooLong Keep (u ∷ us) entries || tooLong Keep vs (plan r (o + u .size) us (withUse r o u entries))
+    go true e rest =
+        too-long-first u (us ++ vs) entries e
+        ∙ ap (λ (b : Bool). b || tooLong Keep vs (plan r (o + u .size) us (withUse r o u entries))) (sym (too-long-first u us entries e))
+    go false e rest =
+        too-long-rest u entries r o (s .many) e (us ++ vs)
+        ∙ rest e
+        ∙ ap (λ (b : Bool). b || tooLong Keep vs (plan r (o + u .size) us (withUse r o u entries))) (sym (too-long-rest u entries r o (s .many) e us))
+
+-- entries stay short where all have room
+pub short-planned : (r : PdoDirection) (o : ℕ) (us : List Use) (entries : List (List ℕ)) → Short entries → tooLong Keep us entries ≡ false → Short (plan r o us entries)
+unfolding plan
+short-planned r o [] entries s e = s
+short-planned r o (u ∷ us) entries s e = go (noRoom u entries) refl (λ f. short-planned r (o + u .size) us (withUse r o u entries) (short-after u entries r o (s .many) f s))
+  where
+    go : (b : Bool) → noRoom u entries ≡ b
+        → (noRoom u entries ≡ false → tooLong Keep us (withUse r o u entries) ≡ false → Short (plan r (o + u .size) us (withUse r o u entries)))
+        → Short (plan r (o + u .size) us (withUse r o u entries))
+    go true h rest = absurd (false≢true (sym e ∙ too-long-first u us entries h))
+    go false h rest = rest h (sym (too-long-rest u entries r o (s .many) h us) ∙ e)
