@@ -8,39 +8,32 @@ use lib.ListN.{getD, replicate}
 use Rattle.wire.specs.Field.{bitsAt}
 use Rattle.wire.specs.Lists.{someOf}
 use Rattle.fmmu.specs.Image.{fieldsOf}
-use Rattle.pdo.specs.declared.PdoDirection.{PdoDirection}
-use Rattle.pdo.specs.declared.PdoDirection.the-variants.{MasterRead, MasterWrite}
 use Rattle.passes.specs.Use.{Use}
-use Rattle.passes.specs.Old.{cleared, beginning, bothBits, inTheWay}
+use Rattle.passes.specs.Old.{clearedOfBoth, beginning, bothBits, inTheWay}
 use Rattle.passes.specs.declared.OldEntries.{OldEntries}
 
 -- byte 11: bit 0 read, bit 1 write
 abbrev pub accessOf : List ℕ → ℕ
 accessOf e = bitsAt (getD e 11 0) 0 2
 
--- the direction's bit alone
-abbrev pub accessAlone : PdoDirection → ℕ
-accessAlone MasterRead = 1
-accessAlone MasterWrite = 2
-
 -- an entry that is enabled
 abbrev pub on : List ℕ → Bool
 on e = fieldsOf e .enable
 
--- the direction's old entries cleared; whether one is still enabled, and whether one has both bits
-pub record Clears (r : PdoDirection) (before after : List (List ℕ)) (enabled both : Bool) : Type 0 where
-  pub holds : after ≡ map (cleared r) before
-  pub some : enabled ≡ someOf on (map (cleared r) before)
+-- the old entries of both directions cleared; whether one is still enabled, and whether one has both bits
+pub record Clears (before after : List (List ℕ)) (enabled both : Bool) : Type 0 where
+  pub holds : after ≡ map clearedOfBoth before
+  pub some : enabled ≡ someOf on (map clearedOfBoth before)
   pub twice : both ≡ someOf bothBits before
 
 -- sixteen entries of zeros
 abbrev pub zeroEntries : List (List ℕ)
 zeroEntries = replicate 16 (replicate 16 0)
 
--- what is laid on: the entries with which the pass begins; where one is in the way nothing of them is written, and 8 counts from zero
-abbrev pub ready : OldEntries → PdoDirection → List Use → List (List ℕ) → List (List ℕ)
-ready old r us entries = cond (inTheWay old r us entries) zeroEntries (beginning old r entries)
+-- what is laid on: the entries with which the call begins; where one is in the way nothing of them is written, and 8 counts from zero
+abbrev pub ready : OldEntries → List Use → List (List ℕ) → List (List ℕ)
+ready old us entries = cond (inTheWay old us entries) zeroEntries (beginning old entries)
 
-pub record Readies (old : OldEntries) (r : PdoDirection) (us : List Use) (before after : List (List ℕ)) (blocked : Bool) : Type 0 where
-  pub says : blocked ≡ inTheWay old r us before
-  pub holds : after ≡ ready old r us before
+pub record Readies (old : OldEntries) (us : List Use) (before after : List (List ℕ)) (blocked : Bool) : Type 0 where
+  pub says : blocked ≡ inTheWay old us before
+  pub holds : after ≡ ready old us before

@@ -143,7 +143,10 @@ pub(crate) fn make_ready(
     inputs: Route,
     outputs: Route,
     old: OldEntries,
-) -> bool {
+) -> bool
+    requires { ⌜ length (now entries) ≡ 16 ⌝ }
+    ensures { λ r. ⌜ Readies old (usesOfBoth (usesByBoth inputs outputs sizes (managersIn (now (sheet .entry))))) (now (entries .entry)) (now (entries .exit)) r ⌝ }
+{
     if let OldEntries::Keep = old {
         return false;
     }

@@ -57,7 +57,9 @@ fn pdo_bits(sheet: &[u8], at: usize, kind: u8) -> u32
 }
 
 // The kind of PDO that counts for a sync manager of a usage: 0 on the CoE path, else its direction's.
-fn kind_for(coe: bool, usage: u8) -> u8 {
+fn kind_for(coe: bool, usage: u8) -> u8
+    ensures { λ r. ⌜ r ≡ kindFor «coe» usage ⌝ }
+{
     if coe {
         return 0;
     }
@@ -92,7 +94,10 @@ fn multiplier_at(multipliers: &[u8], i: usize) -> u8
 }
 
 // The exact bits of each sync manager with process data: over the PDOs that count, bits times multiplier.
-fn tally(sheet: &[u8], coe: bool, multipliers: &[u8]) -> [BitLen; 16] {
+fn tally(sheet: &[u8], coe: bool, multipliers: &[u8]) -> [BitLen; 16]
+    requires { ⌜ (length (now sheet) ≤ 16386) × (broken (now sheet) ≡ false) ⌝ }
+    ensures { λ r. ⌜ r ≡ bitsIn (now (sheet .entry)) «coe» (now (multipliers .entry)) ⌝ }
+{
     let mut sums = [BitLen(0); 16];
     let mut place = grammar::pdos_place(sheet);
     let mut i = 0;
@@ -113,7 +118,10 @@ fn tally(sheet: &[u8], coe: bool, multipliers: &[u8]) -> [BitLen; 16] {
 }
 
 // Those of the sync managers of a usage; 0 for any other.
-fn of_usage(sheet: &[u8], bits: [BitLen; 16], usage: u8) -> [BitLen; 16] {
+fn of_usage(sheet: &[u8], bits: [BitLen; 16], usage: u8) -> [BitLen; 16]
+    requires { ⌜ managerCount (now sheet) ≤ 16 ⌝ }
+    ensures { λ r. ⌜ r ≡ ofUsage (sheetData (now (sheet .entry)) .managers) usage bits ⌝ }
+{
     let mut out = [BitLen(0); 16];
     let n = sheet::front_count(sheet);
     let mut k = 0;
