@@ -311,6 +311,7 @@ fn lent_call(
     fmmus: &mut [u8],
     channels: &mut [u8],
 ) -> Called {
+    let mode = lent.mode;
     table::plan(
         sheet,
         table,
@@ -323,7 +324,7 @@ fn lent_call(
         Settings {
             group: 0,
             old: OldEntries::Clear,
-            mode: lent.mode,
+            mode,
             outputs: OutputStart::AfterInputs,
         },
     )
@@ -359,16 +360,21 @@ fn plan_once(sheet: &[u8], table: [Oversampling; 256], pairs: [FmmuPair; 256], l
     segments(answer)
 }
 
+// What a plan is lent of the request's table and pairs.
+fn lent_of(request: &[u8], mode: FmmuMode) -> Lent {
+    Lent {
+        records: parts::records(request),
+        count: parts::pair_count(request) as usize,
+        mode,
+    }
+}
+
 // The same plan over and over, for whoever counts its cost.
 pub fn again(request: &[u8], mode: FmmuMode) {
     let sheet = parts::sheet(request);
     let table = parts::table(request);
     let pairs = parts::pairs(request);
-    let lent = Lent {
-        records: parts::records(request),
-        count: parts::pair_count(request) as usize,
-        mode,
-    };
+    let lent = lent_of(request, mode);
     let mut last = say::one(say::NONE);
     let mut left = parts::number4(request, 4);
     while 0 < left {

@@ -5,8 +5,8 @@ use mathlib.Core.Path.{_≡_}
 use lib.ListN.{length}
 use borrow.Author.Needs.{needs}
 use native.Mathlib.Omega.{arith}
-use Rattle.probe.proofs.paired.mappings.Statement.{statement}
-use Rattle.probe.proofs.paired.mappings.Tie as tie
+use Rattle.probe.proofs.asked.mappings.Statement.{statement}
+use Rattle.probe.proofs.asked.mappings.Tie as tie
 
 abbrev Inv-loop : tie.InvT-loop
 Inv-loop request chosen entries k₀ k = (k ≤ 16) × (length entries ≡ 16)
