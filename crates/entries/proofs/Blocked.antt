@@ -15,6 +15,7 @@ use Rattle.sheet.specs.declared.SyncManager.{SyncManager}
 use Rattle.sheet.specs.Sheet.{managerCount, managerPlace, managerAt, managersIn}
 use Rattle.sheet.proofs.Managers.{front-manager, front-over}
 use Rattle.pdo.specs.declared.PdoDirection.{PdoDirection}
+use Rattle.pdo.specs.declared.PdoDirection.the-variants.{MasterRead, MasterWrite}
 use Rattle.pdo.specs.Direction.{usageOf}
 use Rattle.channels.specs.Channels.{sizeAt}
 use Rattle.passes.specs.declared.OldEntries.{OldEntries}
@@ -22,7 +23,7 @@ use Rattle.passes.specs.declared.OldEntries.the-variants.{Clear, Keep}
 use Rattle.passes.specs.declared.Route.{Route}
 use Rattle.passes.specs.Use.{Use}
 use Rattle.passes.specs.Handed.{usesBy, Short}
-use Rattle.passes.specs.Entries.{lengthNow, tooLong}
+use Rattle.passes.specs.Entries.{lengthNow, tooLong, usesOfBoth}
 use Rattle.passes.specs.Old.{clearedOfBoth, bothBits, someEnabled, inTheWay}
 use Rattle.passes.proofs.Cleared.{nil-off, zeros-all-off, none-used, cleared-at, length-off, cleared-short, from-zero, cleared-eight}
 use Rattle.entries.specs.Lay.{takesEntry, entryTaken}
@@ -88,14 +89,18 @@ module _ {sheet : List ℕ} {route : Route} {sizes : List ByteLen} {usage : ℕ}
         pub free-passed : on (getD es e []) ≡ false → NoneYet sheet route sizes usage es (k + 1)
         free-passed o = record { same = sym (ap (λ (b : Bool). b || enabledFrom sheet route sizes usage es (k + 1)) o) ∙ asked }
 
--- of both directions together: one of the one, or one of the other
-pub either-enabled : (us vs : List Use) (es : List (List ℕ)) → someEnabled (us ++ vs) es ≡ someEnabled us es || someEnabled vs es
-either-enabled [] vs es = refl
-either-enabled (u ∷ us) vs es = go (on (getD es (u .entry) [])) (either-enabled us vs es)
+-- of both directions together: one that the inputs use, else one that the outputs use
+of-two : (us vs : List Use) (es : List (List ℕ)) → someEnabled us es || someEnabled vs es ≡ someEnabled (us ++ vs) es
+of-two [] vs es = refl
+of-two (u ∷ us) vs es = go (on (getD es (u .entry) [])) (of-two us vs es)
   where
-    go : (b : Bool) → someEnabled (us ++ vs) es ≡ someEnabled us es || someEnabled vs es → b || someEnabled (us ++ vs) es ≡ (b || someEnabled us es) || someEnabled vs es
+    go : (b : Bool) → someEnabled us es || someEnabled vs es ≡ someEnabled (us ++ vs) es → (b || someEnabled us es) || someEnabled vs es ≡ b || someEnabled (us ++ vs) es
     go true e = refl
     go false e = e
+
+pub by-inputs :
+    (uses : PdoDirection → List Use) (es : List (List ℕ)) {b : Bool} → someEnabled (uses MasterRead) es ≡ b → b || someEnabled (uses MasterWrite) es ≡ someEnabled (usesOfBoth uses) es
+by-inputs uses es e = ap (λ (b : Bool). b || someEnabled (uses MasterWrite) es) (sym e) ∙ of-two (uses MasterRead) (uses MasterWrite) es
 
 -- clearing leaves as many
 pub cleared-many : {before after : List (List ℕ)} {enabled both : Bool} → Clears before after enabled both → length before ≡ 16 → length after ≡ 16

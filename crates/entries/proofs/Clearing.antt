@@ -53,11 +53,11 @@ module _ (e : List ℕ) where
   unfolding fieldsOf
   read-write = two-bits (getD e 11 0)
 
-  pub one-is : eqb (accessOf e) 1 || eqb (accessOf e) 2 ≡ carriesOne (fieldsOf e)
-  one-is = ap (λ (n : ℕ). eqb n 1 || eqb n 2) read-write ∙ by-number (fieldsOf e .«read_enable») (fieldsOf e .«write_enable») .0
+  pub one-is : {access : ℕ} → access ≡ accessOf e → eqb access 1 || eqb access 2 ≡ carriesOne (fieldsOf e)
+  one-is a = ap (λ (n : ℕ). eqb n 1 || eqb n 2) (a ∙ read-write) ∙ by-number (fieldsOf e .«read_enable») (fieldsOf e .«write_enable») .0
 
-  pub both-is : eqb (accessOf e) 3 ≡ carriesBoth (fieldsOf e)
-  both-is = ap (λ (n : ℕ). eqb n 3) read-write ∙ by-number (fieldsOf e .«read_enable») (fieldsOf e .«write_enable») .1
+  pub both-is : {access : ℕ} → access ≡ accessOf e → eqb access 3 ≡ carriesBoth (fieldsOf e)
+  both-is a = ap (λ (n : ℕ). eqb n 3) (a ∙ read-write) ∙ by-number (fieldsOf e .«read_enable») (fieldsOf e .«write_enable») .1
 
   -- of an enabled entry its bits decide whether it is old
   module _ (o : on e ≡ true) where
