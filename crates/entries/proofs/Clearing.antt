@@ -59,6 +59,9 @@ module _ (e : List ℕ) where
   pub both-is : {access : ℕ} → access ≡ accessOf e → eqb access 3 ≡ carriesBoth (fieldsOf e)
   both-is a = ap (λ (n : ℕ). eqb n 3) (a ∙ read-write) ∙ by-number (fieldsOf e .«read_enable») (fieldsOf e .«write_enable») .1
 
+  neither-old : isOld MasterRead (fieldsOf e) ≡ false → isOld MasterWrite (fieldsOf e) ≡ false → clearedOfBoth e ≡ e
+  neither-old p q = ap (cleared MasterWrite) (cleared-not MasterRead e p) ∙ cleared-not MasterWrite e q
+
   -- of an enabled entry its bits decide whether it is old
   module _ (o : on e ≡ true) where
     by-alone : (r : PdoDirection) {b : Bool} → carriesAlone r (fieldsOf e) ≡ b → isOld r (fieldsOf e) ≡ b
@@ -70,7 +73,7 @@ module _ (e : List ℕ) where
         go : (x y : Bool) → carriesAlone MasterRead (fieldsOf e) ≡ x → carriesAlone MasterWrite (fieldsOf e) ≡ y → clearedOfBoth e ≡ cond (x || y) (replicate 16 0) e
         go true y p q = ap (cleared MasterWrite) (cleared-old MasterRead e (by-alone MasterRead p)) ∙ cleared-off MasterWrite (replicate 16 0) zeros-off
         go false true p q = ap (cleared MasterWrite) (cleared-not MasterRead e (by-alone MasterRead p)) ∙ cleared-old MasterWrite e (by-alone MasterWrite q)
-        go false false p q = ap (cleared MasterWrite) (cleared-not MasterRead e (by-alone MasterRead p)) ∙ cleared-not MasterWrite e (by-alone MasterWrite q)
+        go false false p q = neither-old (by-alone MasterRead p) (by-alone MasterWrite q)
 
     -- what isn't enabled any more was an old one
     gone-not-both : on (clearedOfBoth e) ≡ false → bothBits e ≡ false
@@ -79,7 +82,7 @@ module _ (e : List ℕ) where
         go : (x y : Bool) → isOld MasterRead (fieldsOf e) ≡ x → isOld MasterWrite (fieldsOf e) ≡ y → bothBits e ≡ false
         go true y p q = old-not-both MasterRead e p
         go false true p q = old-not-both MasterWrite e q
-        go false false p q = absurd (true≢false (sym o ∙ ap on (sym (ap (cleared MasterWrite) (cleared-not MasterRead e p) ∙ cleared-not MasterWrite e q)) ∙ f))
+        go false false p q = absurd (true≢false (sym o ∙ ap on (sym (neither-old p q)) ∙ f))
 
   -- what is still enabled was none
   still-same : on (clearedOfBoth e) ≡ true → clearedOfBoth e ≡ e
