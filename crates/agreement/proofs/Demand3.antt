@@ -18,7 +18,6 @@ use Rattle.sheet.specs.Sheet.{sheetData}
 use Rattle.pdi.specs.declared.PdiSegment.{PdiSegment}
 use Rattle.pdo.specs.declared.PdoDirection.{PdoDirection}
 use Rattle.pdo.specs.declared.PdoDirection.the-variants.{MasterRead, MasterWrite}
-use Rattle.pdo.specs.Direction.{other}
 use Rattle.pdo.specs.Bits.{piecesOf}
 use Rattle.area.specs.Area.{entriesOf}
 use Rattle.area.proofs.Flat.{length-chunks}
@@ -37,12 +36,11 @@ use Rattle.translation.specs.Translate.{says, firstSaid, orNone, translate}
 use Rattle.counting.specs.Count.{spotIn, deviceAlone, countRefusals, count}
 use Rattle.agreement.specs.Agreement.{EveryDisabled, Needs, Lent, weights, choice, callOf, Accepted, EndToEnd, laidBy, startedAt, counted, Agree, Demand3, Demand3Clean, Demand3FromDisabled, Demand3InReach}
 use Rattle.agreement.proofs.Basics.{none-accepted, each-map, each-of, each-parts, either}
-use Rattle.agreement.proofs.Straight.{lay, Apart, Lays, apart-flip}
+use Rattle.agreement.proofs.Straight.{lay, Apart, Lays}
 use Rattle.agreement.proofs.Step.{off-silent}
 use Rattle.agreement.proofs.Run.{Start, clean-start, Alike, agree-iff, none-odd, other-after, other-before}
-use Rattle.agreement.proofs.Uses.{spot-lay, count-lay, Sane, sane, apart}
-use Rattle.agreement.proofs.Told.{answered, Told, told}
-use Rattle.agreement.proofs.Sheets.{bounded}
+use Rattle.agreement.proofs.Uses.{spot-lay, count-lay, Sane}
+use Rattle.agreement.proofs.Told.{answered, Told, told, sane-uses, apart-uses}
 
 -- a direction's wanted sync managers, the empty ones too, and their rounded bytes
 abbrev pub ownBy : List ℕ → PdoDirection → Lent → List Use
@@ -89,11 +87,8 @@ needed-start Keep r us area n free = disabled-start r us area n
 
 -- so what is needed to lay the sync managers of a direction, and what counting answers
 module _ (sheet : List ℕ) (bytes : Bytes sheet) (l : Lent) (area after : List ℕ) (f : Facts sheet l area after) where
-  pub sane-uses : (r : PdoDirection) → Sane (laidBy sheet r l)
-  sane-uses r = sane (sheetData sheet) (bounded sheet bytes (f .sheet-kept)) (weights sheet l) r (l .settings .mode) (choice l) (f .pairs) (f .entry r)
-
-  pub apart-of : (r : PdoDirection) → Apart (laidBy sheet r l) (laidBy sheet (other r) l)
-  apart-of r = apart (sheetData sheet) (bounded sheet bytes (f .sheet-kept)) (weights sheet l) r (l .settings .mode) (choice l) (f .pairs) (f .entry r)
+  sane-of : (r : PdoDirection) → Sane (laidBy sheet r l)
+  sane-of r = sane-uses sheet (weights sheet l) bytes (choice l) (l .offsets) (l .settings) area after f r
 
   both-fit : (k : ℕ) → k < 16 → totalOn k (laidBy sheet MasterRead l) + totalOn k (laidBy sheet MasterWrite l) ≤ 65535
   unfolding tooLong
@@ -111,15 +106,15 @@ module _ (sheet : List ℕ) (bytes : Bytes sheet) (l : Lent) (area after : List 
   pub lays : (r : PdoDirection) → Lays (startedAt sheet r l) (laidBy sheet r l)
   lays r =
       record {
-        grouped = sane-uses r .grouped;
-        places = sane-uses r .places;
-        addresses = sane-uses r .addresses;
+        grouped = sane-of r .grouped;
+        places = sane-of r .places;
+        addresses = sane-of r .addresses;
         room =
             each-map
             (λ (v : Use). v .entry < 16)
             (λ (v : Use). totalOn (v .entry) (laidBy sheet r l) ≤ 65535)
             (λ v h. room-on r (v .entry) h)
-            (laidBy sheet r l) (sane-uses r .places);
+            (laidBy sheet r l) (sane-of r .places);
         ends =
             let h = ltb-false 4294967295 (startedAt sheet r l + rangeSize sheet r l) (f .end r) in
             let z = uses-total (sheetData sheet) (weights sheet l) r (l .settings .mode) (choice l) in
@@ -172,6 +167,9 @@ module _ (sheet : List ℕ) (bytes : Bytes sheet) (l : Lent) (area after : List 
   abbrev inputsLaid : List (List ℕ)
   inputsLaid = plan MasterRead (startedAt sheet MasterRead l) us (begun l area)
 
+  away : Apart vs us
+  away = apart-uses sheet (weights sheet l) bytes (choice l) (l .offsets) (l .settings) area after f MasterWrite
+
   pub among : (r : PdoDirection) → Among sheet r l after
   among MasterRead =
       record {
@@ -182,15 +180,15 @@ module _ (sheet : List ℕ) (bytes : Bytes sheet) (l : Lent) (area after : List 
         alike =
             subst (λ (es : List (List ℕ)). Alike MasterRead es inputsLaid) (sym (f .leaves))
             (other-after MasterRead (startedAt sheet MasterRead l) (startedAt sheet MasterWrite l) us vs (begun l area) (begun-start MasterRead)
-            (apart-of sheet bytes l area after f MasterWrite) (sane-uses sheet bytes l area after f MasterWrite .places));
+            away (sane-of sheet bytes l area after f MasterWrite .places));
         counts = counted-lay sheet bytes l area after f MasterRead;
       }
   among MasterWrite =
       record {
         before = inputsLaid;
         start =
-            other-before MasterWrite (startedAt sheet MasterRead l) us (begun l area) (begun-start MasterRead .sixteen) (sane-uses sheet bytes l area after f MasterRead .places) vs
-            (begun-start MasterWrite) (apart-of sheet bytes l area after f MasterWrite);
+            other-before MasterWrite (startedAt sheet MasterRead l) us (begun l area) (begun-start MasterRead .sixteen) (sane-of sheet bytes l area after f MasterRead .places) vs
+            (begun-start MasterWrite) away;
         lays = lays sheet bytes l area after f MasterWrite;
         long = f .after-long;
         alike = record { says-same = λ a. ap (map (says MasterWrite a)) (f .leaves); odd-same = rw (f .leaves) refl };

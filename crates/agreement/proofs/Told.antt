@@ -7,6 +7,7 @@ use Prim.Native.Nat.{ℕ}
 use lib.Dec.{eqb}
 use lib.ListN.{length}
 use borrow.Author.Tests.{eqb-true, not-false}
+use Rattle.wire.specs.Image.{Bytes}
 use Rattle.wire.specs.Outcome.{Outcome, refused, accepted}
 use Rattle.wire.proofs.Lists.{or-none}
 use Rattle.wire.proofs.Order.{never}
@@ -16,6 +17,7 @@ use Rattle.sheet.specs.Sheet.{sheetData}
 use Rattle.sheet.proofs.Kept.{Accepts, accepts}
 use Rattle.pdo.specs.declared.PdoDirection.{PdoDirection}
 use Rattle.pdo.specs.declared.PdoDirection.the-variants.{MasterRead, MasterWrite}
+use Rattle.pdo.specs.Direction.{other}
 use Rattle.area.specs.Area.{entriesOf, flat, notEntries, notChannels}
 use Rattle.passes.specs.declared.Chosen.{Chosen}
 use Rattle.passes.specs.declared.Offsets.{Offsets}
@@ -29,6 +31,9 @@ use Rattle.passes.specs.Entries.{plan, planBoth, tooLong, usesOfBoth}
 use Rattle.passes.specs.Pass.{someTooMany, noEntry}
 use Rattle.passes.specs.Call.{usesFor, startsAt, callRefusals, bothOf, call, entriesAfter}
 use Rattle.agreement.proofs.Basics.{accepted-none, NoneHolds}
+use Rattle.agreement.proofs.Straight.{Apart}
+use Rattle.agreement.proofs.Uses.{Sane, sane, apart}
+use Rattle.agreement.proofs.Sheets.{bounded}
 use Rattle.area.proofs.Flat.{Sixteen, sixteen-of, flat-bytes, flat-entries}
 use Rattle.passes.proofs.Kept.{sixteen-planned}
 use Rattle.passes.proofs.Cleared.{sixteen-begun}
@@ -103,3 +108,11 @@ told sheet ws k o settings area channels after b says leaves =
       after-long = ap length left ∙ flat-bytes 16 16 es sixteen;
       leaves = ap (entriesOf 16) left ∙ flat-entries 16 es sixteen;
     }
+
+-- so the uses of each direction can be laid, and share no entry
+module _ (sheet ws : List ℕ) (bytes : Bytes sheet) (k : Chosen) (o : Offsets) (settings : Settings) (area after : List ℕ) (t : Told sheet ws k o settings area after) where
+  pub sane-uses : (r : PdoDirection) → Sane (usesFor settings k (sheetData sheet) ws r)
+  sane-uses r = sane (sheetData sheet) (bounded sheet bytes (t .sheet-kept)) ws r (settings .mode) k (t .pairs) (t .entry r)
+
+  pub apart-uses : (r : PdoDirection) → Apart (usesFor settings k (sheetData sheet) ws r) (usesFor settings k (sheetData sheet) ws (other r))
+  apart-uses r = apart (sheetData sheet) (bounded sheet bytes (t .sheet-kept)) ws r (settings .mode) k (t .pairs) (t .entry r)
