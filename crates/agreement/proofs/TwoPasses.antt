@@ -70,7 +70,7 @@ module _ (r s : PdoDirection) where
   use-past q p v [] area f = refl
   use-past q p v (u ∷ us) area f = use-past (q + u .size) p v us (withUse r q u area) (f .1) ∙ ap (plan r (q + u .size) us) (use-swap q p u v area (f .0))
 
-  plan-swap : (q p : ℕ) (us vs : List Use) (area : List (List ℕ)) → Apart vs us → plan r q us (plan s p vs area) ≡ plan s p vs (plan r q us area)
+  pub plan-swap : (q p : ℕ) (us vs : List Use) (area : List (List ℕ)) → Apart vs us → plan r q us (plan s p vs area) ≡ plan s p vs (plan r q us area)
   unfolding plan
   plan-swap q p us [] area a = refl
   plan-swap q p us (v ∷ vs) area a = plan-swap q (p + v .size) us vs (withUse s p v area) (a .1) ∙ ap (plan s (p + v .size) vs) (sym (use-past q p v us area (a .0)))
