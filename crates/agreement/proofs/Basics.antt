@@ -2,7 +2,7 @@
 -- Assumes nothing.
 use mathlib.Core.Path.{_≡_, refl, sym, _∙_, ap}
 use mathlib.Core.Bool.{Bool, true, false, _||_}
-use mathlib.Core.List.{List, [], _∷_, map}
+use mathlib.Core.List.{List, [], _∷_, _++_, map}
 use mathlib.Core.Logic.{_⊎_, inl, inr}
 use mathlib.Core.Option.{Option, none, some}
 use Prim.Native.Nat.{ℕ, zero, suc, _+_, _≤_, _<_}
@@ -64,6 +64,11 @@ each-map P Q f (x ∷ xs) e = (f x (e .0), each-map P Q f xs (e .1))
 pub each-of : {A : Type 0} (P : A → Type 0) → ((x : A) → P x) → (l : List A) → Each P l
 each-of P f [] = tt
 each-of P f (x ∷ xs) = (f x, each-of P f xs)
+
+-- what each of two lists together has, each of either has
+pub each-parts : {A : Type 0} (P : A → Type 0) (l m : List A) → Each P (l ++ m) → Each P l × Each P m
+each-parts P [] m e = (tt, e)
+each-parts P (x ∷ xs) m e = let s = each-parts P xs m (e .1) in ((e .0, s .0), s .1)
 
 -- where nothing is said; where the new one alone says something; and who said what was said
 pub first-none : {A B : Type 0} (f : A → Option B) (l : List A) (z : A) → ((k : ℕ) → f (getD l k z) ≡ none) → firstSaid (map f l) ≡ none

@@ -1,5 +1,5 @@
--- What follows: translation is never refused, the second pass leaves the first's entries alone, every address of an end-to-end range is named by an entry.
--- By default on every area; keeping, from disabled entries.
+-- What follows: translation is never refused, either direction's entries are as if the other weren't, every address of an end-to-end range is named by an entry: by
+-- default on every area; keeping, from disabled entries. And a refused call leaves all that it was lent.
 -- Assumes nothing.
 use mathlib.Core.Path.{_≡_, refl, sym, _∙_, ap, subst}
 use mathlib.Core.Bool.{true, false}
@@ -10,80 +10,72 @@ use Prim.Native.Nat.{ℕ, _+_, _-_, _≤_, _<_}
 use native.Mathlib.Omega.{arith}
 use lib.Dec.{ltb}
 use lib.ListN.{length, getD}
-use borrow.Author.Tests.{ltb-true, ltb-false, eq-eqb}
+use borrow.Author.Tests.{ltb-true, ltb-false}
 use Rattle.wire.specs.Image.{Bytes}
-use Rattle.wire.specs.Outcome.{refused, accepted}
+use Rattle.wire.specs.Outcome.{Outcome, refused, accepted}
 use Rattle.wire.proofs.Order.{never}
 use Rattle.wire.specs.Lists.{Each}
-use Rattle.wire.proofs.Lists.{each-both}
-use Rattle.fmmu.specs.Image.{fieldsOf}
 use Rattle.sheet.specs.Sheet.{sheetData}
 use Rattle.pdo.specs.declared.PdoDirection.{PdoDirection}
+use Rattle.pdo.specs.declared.PdoDirection.the-variants.{MasterRead, MasterWrite}
 use Rattle.pdo.specs.Direction.{other}
-use Rattle.passes.specs.Use.{Use, total}
 use Rattle.area.specs.Area.{entriesOf}
-use Rattle.translation.specs.Translate.{named, says, firstSaid, orNone, translate}
-use Rattle.agreement.specs.Agreement.{Needs, Lent, weights, TwoPasses, EndToEnd, laidBy, choice, counted}
-use Rattle.translation.proofs.Lies.{inside, behind}
-use Rattle.agreement.proofs.Basics.{either, said-by}
-use Rattle.agreement.proofs.Straight.{lay, Fresh, straight-same, straight-iff}
-use Rattle.agreement.proofs.Run.{said, plan-leaves}
-use Rattle.passes.proofs.Pieces.{uses-total}
 use Rattle.area.proofs.Flat.{length-chunks}
-use Rattle.passes.proofs.Cleared.{cleared-not}
-use Rattle.agreement.proofs.Clean.{old-not-other, begun-at}
-use Rattle.agreement.proofs.Left.{Ours, laid-left}
-use Rattle.agreement.proofs.Demand3.{one, two, rangeSize, begun, Facts, sane-uses, ChoseOf, chose-of, apart-of, first-start, among, translated, other-unseen}
+use Rattle.passes.specs.declared.Offsets.{Offsets}
+use Rattle.passes.specs.declared.Segments.the-variants as segments
+use Rattle.passes.specs.Use.{Use, total}
+use Rattle.passes.specs.Start.{Both, segmentsAlone, segmentsOf, offsetsAfter}
+use Rattle.passes.specs.Entries.{plan}
+use Rattle.passes.specs.Call.{call, entriesAfter, imagesAfter}
+use Rattle.passes.proofs.Pieces.{uses-total}
+use Rattle.translation.specs.Translate.{named, says, firstSaid, orNone, translate}
+use Rattle.translation.proofs.Lies.{inside, behind}
+use Rattle.agreement.specs.Agreement.{Needs, Lent, weights, choice, Accepted, EndToEnd, laidBy, startedAt, counted}
+use Rattle.agreement.specs.Clean.{RefusedLeaves}
+use Rattle.agreement.proofs.Basics.{either, each-map, said-by}
+use Rattle.agreement.proofs.Straight.{lay, Fresh, Apart, straight-same, straight-iff}
+use Rattle.agreement.proofs.Run.{said, plan-leaves}
+use Rattle.agreement.proofs.Told.{apart-uses}
+use Rattle.agreement.proofs.TwoPasses.{plan-swap}
+use Rattle.agreement.proofs.Demand3.{rangeSize, begun, Facts, facts, among, translated}
 
--- after two such passes translation is never refused, neither with 11 nor with 1
-pub never-eleven : (sheet : List ℕ) (lent : PdoDirection → Lent) (first : PdoDirection) (area after : List ℕ) → Bytes sheet
-    → TwoPasses sheet lent first area after → (r : PdoDirection) → Needs (lent r .settings .old) area → (a n : ℕ) → translate r after a ≡ refused n → ⊥
-never-eleven sheet lent first area after bytes p r h a n e = never (sym e ∙ translated sheet r (lent r) after (among sheet bytes lent area after first p r h) a)
+-- after such a call translation is never refused, neither with 11 nor with 1
+pub never-eleven : (sheet : List ℕ) (l : Lent) (area after : List ℕ) → Bytes sheet
+    → Accepted sheet l area after → Needs (l .settings .old) area → (r : PdoDirection) (a n : ℕ) → translate r after a ≡ refused n → ⊥
+never-eleven sheet l area after bytes p h r a n e = never (sym e ∙ translated sheet r l after (among sheet bytes l area after h (facts sheet l area after p) r) a)
 
--- the second pass leaves the first direction's entries alone: the bytes of each, and what translation says
-pub record LeftAlone (sheet : List ℕ) (r : PdoDirection) (l : Lent) (between after : List ℕ) : Type 0 where
-  pub entries : Each (λ (u : Use). getD (entriesOf 16 after) (u .entry) [] ≡ getD (entriesOf 16 between) (u .entry) []) (laidBy sheet r l)
-  pub answers : (a : ℕ) → translate r after a ≡ translate r between a
+-- the entries that a direction uses hold what it laid there, as if the other direction weren't
+module _ (sheet : List ℕ) (bytes : Bytes sheet) (l : Lent) (area after : List ℕ) (p : Accepted sheet l area after) where
+  abbrev laidAlone : PdoDirection → List (List ℕ)
+  laidAlone r = plan r (startedAt sheet r l) (laidBy sheet r l) (begun l area)
 
-module _ (sheet : List ℕ) (bytes : Bytes sheet) (r : PdoDirection) (l m : Lent) (how : ChoseOf sheet l m) (area between after : List ℕ) (needs : Needs (l .settings .old) area)
-    (f : Facts sheet r l area between) (g : Facts sheet (other r) m between after) where
-  abbrev us : List Use
-  us = laidBy sheet r l
+  f : Facts sheet l area after
+  f = facts sheet l area after p
 
-  -- what the first laid carries its own bit alone, so the second doesn't clear it
-  own-laid : Each (λ (u : Use). Ours r (getD (entriesOf 16 between) (u .entry) [])) us
-  own-laid =
-      let t = first-start sheet bytes r l area needs between f in
-      let places = sane-uses sheet bytes r l area between f .places in
-      subst (λ (es : List (List ℕ)). Each (λ (u : Use). Ours r (getD es (u .entry) [])) us) (sym (f .leaves))
-      (laid-left r (l .offset) us (begun r l area) (subst (λ (n : ℕ). Each (λ (u : Use). u .entry < n) us) (sym (t .sixteen)) places) (t .off))
+  away : (r : PdoDirection) → Apart (laidBy sheet r l) (laidBy sheet (other r) l)
+  away r = apart-uses sheet (weights sheet l) bytes (choice l) (l .offsets) (l .settings) area after f r
 
-  left-entry : (k : ℕ) → Fresh k (laidBy sheet (other r) m) → Ours r (getD (entriesOf 16 between) k []) → getD (entriesOf 16 after) k [] ≡ getD (entriesOf 16 between) k []
-  left-entry k away h =
-      let e = getD (entriesOf 16 between) k [] in
-      ap (λ (es : List (List ℕ)). getD es k []) (g .leaves)
-      ∙ plan-leaves (other r) (m .offset) (laidBy sheet (other r) m) (begun (other r) m between) k away
-      ∙ begun-at (m .settings .old) (other r) (entriesOf 16 between) k (λ x. x ≡ e) refl (cleared-not (other r) e (old-not-other r (fieldsOf e) h))
+  -- what was laid last
+  laid-last : (r : PdoDirection) → entriesOf 16 after ≡ plan (other r) (startedAt sheet (other r) l) (laidBy sheet (other r) l) (laidAlone r)
+  laid-last MasterRead = f .leaves
+  laid-last MasterWrite =
+      f .leaves
+      ∙ sym (plan-swap MasterRead MasterWrite (startedAt sheet MasterRead l) (startedAt sheet MasterWrite l) (laidBy sheet MasterRead l) (laidBy sheet MasterWrite l) (begun l area) (away MasterWrite))
 
-  left-alone : LeftAlone sheet r l between after
-  unfolding translate
-  left-alone =
-      let s = other-unseen sheet bytes r l area needs m how between after f g in
-      record {
-        entries =
-            each-both (λ (u : Use). Fresh (u .entry) (laidBy sheet (other r) m)) (λ (u : Use). Ours r (getD (entriesOf 16 between) (u .entry) []))
-            (λ (u : Use). getD (entriesOf 16 after) (u .entry) [] ≡ getD (entriesOf 16 between) (u .entry) [])
-            (λ u h o. left-entry (u .entry) h o)
-            us (apart-of sheet bytes r l m how area between f) own-laid;
-        answers = λ a. rw (eq-eqb (length after) 256 (g .after-long), eq-eqb (length between) 256 (f .after-long), s .odd-same, s .says-same a, f .leaves) refl;
-      }
+  pub left-alone : (r : PdoDirection) → Each (λ (u : Use). getD (entriesOf 16 after) (u .entry) [] ≡ getD (laidAlone r) (u .entry) []) (laidBy sheet r l)
+  left-alone r =
+      each-map (λ (u : Use). Fresh (u .entry) (laidBy sheet (other r) l)) (λ (u : Use). getD (entriesOf 16 after) (u .entry) [] ≡ getD (laidAlone r) (u .entry) [])
+      (λ u h. ap (λ (es : List (List ℕ)). getD es (u .entry) []) (laid-last r) ∙ plan-leaves (other r) (startedAt sheet (other r) l) (laidBy sheet (other r) l) (laidAlone r) (u .entry) h)
+      (laidBy sheet r l) (away r)
 
-pub other-left-alone : (sheet : List ℕ) (lent : PdoDirection → Lent) (first : PdoDirection) (area after : List ℕ) → Bytes sheet
-    → (p : TwoPasses sheet lent first area after) → Needs (lent first .settings .old) area → LeftAlone sheet first (lent first) (p .between) after
-other-left-alone sheet lent first area after bytes p needs =
-    left-alone sheet bytes first (lent first) (lent (other first)) (chose-of sheet lent (p .together) first) area (p .between) after needs
-    (one sheet bytes lent area after first p)
-    (two sheet bytes lent area after first p)
+-- a refused call leaves both offsets and both areas
+pub refused-leaves : RefusedLeaves
+refused-leaves sheet ws c o settings fmmus channels n p f g k = go (call sheet ws c o settings fmmus channels) (k .says) (k .moves) (k .entries) (k .images)
+  where
+    go : (x : Outcome Both) → segmentsOf (segments.Refused n) ≡ segmentsAlone x → p ≡ offsetsAfter x o → f ≡ entriesAfter x (sheetData sheet) ws c o settings fmmus
+        → g ≡ imagesAfter x (sheetData sheet) ws channels → _≡_ {A = Offsets × List ℕ × List ℕ} (p, f, g) (o, fmmus, channels)
+    go (refused m) says moves entries images = λ i. (moves i, entries i, images i)
+    go (accepted b) says moves entries images = absurd (never says)
 
 -- laying names something at every address of its range
 record Laid (q : ℕ) (us : List Use) (a : ℕ) : Type 0 where
@@ -107,22 +99,22 @@ pub record NamedBy (sheet : List ℕ) (r : PdoDirection) (l : Lent) (area : List
   pub says-it : says r a (getD (entriesOf 16 area) entry []) ≡ some answer
   pub counts-it : counted sheet r l a ≡ accepted answer
 
-pub every-address-named : (sheet : List ℕ) (lent : PdoDirection → Lent) (first : PdoDirection) (area after : List ℕ) → Bytes sheet
-    → TwoPasses sheet lent first area after → (r : PdoDirection) → Needs (lent r .settings .old) area → EndToEnd (laidBy sheet r (lent r))
-    → (a : ℕ) → lent r .offset ≤ a → a < lent r .offset + rangeSize sheet r (lent r) → NamedBy sheet r (lent r) after a
-every-address-named sheet lent first area after bytes p r needs e a h g =
-    let us = laidBy sheet r (lent r) in
-    let q = lent r .offset in
-    let t = among sheet bytes lent area after first p r needs in
-    let z : total us ≡ rangeSize sheet r (lent r) = uses-total (sheetData sheet) (weights sheet (lent r)) r (lent r .settings .mode) (choice (lent r)) in
-    let l = laid-inside q a us h (omega arith) in
+pub every-address-named : (sheet : List ℕ) (l : Lent) (area after : List ℕ) → Bytes sheet
+    → Accepted sheet l area after → Needs (l .settings .old) area → (r : PdoDirection) → EndToEnd (laidBy sheet r l)
+    → (a : ℕ) → startedAt sheet r l ≤ a → a < startedAt sheet r l + rangeSize sheet r l → NamedBy sheet r l after a
+every-address-named sheet l area after bytes p needs r e a h g =
+    let us = laidBy sheet r l in
+    let q = startedAt sheet r l in
+    let t = among sheet bytes l area after needs (facts sheet l area after p) r in
+    let z : total us ≡ rangeSize sheet r l = uses-total (sheetData sheet) (weights sheet l) r (l .settings .mode) (choice l) in
+    let x = laid-inside q a us h (omega arith) in
     let s = straight-same 16 0 q a us (straight-iff us (t .lays .places) (t .lays .grouped) .1 e) in
-    let w = said-by (says r a) (entriesOf 16 after) [] (l .answer) (ap firstSaid (t .alike .says-same a) ∙ said r q us (t .before) (t .lays) (t .start) a ∙ sym s ∙ l .is) in
+    let w = said-by (says r a) (entriesOf 16 after) [] (x .answer) (ap firstSaid (t .alike .says-same a) ∙ said r q us (t .before) (t .lays) (t .start) a ∙ sym s ∙ x .is) in
     let n : length (entriesOf 16 after) ≡ 16 = length-chunks 16 16 after in
     record {
       entry = w .place;
       there = subst (λ (m : ℕ). w .place < m) n (w .there);
-      answer = l .answer;
+      answer = x .answer;
       says-it = w .said;
-      counts-it = t .counts a ∙ ap (λ (x : Option (Option ℕ)). accepted (orNone x)) (l .is);
+      counts-it = t .counts a ∙ ap (λ (y : Option (Option ℕ)). accepted (orNone y)) (x .is);
     }

@@ -1,6 +1,6 @@
--- Wrong planners on nonempty data: a pass that writes nothing, one that clears alone, one that pretends in the second direction, one that invents its
+-- Wrong planners on nonempty data: a call that writes nothing, one that clears alone, one that lays one direction and pretends in the other, one that invents its
 -- sizes. Over the bytes that each leaves, translating and counting disagree. Where the direction's sync managers lie end to end that contradicts demand 3
--- (`contradicts`); where they don't, demand 3 has the two disagree anyhow, and it is the pass's own promise that such a planner breaks.
+-- (`contradicts`); where they don't, demand 3 has the two disagree anyhow, and it is the call's own promise that such a planner breaks.
 -- Assumes nothing.
 use mathlib.Core.Path.{_≡_, refl, sym, _∙_, ap, subst}
 use mathlib.Core.Bool.{true, false}
@@ -25,19 +25,19 @@ use Rattle.passes.specs.declared.OldEntries.the-variants as old
 use Rattle.passes.specs.Old.{inTheWay}
 use Rattle.passes.specs.Entries.{plan}
 use Rattle.translation.specs.Translate.{says, odd, orNone, translate}
-use Rattle.agreement.specs.Agreement.{EveryDisabled, Lent, weights, Accepted, TwoPasses, EndToEnd, laidBy, choice, Agree, InReach}
+use Rattle.agreement.specs.Agreement.{EveryDisabled, Needs, Lent, weights, choice, Accepted, EndToEnd, laidBy, startedAt, Agree, InReach}
+use Rattle.agreement.specs.Clean.{zeroed}
 use Rattle.translation.proofs.Lies.{inside, behind}
+use Rattle.area.proofs.Flat.{length-chunks, sixteen-of, flat-bytes, flat-entries}
+use Rattle.passes.proofs.Pieces.{uses-total}
+use Rattle.passes.proofs.Kept.{sixteen-planned}
+use Rattle.passes.proofs.Cleared.{sixteen-begun}
 use Rattle.agreement.proofs.Basics.{either, first-none, none-at, never-none}
 use Rattle.agreement.proofs.Straight.{lay, Lays, goOn, goOn-total, lay-behind}
 use Rattle.agreement.proofs.Step.{Silent, off-silent, says-silent, odd-silent}
 use Rattle.agreement.proofs.Run.{clean-start, said, none-odd, other-silents}
-use Rattle.passes.proofs.Pieces.{uses-total}
-use Rattle.area.proofs.Flat.{length-chunks}
-use Rattle.area.proofs.Flat.{sixteen-of, flat-bytes, flat-entries}
-use Rattle.passes.proofs.Kept.{sixteen-planned}
-use Rattle.agreement.specs.Clean.{zeroed}
 use Rattle.agreement.proofs.AsKeeping.{zeroed-long, zeroed-entries}
-use Rattle.agreement.proofs.Demand3.{one-of-two, two, ownBy, rangeSize, Facts, facts, sane-uses, lays, counted-own, counted-lay, disabled-off, disabled-start}
+use Rattle.agreement.proofs.Demand3.{ownBy, rangeSize, laidByBoth, begun, Facts, facts, lays, counted-own, counted-lay, begun-start, disabled-off, disabled-start}
 
 -- end to end, bytes on which the two disagree are none of which demand 3 holds
 pub contradicts : (sheet : List ℕ) (r : PdoDirection) (l : Lent) (area : List ℕ) → EndToEnd (laidBy sheet r l)
@@ -95,13 +95,14 @@ found-last q (u ∷ us) b h = go (either (ltb 0 (total us))) (found-last (q + u 
         (found-here q u us (u .size - 1) (omega arith) (omega arith), omega arith)
 
 -- entries of no weight for a direction name nothing: on nonempty data that isn't what counting names
-module _ (sheet : List ℕ) (bytes : Bytes sheet) (r : PdoDirection) (l : Lent) (area after : List ℕ) (f : Facts sheet r l area after) where
+module _ (sheet : List ℕ) (bytes : Bytes sheet) (r : PdoDirection) (l : Lent) (area after : List ℕ) (f : Facts sheet l area after) where
   silent-disagrees : (final : List ℕ) → length final ≡ 256 → ((k : ℕ) → Silent r (getD (entriesOf 16 final) k [])) → 0 < rangeSize sheet r l → Agree sheet r l final → ⊥
   unfolding translate
   silent-disagrees final long silents h agree =
+      let q = startedAt sheet r l in
       let z : total (laidBy sheet r l) ≡ rangeSize sheet r l = uses-total (sheetData sheet) (weights sheet l) r (l .settings .mode) (choice l) in
-      let y = lays sheet bytes r l area after f in
-      let s = found-first (l .offset) (laidBy sheet r l) (y .addresses) (omega arith) in
+      let y = lays sheet bytes l area after f r in
+      let s = found-first q (laidBy sheet r l) (y .addresses) (omega arith) in
       let ends = y .ends in
       let there = s .there in
       let nothing : translate r final (s .at) ≡ accepted none =
@@ -111,44 +112,40 @@ module _ (sheet : List ℕ) (bytes : Bytes sheet) (r : PdoDirection) (l : Lent) 
         first-none (says r (s .at)) (entriesOf 16 final) [] (λ k. says-silent r (s .at) _ (silents k)),
       )
       refl in
-      let e : accepted none ≡ accepted (orNone (lay (l .offset) (laidBy sheet r l) (s .at))) = sym nothing ∙ agree (s .at) (omega arith) ∙ counted-lay sheet bytes r l area after f (s .at) in
-      let n : orNone (lay (l .offset) (laidBy sheet r l) (s .at)) ≡ none = cc in
+      let e : accepted none ≡ accepted (orNone (lay q (laidBy sheet r l) (s .at))) = sym nothing ∙ agree (s .at) (omega arith) ∙ counted-lay sheet bytes l area after f r (s .at) in
+      let n : orNone (lay q (laidBy sheet r l) (s .at)) ≡ none = cc in
       never-none (sym (s .is) ∙ n)
 
--- a pass that is accepted and writes nothing: they disagree over the area as it was
-pub writes-nothing : (sheet : List ℕ) → Bytes sheet → (r : PdoDirection) (l : Lent) (area after : List ℕ) → Accepted sheet r l area after
+-- a call that is accepted and writes nothing: they disagree over the area as it was
+pub writes-nothing : (sheet : List ℕ) → Bytes sheet → (r : PdoDirection) (l : Lent) (area after : List ℕ) → Accepted sheet l area after
     → EveryDisabled area → 0 < rangeSize sheet r l → Agree sheet r l area → ⊥
 writes-nothing sheet bytes r l area after p d =
-    let f = facts sheet r l area after p in
+    let f = facts sheet l area after p in
     silent-disagrees sheet bytes r l area after f area (f .long) (λ k. off-silent r _ (disabled-off area d k))
 
 -- one that clears old entries, as the default asks, and lays nothing: over any area
-pub clears-alone : (sheet : List ℕ) → Bytes sheet → (r : PdoDirection) (l : Lent) (area after : List ℕ) → Accepted sheet r l area after
-    → l .settings .old ≡ old.Clear → 0 < rangeSize sheet r l → Agree sheet r l (zeroed r area) → ⊥
+pub clears-alone : (sheet : List ℕ) → Bytes sheet → (r : PdoDirection) (l : Lent) (area after : List ℕ) → Accepted sheet l area after
+    → l .settings .old ≡ old.Clear → 0 < rangeSize sheet r l → Agree sheet r l (zeroed area) → ⊥
 clears-alone sheet bytes r l area after p clean =
-    let f = facts sheet r l area after p in
-    let free = subst (λ (o : OldEntries). inTheWay o r (laidBy sheet r l) (entriesOf 16 area) ≡ false) clean (f .free) in
-    let t = clean-start r (laidBy sheet r l) (entriesOf 16 area) (length-chunks 16 16 area) free in
-    silent-disagrees sheet bytes r l area after f (zeroed r area) (zeroed-long r area (f .long))
-    (subst (λ (es : List (List ℕ)). (k : ℕ) → Silent r (getD es k [])) (sym (zeroed-entries r area (f .long))) (t .silents))
+    let f = facts sheet l area after p in
+    let free = subst (λ (o : OldEntries). inTheWay o (laidByBoth sheet l) (entriesOf 16 area) ≡ false) clean (f .free) in
+    let t = clean-start r (laidByBoth sheet l) (entriesOf 16 area) (length-chunks 16 16 area) free in
+    silent-disagrees sheet bytes r l area after f (zeroed area) (zeroed-long area (f .long))
+    (subst (λ (es : List (List ℕ)). (k : ℕ) → Silent r (getD es k [])) (sym (zeroed-entries area (f .long))) (t .silents))
 
--- one that maps the first direction and pretends in the second: over what the first left
-pretends-second : (sheet : List ℕ) → Bytes sheet → (r : PdoDirection) (l m : Lent) (area between after : List ℕ) → EveryDisabled area
-    → Facts sheet (other r) m area between → Facts sheet r l between after → 0 < rangeSize sheet r l → Agree sheet r l between → ⊥
-pretends-second sheet bytes r l m area between after d g f =
-    silent-disagrees sheet bytes r l between after f between (f .long)
-    (subst (λ (es : List (List ℕ)). (k : ℕ) → Silent r (getD es k [])) (sym (g .leaves))
-    (other-silents (m .settings .old) r (m .offset) (laidBy sheet (other r) m) (entriesOf 16 area) (length-chunks 16 16 area)
-    (sane-uses sheet bytes (other r) m area between g .places)
-    (λ k. off-silent r _ (disabled-off area d k))))
-
-pub pretends : (sheet : List ℕ) (lent : PdoDirection → Lent) (first : PdoDirection) (area after : List ℕ) → Bytes sheet
-    → (p : TwoPasses sheet lent first area after) → EveryDisabled area → 0 < rangeSize sheet (other first) (lent (other first))
-    → Agree sheet (other first) (lent (other first)) (p .between) → ⊥
-pretends sheet lent first area after bytes p disabled =
-    pretends-second sheet bytes (other first) (lent (other first)) (lent first) area (p .between) after disabled
-    (one-of-two sheet bytes lent area after first p)
-    (two sheet bytes lent area after first p)
+-- one that lays the other direction and pretends in this one: over what it begins with and the other's entries
+pub pretends : (sheet : List ℕ) → Bytes sheet → (r : PdoDirection) (l : Lent) (area after : List ℕ) → Accepted sheet l area after
+    → Needs (l .settings .old) area → 0 < rangeSize sheet r l
+    → Agree sheet r l (flat (plan (other r) (startedAt sheet (other r) l) (laidBy sheet (other r) l) (begun l area))) → ⊥
+pretends sheet bytes r l area after p needs =
+    let f = facts sheet l area after p in
+    let t = begun-start sheet bytes l area after needs f r in
+    let vs = laidBy sheet (other r) l in
+    let es = plan (other r) (startedAt sheet (other r) l) vs (begun l area) in
+    let sixteen = sixteen-planned (other r) (startedAt sheet (other r) l) vs (begun l area) (sixteen-begun (l .settings .old) (entriesOf 16 area) (sixteen-of 16 area (f .long))) in
+    silent-disagrees sheet bytes r l area after f (flat es) (flat-bytes 16 16 es sixteen)
+    (subst (λ (xs : List (List ℕ)). (k : ℕ) → Silent r (getD xs k [])) (sym (flat-entries 16 es sixteen))
+    (other-silents r (startedAt sheet (other r) l) vs (begun l area) (t .sixteen) (lays sheet bytes l area after f (other r) .places) (t .silents)))
 
 -- sizes that add up to less differ at the last byte of the longer
 last-byte-differs : (q : ℕ) (us vs : List Use) → InReachOf us → total vs < total us → q + total us < 2 ^ 32 → ((a : ℕ) → a < 2 ^ 32 → orNone (lay q us a) ≡ orNone (lay q vs a)) → ⊥
@@ -161,39 +158,39 @@ last-byte-differs q us vs b h e same =
 
 -- one that lays invented sizes: any uses that could be laid there, but of another total
 module _ (sheet : List ℕ) (bytes : Bytes sheet) (r : PdoDirection) (l : Lent) (area after : List ℕ)
-    (p : Accepted sheet r l area after) (d : EveryDisabled area) (vs : List Use) (y : Lays (l .offset) vs) where
+    (p : Accepted sheet l area after) (d : EveryDisabled area) (vs : List Use) (y : Lays (startedAt sheet r l) vs) where
   long : length area ≡ 256
-  long = facts sheet r l area after p .long
+  long = facts sheet l area after p .long
 
-  invented : Agree sheet r l (flat (plan r (l .offset) vs (entriesOf 16 area)))
-      → (a : ℕ) → a < 2 ^ 32 → orNone (lay (l .offset) (ownBy sheet r l) a) ≡ orNone (lay (l .offset) (goOn 16 0 vs) a)
+  invented : Agree sheet r l (flat (plan r (startedAt sheet r l) vs (entriesOf 16 area)))
+      → (a : ℕ) → a < 2 ^ 32 → orNone (lay (startedAt sheet r l) (ownBy sheet r l) a) ≡ orNone (lay (startedAt sheet r l) (goOn 16 0 vs) a)
   unfolding translate
   invented agree a h =
-      let es = plan r (l .offset) vs (entriesOf 16 area) in
+      let es = plan r (startedAt sheet r l) vs (entriesOf 16 area) in
       let t = disabled-start r vs area d in
-      let sixteen = sixteen-planned r (l .offset) vs (entriesOf 16 area) (sixteen-of 16 area long) in
-      let x : translate r (flat es) a ≡ accepted (orNone (lay (l .offset) (goOn 16 0 vs) a)) =
+      let sixteen = sixteen-planned r (startedAt sheet r l) vs (entriesOf 16 area) (sixteen-of 16 area long) in
+      let x : translate r (flat es) a ≡ accepted (orNone (lay (startedAt sheet r l) (goOn 16 0 vs) a)) =
       rw (
         eq-eqb (length (flat es)) 256 (flat-bytes 16 16 es sixteen),
         flat-entries 16 es sixteen,
-        none-odd r (l .offset) vs (entriesOf 16 area) y t,
-        said r (l .offset) vs (entriesOf 16 area) y t a,
+        none-odd r (startedAt sheet r l) vs (entriesOf 16 area) y t,
+        said r (startedAt sheet r l) vs (entriesOf 16 area) y t a,
       )
       refl in
-      let c = counted-own sheet bytes r l area after (facts sheet r l area after p) a in
+      let c = counted-own sheet bytes l area after (facts sheet l area after p) r a in
       let g = agree a h in
       cc
 
-  pub invented-too-small : InReach sheet r l → total vs < rangeSize sheet r l → Agree sheet r l (flat (plan r (l .offset) vs (entriesOf 16 area))) → ⊥
+  pub invented-too-small : InReach sheet r l → total vs < rangeSize sheet r l → Agree sheet r l (flat (plan r (startedAt sheet r l) vs (entriesOf 16 area))) → ⊥
   unfolding sizeOf
   invented-too-small b h agree =
       let z = goOn-total 16 0 vs in
-      let e = ltb-false 4294967295 (l .offset + rangeSize sheet r l) (facts sheet r l area after p .end) in
-      last-byte-differs (l .offset) (ownBy sheet r l) (goOn 16 0 vs) b (omega arith) (omega arith) (invented agree)
+      let e = ltb-false 4294967295 (startedAt sheet r l + rangeSize sheet r l) (facts sheet l area after p .end r) in
+      last-byte-differs (startedAt sheet r l) (ownBy sheet r l) (goOn 16 0 vs) b (omega arith) (omega arith) (invented agree)
 
-  pub invented-too-large : InReachOf (goOn 16 0 vs) → rangeSize sheet r l < total vs → Agree sheet r l (flat (plan r (l .offset) vs (entriesOf 16 area))) → ⊥
+  pub invented-too-large : InReachOf (goOn 16 0 vs) → rangeSize sheet r l < total vs → Agree sheet r l (flat (plan r (startedAt sheet r l) vs (entriesOf 16 area))) → ⊥
   unfolding sizeOf
   invented-too-large b h agree =
       let z = goOn-total 16 0 vs in
       let e = y .ends in
-      last-byte-differs (l .offset) (goOn 16 0 vs) (ownBy sheet r l) b (omega arith) (omega arith) (λ a g. sym (invented agree a g))
+      last-byte-differs (startedAt sheet r l) (goOn 16 0 vs) (ownBy sheet r l) b (omega arith) (omega arith) (λ a g. sym (invented agree a g))

@@ -1,8 +1,9 @@
--- What a pass leaves of each entry: those that it uses carry its direction's bit alone, all others are as it found them. And two areas on which it leaves the same.
+-- What laying a direction's uses leaves of each entry: those that it uses carry the direction's bit alone, all others are as it found them. And two areas on which
+-- the uses of both directions leave the same.
 -- Assumes nothing.
 use mathlib.Core.Path.{_≡_, refl, sym, _∙_, ap, subst}
 use mathlib.Core.Bool.{true, false, true≢false}
-use mathlib.Core.List.{List, [], _∷_}
+use mathlib.Core.List.{List, [], _∷_, _++_, append-nil}
 use mathlib.Core.Logic.{_⊎_, inl, inr, ⊎-elim}
 use Prim.Native.Nat.{ℕ, _+_, _<_}
 use lib.ListN.{length, getD, length-set}
@@ -14,14 +15,15 @@ use Rattle.pdo.specs.declared.PdoDirection.{PdoDirection}
 use Rattle.pdo.specs.declared.PdoDirection.the-variants.{MasterRead, MasterWrite}
 use Rattle.passes.specs.Use.{Use}
 use Rattle.passes.specs.Old.{isOld}
-use Rattle.passes.specs.Entries.{mapped, grown, laid, plan}
-use Rattle.agreement.proofs.Basics.{either, same-or-not, each-map}
+use Rattle.passes.specs.Entries.{mapped, grown, laid, plan, planBoth, usesOfBoth}
+use Rattle.passes.proofs.Kept.{plan-length}
+use Rattle.agreement.proofs.Basics.{either, same-or-not}
 use Rattle.agreement.proofs.Straight.{Fresh}
 use Rattle.passes.proofs.Cleared.{Off}
 use Rattle.agreement.proofs.Step.{image-old}
 use Rattle.agreement.proofs.Run.{made, after, Placed, placed-after}
 
--- enabled with the direction's bit alone, as a pass of the direction leaves its entries
+-- enabled with the direction's bit alone, as laying the direction leaves its entries
 abbrev pub Ours : PdoDirection → List ℕ → Type 0
 Ours r e = isOld r (fieldsOf e) ≡ true
 
@@ -51,10 +53,6 @@ fresh-or k P (u ∷ us) h =
     (λ n. ⊎-elim (λ f. inl (n, f)) (λ p. inr p) (fresh-or k P us (h .1)))
     (same-or-not (u .entry) k)
 
-never-fresh : (us : List Use) → Each (λ (u : Use). Fresh (u .entry) us → ⊥) us
-never-fresh [] = tt
-never-fresh (u ∷ us) = (λ f. f .0 refl, each-map (λ (v : Use). Fresh (v .entry) us → ⊥) (λ (v : Use). Fresh (v .entry) (u ∷ us) → ⊥) (λ v n f. n (f .1)) us (never-fresh us))
-
 -- a fact of the entry k after a use, given of the use's own, and of any other as it was
 module _ (r : PdoDirection) (q : ℕ) (u : Use) (us : List Use) (area : List (List ℕ)) (p : Placed (u ∷ us) area) where
   at-number : (k : ℕ) (P : List ℕ → Type 0) → (u .entry ≡ k → P (made r q u area)) → ((u .entry ≡ k → ⊥) → P (getD area k [])) → P (getD (after r q u area) k [])
@@ -64,11 +62,11 @@ module _ (r : PdoDirection) (q : ℕ) (u : Use) (us : List Use) (area : List (Li
       (λ n. subst P (sym (getD-set-other area (u .entry) k (made r q u area) [] (λ z. n (sym z)))) (old n))
       (same-or-not (u .entry) k)
 
--- an entry that the uses leave alone, or one that a pass may lay on
+-- an entry that the uses leave alone, or one that may be laid on
 abbrev Free : PdoDirection → List Use → List ℕ → ℕ → Type 0
 Free r us e k = Fresh k us ⊎ (Off e ⊎ Ours r e)
 
--- what a pass leaves of an entry
+-- what is left of an entry
 abbrev pub LeftOf : PdoDirection → List Use → ℕ → List ℕ → List ℕ → Type 0
 LeftOf r us k e e′ = (Fresh k us × (e′ ≡ e)) ⊎ Ours r e′
 
@@ -97,25 +95,22 @@ pub left-at : (r : PdoDirection) (q : ℕ) (us : List Use) (area : List (List �
     → (k : ℕ) → LeftOf r us k (getD area k []) (getD (plan r q us area) k [])
 left-at r q us area p off = left-free r q us area p (λ k. ⊎-elim (λ f. inl f) (λ o. inr (inl o)) (fresh-or k (λ (j : ℕ). Off (getD area j [])) us off))
 
--- each entry that it uses
-pub laid-left : (r : PdoDirection) (q : ℕ) (us : List Use) (area : List (List ℕ)) → Placed us area → Each (λ (v : Use). Off (getD area (v .entry) [])) us
-    → Each (λ (v : Use). Ours r (getD (plan r q us area) (v .entry) [])) us
-laid-left r q us area p off =
-    each-map (λ (v : Use). Fresh (v .entry) us → ⊥) (λ (v : Use). Ours r (getD (plan r q us area) (v .entry) []))
-    (λ v n. ⊎-elim (λ l. absurd (n (l .0))) (λ o. o) (left-at r q us area p off (v .entry)))
-    us (never-fresh us)
-
 -- two areas that differ only in disabled entries, and in none that no use is on
 pub record SameBut (us : List Use) (area area′ : List (List ℕ)) : Type 0 where
   pub long : length area ≡ length area′
   pub away : (k : ℕ) → Fresh k us → getD area k [] ≡ getD area′ k []
   pub alike : (k : ℕ) → (getD area k [] ≡ getD area′ k []) ⊎ (Off (getD area k []) × Off (getD area′ k []))
 
--- are the same after a pass
-pub plan-same : (r : PdoDirection) (q : ℕ) (us : List Use) (area area′ : List (List ℕ)) → Placed us area → SameBut us area area′ → plan r q us area ≡ plan r q us area′
+-- where no use is left to lay, they are the same
+same-none : (area area′ : List (List ℕ)) → SameBut [] area area′ → area ≡ area′
+same-none area area′ s = ext-getD [] area area′ (s .long) (λ k h. s .away k tt)
+
+-- laying some of the uses leaves two such areas for the rest
+same-rest :
+    (r : PdoDirection) (q : ℕ) (us vs : List Use) (area area′ : List (List ℕ)) → Placed us area → SameBut (us ++ vs) area area′ → SameBut vs (plan r q us area) (plan r q us area′)
 unfolding plan
-plan-same r q [] area area′ p s = ext-getD [] area area′ (s .long) (λ k h. s .away k tt)
-plan-same r q (u ∷ us) area area′ p s = plan-same r (q + u .size) us (after r q u area) (after r q u area′) (placed-after r q u us area (p .1)) next
+same-rest r q [] vs area area′ p s = s
+same-rest r q (u ∷ us) vs area area′ p s = same-rest r (q + u .size) us vs (after r q u area) (after r q u area′) (placed-after r q u us area (p .1)) next
   where
     new : made r q u area ≡ made r q u area′
     new =
@@ -134,10 +129,23 @@ plan-same r q (u ∷ us) area area′ p s = plan-same r (q + u .size) us (after 
         (λ z. at-number r q u us area′ p′ k (λ e′. P (made r q u area) e′) (λ w. x) (λ n. absurd (n z)))
         (λ n. at-number r q u us area′ p′ k (λ e′. P (getD area k []) e′) (λ z. absurd (n z)) y)
 
-    next : SameBut us (after r q u area) (after r q u area′)
+    next : SameBut (us ++ vs) (after r q u area) (after r q u area′)
     next =
         record {
           long = length-set area (u .entry) (made r q u area) ∙ s .long ∙ sym (length-set area′ (u .entry) (made r q u area′));
           away = λ k f. both k (λ e e′. e ≡ e′) new (λ n. s .away k (n, f));
           alike = λ k. both k (λ e e′. (e ≡ e′) ⊎ (Off e × Off e′)) (inl new) (λ n. s .alike k);
         }
+
+-- so the uses of both directions leave the same
+module _ (start : PdoDirection → ℕ) (uses : PdoDirection → List Use) (area area′ : List (List ℕ)) (p : Placed (uses MasterRead) area) (w : Placed (uses MasterWrite) area) where
+  abbrev inputs : List (List ℕ) → List (List ℕ)
+  inputs es = plan MasterRead (start MasterRead) (uses MasterRead) es
+
+  pub both-same : SameBut (usesOfBoth uses) area area′ → planBoth start uses area ≡ planBoth start uses area′
+  both-same s =
+      let rest = same-rest MasterRead (start MasterRead) (uses MasterRead) (uses MasterWrite) area area′ p s in
+      same-none (planBoth start uses area) (planBoth start uses area′)
+      (same-rest MasterWrite (start MasterWrite) (uses MasterWrite) [] (inputs area) (inputs area′)
+      (subst (λ (n : ℕ). Each (λ (v : Use). v .entry < n) (uses MasterWrite)) (sym (plan-length MasterRead (start MasterRead) (uses MasterRead) area)) w)
+      (subst (λ (vs : List Use). SameBut vs (inputs area) (inputs area′)) (sym (append-nil (uses MasterWrite))) rest))

@@ -17,9 +17,8 @@ use Rattle.wire.proofs.Lists.{or-none, none-of, each-both, at-none}
 use Rattle.pdo.specs.declared.PdoDirection.{PdoDirection}
 use Rattle.pdo.specs.Direction.{other}
 use Rattle.passes.specs.Use.{Use, total, totalOn}
-use Rattle.passes.specs.declared.OldEntries.{OldEntries}
 use Rattle.passes.specs.declared.OldEntries.the-variants.{Clear}
-use Rattle.passes.specs.Old.{cleared, beginning, bothBits, someEnabled, inTheWay}
+use Rattle.passes.specs.Old.{clearedOfBoth, beginning, bothBits, someEnabled, inTheWay}
 use Rattle.passes.specs.Entries.{laid, plan, lengthNow}
 use Rattle.translation.specs.Translate.{named, carries, says, odd, firstSaid, orNone}
 use Rattle.agreement.specs.Agreement.{EndToEnd}
@@ -29,7 +28,7 @@ use Rattle.agreement.proofs.Basics.{either, same-or-not, each-map, each
 use Rattle.agreement.proofs.Straight.{lay, Fresh, Next, Grouped, linked, Apart, Lays, fresh-16, reach, goOn, lay-before, straight-same, same-straight, straight-iff}
 use Rattle.passes.proofs.Cleared.{Off, nil-off, cleared-at, begun-length}
 use Rattle.agreement.proofs.Step.{Silent, Stand, Good, silent, stands, good-on, good-odd, good-says, says-silent, odd-silent, Stepped, step-off, step-on, silent-laid}
-use Rattle.agreement.proofs.Clean.{cleared-silent, begun-unseen, begun-silent, begun-off}
+use Rattle.agreement.proofs.Clean.{cleared-silent}
 
 -- what a use makes of its entry, and the area after it
 abbrev pub made : PdoDirection → ℕ → Use → List (List ℕ) → List ℕ
@@ -196,18 +195,18 @@ pub record Start (r : PdoDirection) (us : List Use) (area : List (List ℕ)) : T
   pub silents : (k : ℕ) → Silent r (getD area k [])
   pub off : Each (λ (v : Use). Off (getD area (v .entry) [])) us
 
--- by default a pass may begin on any sixteen entries, where 15 isn't given
-pub clean-start : (r : PdoDirection) (us : List Use) (area : List (List ℕ)) → length area ≡ 16 → inTheWay Clear r us area ≡ false → Start r us (beginning Clear r area)
+-- by default a direction may begin on any sixteen entries with the old ones cleared, where 15 isn't given
+pub clean-start : (r : PdoDirection) (us : List Use) (area : List (List ℕ)) → length area ≡ 16 → inTheWay Clear us area ≡ false → Start r us (beginning Clear area)
 unfolding inTheWay
 clean-start r us area long h =
-    let n = or-none (someOf bothBits area) (someEnabled us (map (cleared r) area)) h in
+    let n = or-none (someOf bothBits area) (someEnabled us (map clearedOfBoth area)) h in
     record {
-      sixteen = begun-length Clear r area ∙ long;
-      silents = λ k. subst (Silent r) (sym (cleared-at r area k)) (cleared-silent r (getD area k []) (at-none bothBits area [] (rw nil-off refl) (n .0) k));
+      sixteen = begun-length Clear area ∙ long;
+      silents = λ k. subst (Silent r) (sym (cleared-at area k)) (cleared-silent r (getD area k []) (at-none bothBits area [] (rw nil-off refl) (n .0) k));
       off =
           none-of
-          (λ (u : Use). fieldsOf (getD (map (cleared r) area) (u .entry) []) .enable)
-          (λ (u : Use). Off (getD (map (cleared r) area) (u .entry) []))
+          (λ (u : Use). fieldsOf (getD (map clearedOfBoth area) (u .entry) []) .enable)
+          (λ (u : Use). Off (getD (map clearedOfBoth area) (u .entry) []))
           (λ u e. e) us (n .1);
     }
 
@@ -290,66 +289,54 @@ pub record Alike (r : PdoDirection) (area area′ : List (List ℕ)) : Type 0 wh
   pub says-same : (a : ℕ) → map (says r a) area ≡ map (says r a) area′
   pub odd-same : someOf (odd r) area ≡ someOf (odd r) area′
 
--- the other direction's pass on other entries, after this one: neither its clearing nor its laying is seen
-module _ (old : OldEntries) (r : PdoDirection) (q p : ℕ) (us vs : List Use) (area : List (List ℕ)) (t : Start r us area) (away : Apart vs us) (places : Each (λ (v : Use). v .entry < 16) vs) where
+-- the other direction laid on other entries, after this one: it isn't seen
+module _ (r : PdoDirection) (q p : ℕ) (us vs : List Use) (area : List (List ℕ)) (t : Start r us area) (away : Apart vs us) (places : Each (λ (v : Use). v .entry < 16) vs) where
   abbrev left : List (List ℕ)
   left = plan r q us area
 
-  abbrev then : List (List ℕ)
-  then = beginning old (other r) (plan r q us area)
-
-  silents : Each (λ (v : Use). Silent r (getD then (v .entry) [])) vs
+  silents : Each (λ (v : Use). Silent r (getD left (v .entry) [])) vs
   silents =
-      each-map (λ (v : Use). Fresh (v .entry) us) (λ (v : Use). Silent r (getD then (v .entry) []))
-      (λ v h. begun-silent old r left (v .entry) (subst (Silent r) (sym (plan-leaves r q us area (v .entry) h)) (t .silents (v .entry))))
+      each-map (λ (v : Use). Fresh (v .entry) us) (λ (v : Use). Silent r (getD left (v .entry) []))
+      (λ v h. subst (Silent r) (sym (plan-leaves r q us area (v .entry) h)) (t .silents (v .entry)))
       vs away
 
-  placed : Placed vs then
-  placed = subst (λ (n : ℕ). Each (λ (v : Use). v .entry < n) vs) (sym (begun-length old (other r) left ∙ plan-length r q us area ∙ t .sixteen)) places
+  placed : Placed vs left
+  placed = subst (λ (n : ℕ). Each (λ (v : Use). v .entry < n) vs) (sym (plan-length r q us area ∙ t .sixteen)) places
 
-  shown : {B : Type 0} (f : List ℕ → B) → ((e e′ : List ℕ) → Silent r e → Silent r e′ → f e ≡ f e′) → map f (plan (other r) p vs then) ≡ map f left
-  shown f alike = unseen r f alike p vs then silents placed ∙ begun-unseen old r f alike left
-
-  pub other-after : Alike r (plan (other r) p vs (beginning old (other r) (plan r q us area))) (plan r q us area)
+  pub other-after : Alike r (plan (other r) p vs (plan r q us area)) (plan r q us area)
   other-after =
       record {
-        says-same = λ a. shown (says r a) (λ e e′ h g. says-silent r a e h ∙ sym (says-silent r a e′ g));
-        odd-same = some-map (odd r) (plan (other r) p vs then) left (shown (odd r) (λ e e′ h g. odd-silent r e h ∙ sym (odd-silent r e′ g)));
+        says-same = λ a. unseen r (says r a) (λ e e′ h g. says-silent r a e h ∙ sym (says-silent r a e′ g)) p vs left silents placed;
+        odd-same = some-map (odd r) (plan (other r) p vs left) left (unseen r (odd r) (λ e e′ h g. odd-silent r e h ∙ sym (odd-silent r e′ g)) p vs left silents placed);
       }
 
 -- and before this one
-module _ (old : OldEntries) (r : PdoDirection) (p : ℕ) (vs : List Use) (area : List (List ℕ)) (sixteen : length area ≡ 16) (places : Each (λ (v : Use). v .entry < 16) vs) where
-  abbrev first : List (List ℕ)
-  first = beginning old (other r) area
-
-  long : length first ≡ 16
-  long = begun-length old (other r) area ∙ sixteen
-
+module _ (r : PdoDirection) (p : ℕ) (vs : List Use) (area : List (List ℕ)) (sixteen : length area ≡ 16) (places : Each (λ (v : Use). v .entry < 16) vs) where
   -- no entry has got weight for this direction
-  pub other-silents : ((k : ℕ) → Silent r (getD area k [])) → (k : ℕ) → Silent r (getD (plan (other r) p vs (beginning old (other r) area)) k [])
+  pub other-silents : ((k : ℕ) → Silent r (getD area k [])) → (k : ℕ) → Silent r (getD (plan (other r) p vs area) k [])
   other-silents silents k =
-      sym (List·getD-map f (plan (other r) p vs first) k []) ∙ ap (λ (l : List Bool). getD l k (f [])) same ∙ List·getD-map f first k [] ∙ begun-silent old r area k (silents k)
+      sym (List·getD-map f (plan (other r) p vs area) k []) ∙ ap (λ (l : List Bool). getD l k (f [])) same ∙ List·getD-map f area k [] ∙ silents k
     where
       f : List ℕ → Bool
       f e = carries r (fieldsOf e)
 
-      same : map f (plan (other r) p vs first) ≡ map f first
+      same : map f (plan (other r) p vs area) ≡ map f area
       same =
-          unseen r f (λ e e′ h g. h ∙ sym g) p vs first
-          (each-of (λ (v : Use). Silent r (getD first (v .entry) [])) (λ v. begun-silent old r area (v .entry) (silents (v .entry))) vs)
-          (subst (λ (n : ℕ). Each (λ (v : Use). v .entry < n) vs) (sym long) places)
+          unseen r f (λ e e′ h g. h ∙ sym g) p vs area
+          (each-of (λ (v : Use). Silent r (getD area (v .entry) [])) (λ v. silents (v .entry)) vs)
+          (subst (λ (n : ℕ). Each (λ (v : Use). v .entry < n) vs) (sym sixteen) places)
 
   -- so this one may begin as before
-  pub other-before : (us : List Use) → Start r us area → Apart us vs → Start r us (plan (other r) p vs (beginning old (other r) area))
+  pub other-before : (us : List Use) → Start r us area → Apart us vs → Start r us (plan (other r) p vs area)
   other-before us t away =
       record {
-        sixteen = plan-length (other r) p vs first ∙ long;
+        sixteen = plan-length (other r) p vs area ∙ sixteen;
         silents = other-silents (t .silents);
         off =
             each-both
             (λ (u : Use). Fresh (u .entry) vs)
             (λ (u : Use). Off (getD area (u .entry) []))
-            (λ (u : Use). Off (getD (plan (other r) p vs first) (u .entry) []))
-            (λ u f o. subst Off (sym (plan-leaves (other r) p vs first (u .entry) f)) (begun-off old (other r) area (u .entry) o))
+            (λ (u : Use). Off (getD (plan (other r) p vs area) (u .entry) []))
+            (λ u f o. subst Off (sym (plan-leaves (other r) p vs area (u .entry) f)) o)
             us away (t .off);
       }

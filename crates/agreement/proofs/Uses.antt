@@ -237,18 +237,18 @@ module _ (d : Data) where
           inr (given-none (λ number. coeEntry d r) (piecesOf d ws r) (none-of (λ (p : Piece). ltb 0 (p .bits)) (λ (p : Piece). ltb 0 (p .bits) ≡ false) (λ p e. e) (piecesOf d ws r) s))
 
   -- the two directions want different sync managers, and different entries
-  own-both : (ws vs : List ℕ) (r : PdoDirection) → Apart (own (piecesOf d ws r)) (own (piecesOf d vs (other r)))
+  own-both : (ws : List ℕ) (r : PdoDirection) → Apart (own (piecesOf d ws r)) (own (piecesOf d ws (other r)))
   unfolding piecesOf
-  own-both ws vs MasterRead = own-apart 4 3 _ _ (λ z. omega arith) 0 (d .managers)
-  own-both ws vs MasterWrite = own-apart 3 4 _ _ (λ z. omega arith) 0 (d .managers)
+  own-both ws MasterRead = own-apart 4 3 _ _ (λ z. omega arith) 0 (d .managers)
+  own-both ws MasterWrite = own-apart 3 4 _ _ (λ z. omega arith) 0 (d .managers)
 
   usages-differ : (r : PdoDirection) → fmmuUsageOf r ≡ fmmuUsageOf (other r) → ⊥
   usages-differ MasterRead e = omega arith
   usages-differ MasterWrite e = omega arith
 
   -- on the CoE path by refusal 7 of the one direction alone
-  coe-both : (ws vs : List ℕ) (r : PdoDirection) → byCoe d ≡ true → noEntry d ws r ≡ false → Apart (coeUses ws r) (coeUses vs (other r))
-  coe-both ws vs r c n = by-coe c (same-or-not (coeEntry d r) (coeEntry d (other r)))
+  coe-both : (ws : List ℕ) (r : PdoDirection) → byCoe d ≡ true → noEntry d ws r ≡ false → Apart (coeUses ws r) (coeUses ws (other r))
+  coe-both ws r c n = by-coe c (same-or-not (coeEntry d r) (coeEntry d (other r)))
     where
       clash : coeEntry d r ≡ coeEntry d (other r) → coeEntry d r < length (d .usages) → ⊥
       clash e h =
@@ -256,14 +256,14 @@ module _ (d : Data) where
           let y = firstWith-hit (fmmuUsageOf (other r)) (d .usages) (subst (λ (k : ℕ). k < length (d .usages)) e h) in
           usages-differ r (sym x ∙ ap (λ (k : ℕ). getD (d .usages) k 0) e ∙ y)
 
-      by-coe : byCoe d ≡ true → (coeEntry d r ≡ coeEntry d (other r)) ⊎ (coeEntry d r ≡ coeEntry d (other r) → ⊥) → Apart (coeUses ws r) (coeUses vs (other r))
-      by-coe c (inl e) = ⊎-elim (λ h. absurd (clash e h)) (λ z. subst (λ (l : List Use). Apart l (coeUses vs (other r))) (sym z) tt) (coe-place ws r c n)
+      by-coe : byCoe d ≡ true → (coeEntry d r ≡ coeEntry d (other r)) ⊎ (coeEntry d r ≡ coeEntry d (other r) → ⊥) → Apart (coeUses ws r) (coeUses ws (other r))
+      by-coe c (inl e) = ⊎-elim (λ h. absurd (clash e h)) (λ z. subst (λ (l : List Use). Apart l (coeUses ws (other r))) (sym z) tt) (coe-place ws r c n)
       by-coe c (inr e) =
-          each-map (λ (u : Use). (u .entry ≡ coeEntry d r) × (0 < u .size)) (λ (u : Use). Fresh (u .entry) (coeUses vs (other r)))
+          each-map (λ (u : Use). (u .entry ≡ coeEntry d r) × (0 < u .size)) (λ (u : Use). Fresh (u .entry) (coeUses ws (other r)))
           (λ u f.
           each-map (λ (v : Use). (v .entry ≡ coeEntry d (other r)) × (0 < v .size)) (λ (v : Use). v .entry ≡ u .entry → ⊥)
           (λ v g z. e (sym (f .0) ∙ sym z ∙ g .0))
-          (coeUses vs (other r)) (shared-on (coeEntry d (other r)) (piecesOf d vs (other r))))
+          (coeUses ws (other r)) (shared-on (coeEntry d (other r)) (piecesOf d ws (other r))))
           (coeUses ws r) (shared-on (coeEntry d r) (piecesOf d ws r))
 
 -- an empty list: each on its own number, so that no entry is interrupted or of both directions
@@ -396,7 +396,7 @@ module _ (d : Data) (few : length (d .managers) ≤ 16) (ws : List ℕ) where
       (nonempty-too (λ (u : Use). Fresh (u .entry) (given ownNumber (piecesOf d ws MasterWrite))) (piecesOf d ws MasterRead)
       (each-map (λ (u : Use). Fresh (u .entry) (own (piecesOf d ws MasterWrite))) (λ (u : Use). Fresh (u .entry) (given ownNumber (piecesOf d ws MasterWrite)))
       (λ u f. nonempty-too (λ (v : Use). v .entry ≡ u .entry → ⊥) (piecesOf d ws MasterWrite) f)
-      (own (piecesOf d ws MasterRead)) (own-both d ws ws MasterRead)))
+      (own (piecesOf d ws MasterRead)) (own-both d ws MasterRead)))
 
   none-above : numberAbove (chosenOf []) ≡ false
   unfolding someBelow listOf entryFor
@@ -466,28 +466,12 @@ module _ (d : Data) (b : Bounded d) (ws : List ℕ) (r : PdoDirection) where
       go OwnNumber c g = own-sane
       go Paired c g = paired-sane k c g
 
--- two directions on no entry of both: on the CoE path, by own numbers, or by the same pairs and multipliers
-pub data Chose (d : Data) (m n : FmmuMode) (k l : Chosen) (ws vs : List ℕ) : Type 0 where
-  coePath : byCoe d ≡ true → Chose d m n k l ws vs
-  numbers : m ≡ OwnNumber → n ≡ OwnNumber → Chose d m n k l ws vs
-  alike : m ≡ n → k ≡ l → ws ≡ vs → Chose d m n k l ws vs
+-- so the two directions share no entry
+module _ (d : Data) (b : Bounded d) (ws : List ℕ) (r : PdoDirection) where
+  apart-in : (m : FmmuMode) (k : Chosen) → badPairs m k d ws ≡ false → byCoe d ≡ false → Apart (byMode m k (piecesOf d ws r)) (byMode m k (piecesOf d ws (other r)))
+  apart-in OwnNumber k g c = own-both d ws r
+  apart-in Paired k g c = pairs-both d k ws c g (paired-sane d b ws MasterRead k c g .places) r
 
-module _ (d : Data) (b : Bounded d) where
-  apart-alike : (m : FmmuMode) (k : Chosen) (ws : List ℕ) (r : PdoDirection) → badPairs m k d ws ≡ false → byCoe d ≡ false
-      → Apart (byMode m k (piecesOf d ws r)) (byMode m k (piecesOf d ws (other r)))
-  apart-alike OwnNumber k ws r g c = own-both d ws ws r
-  apart-alike Paired k ws r g c = pairs-both d k ws c g (paired-sane d b ws MasterRead k c g .places) r
-
-  pub apart : (m n : FmmuMode) (k l : Chosen) (ws vs : List ℕ) (r : PdoDirection) → Chose d m n k l ws vs → badPairs m k d ws ≡ false → noEntry d ws r ≡ false
-      → Apart (usesOf m k d ws r) (usesOf n l d vs (other r))
+  pub apart : (m : FmmuMode) (k : Chosen) → badPairs m k d ws ≡ false → noEntry d ws r ≡ false → Apart (usesOf m k d ws r) (usesOf m k d ws (other r))
   unfolding usesOf
-  apart m n k l ws vs r how g e = ⊎-elim (λ c. rw c (coe-both d ws vs r c e)) (λ c. rw c (eeprom c how)) (either (byCoe d))
-    where
-      eeprom : byCoe d ≡ false → Chose d m n k l ws vs → Apart (byMode m k (piecesOf d ws r)) (byMode n l (piecesOf d vs (other r)))
-      eeprom c (coePath p) = absurd (true≢false (sym p ∙ c))
-      eeprom c (numbers p q) = subst (λ (x : FmmuMode). Apart (byMode x k (piecesOf d ws r)) (byMode n l (piecesOf d vs (other r)))) (sym p)
-          (subst (λ (x : FmmuMode). Apart (own (piecesOf d ws r)) (byMode x l (piecesOf d vs (other r)))) (sym q) (own-both d ws vs r))
-      eeprom c (alike p q s) =
-          subst (λ (x : FmmuMode). Apart (byMode m k (piecesOf d ws r)) (byMode x l (piecesOf d vs (other r)))) p
-          (subst (λ (x : Chosen). Apart (byMode m k (piecesOf d ws r)) (byMode m x (piecesOf d vs (other r)))) q
-          (subst (λ (x : List ℕ). Apart (byMode m k (piecesOf d ws r)) (byMode m k (piecesOf d x (other r)))) s (apart-alike m k ws r g c)))
+  apart m k g e = ⊎-elim (λ c. rw c (coe-both d ws r c e)) (λ c. rw c (apart-in m k g c)) (either (byCoe d))

@@ -1,4 +1,4 @@
--- The area after some sync managers are written: one, one after the other, a turn of a loop over them; who gets which size said in two ways.
+-- The area after some sync managers are written: one, one after the other, a turn of a loop over them; who gets which size said in two ways; two lists of images as one.
 -- Assumes nothing.
 use mathlib.Core.Path.{_≡_, refl, sym, _∙_, ap, subst}
 use mathlib.Core.Bool.{Bool, true, false}
@@ -9,7 +9,7 @@ use native.Mathlib.Nat.{zero-add, add-zero, zero-lt-suc}
 use native.Mathlib.Numerals.{add-one}
 use native.Mathlib.Omega.{arith}
 use lib.ListN.{length, getD, set, length-set}
-use lib.Seq.{set-out}
+use lib.Seq.{set-out, set-comm}
 use lib.Dec.{eqb, leb}
 use borrow.Author.Tests.{eq-eqb, ne-eqb, eqb-true, eqb-false, leb-true, leb-false}
 use Rattle.sheet.specs.declared.SyncManager.{SyncManager}
@@ -123,3 +123,27 @@ module _ (d : SyncManager) (f g : ℕ → SyncManager → Option ℕ) where
 
   pub channels-same : (ms : List SyncManager) (area : List (List ℕ)) → ((i : ℕ) → i < length ms → f i (getD ms i d) ≡ g i (getD ms i d)) → channelsAfter f 0 ms area ≡ channelsAfter g 0 ms area
   channels-same ms area h = same-from 0 ms area (λ i l. subst (λ (j : ℕ). f j (getD ms i d) ≡ g j (getD ms i d)) (sym (zero-add i)) (h i l))
+
+-- an image below those that are written may be written before them or after
+written-past :
+    (f : ℕ → SyncManager → Option ℕ) (j : ℕ) (n : SyncManager) (o : Option ℕ) (k : ℕ) (ms : List SyncManager) (es : List (List ℕ)) → j < k
+    → written j n o (channelsAfter f k ms es) ≡ channelsAfter f k ms (written j n o es)
+unfolding channelsAfter
+written-past f j n o k [] es h = refl
+written-past f j n o k (m ∷ ms) es h = written-past f j n o (suc k) ms (written k m (f k m) es) (omega arith) ∙ ap (channelsAfter f (suc k) ms) (one o (f k m))
+  where
+    one : (x y : Option ℕ) → written j n x (written k m y es) ≡ written k m y (written j n x es)
+    one none y = refl
+    one (some a) none = refl
+    one (some a) (some b) = set-comm es k j (imageOf (channelFor m b)) (imageOf (channelFor n a)) (λ e. omega arith)
+
+-- all by g after all by f is one list by h, where that is so of each sync manager
+pub channels-merged :
+    (f g h : ℕ → SyncManager → Option ℕ)
+    → ((k : ℕ) (m : SyncManager) (es : List (List ℕ)) → written k m (g k m) (written k m (f k m) es) ≡ written k m (h k m) es)
+    → (k : ℕ) (ms : List SyncManager) (es : List (List ℕ)) → channelsAfter g k ms (channelsAfter f k ms es) ≡ channelsAfter h k ms es
+unfolding channelsAfter
+channels-merged f g h one k [] es = refl
+channels-merged f g h one k (m ∷ ms) es =
+    ap (channelsAfter g (suc k) ms) (written-past f k m (g k m) (suc k) ms (written k m (f k m) es) (omega arith) ∙ ap (channelsAfter f (suc k) ms) (one k m es))
+    ∙ channels-merged f g h one (suc k) ms (written k m (h k m) es)

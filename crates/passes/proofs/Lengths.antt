@@ -62,6 +62,12 @@ module _ (u : Use) (us : List Use) (k : ℕ) where
   unfolding totalOn
   total-other e = rw (ne-eqb (u .entry) k e, zero-add)
 
+-- the bytes on an entry of two lists together
+pub total-both : (k : ℕ) (us vs : List Use) → totalOn k (us ++ vs) ≡ totalOn k us + totalOn k vs
+unfolding totalOn
+total-both k [] vs = sym (zero-add (totalOn k vs))
+total-both k (u ∷ us) vs = let t = total-both k us vs in omega arith
+
 -- nothing to lay
 pub too-long-none : (entries : List (List ℕ)) → Short entries → tooLong Keep [] entries ≡ false
 unfolding tooLong totalOn
