@@ -1,5 +1,5 @@
 -- The calls of `Calls` are calls of the functions: arguments, answer and places at exit that keep a function's own contract make the record that the theorem is about.
--- `translate` has a generated reading of its contract, `Post`. The other two are walked: that `PassesOn` and `CountsBy` are what their sources state, in every
+-- `translate` has a generated reading of its contract, `Post`. The other two are walked: that `CallsLent` and `CountsBy` are what their sources state, in every
 -- model, is `configure-fmmus-states` and `count-states` (lent/proofs/Unique.antt). So a changed `ensures` breaks this file or that one.
 -- Assumes nothing.
 use contract.Lifetimes.{Lfts}
@@ -7,31 +7,34 @@ use denote.Ref.{now}
 use denote.Triple.Clauses.{AtExit}
 use denote.Triple.Entry.{Args}
 use Rattle.pdi.specs.declared.PdiSegment.{PdiSegment}
-use Rattle.pdi.specs.declared.Placed.the-variants.{Segment}
+use Rattle.passes.specs.declared.Segments.the-variants as segments
 use Rattle.translation.specs.declared.Translated.{Translated}
 use Rattle.translation.proofs.translate as translating
 use Rattle.translation.proofs.translate.Reads.{Post}
 use Rattle.counting.specs.declared.Counted.{Counted}
 use Rattle.lent.proofs.configure_fmmus as configuring
 use Rattle.lent.proofs.count as counting
-use Rattle.lent.proofs.Unique.{PassesOn, CountsBy}
-use Rattle.demand3.specs.Calls.{Pass, Translation, Counting}
+use Rattle.lent.proofs.Unique.{CallsLent, CountsBy}
+use Rattle.demand3.specs.Calls.{Planning, Translation, Counting}
 
--- `lent::configure_fmmus`, where it answered a segment: sheet, table, pairs, FMMU bytes, sync manager bytes, offset, settings, direction
-pub pass-of : (κs : Lfts 6) (a : Args configuring.signature κs) (answer : PdiSegment) (s : AtExit configuring.ended κs) → PassesOn κs a (Segment answer) s
-    → Pass (now (a .0)) (a .1 .1 .1 .1 .1 .1 .1 .0)
-pass-of κs a answer s kept =
+-- `lent::configure_fmmus`, where it answered segments: sheet, table, pairs, FMMU bytes, sync manager bytes, the inputs' offset, the outputs', settings
+pub planning-of : (κs : Lfts 7) (a : Args configuring.signature κs) (inputs outputs : PdiSegment) (s : AtExit configuring.ended κs) → CallsLent κs a (segments.Both inputs outputs) s
+    → Planning (now (a .0))
+planning-of κs a inputs outputs s kept =
     record {
       table = now (a .1 .0);
       pairs = now (a .1 .1 .0);
       fmmus = now (a .1 .1 .1 .0);
       channels = now (a .1 .1 .1 .1 .0);
-      offset = now (a .1 .1 .1 .1 .1 .0);
-      settings = a .1 .1 .1 .1 .1 .1 .0;
-      segment = answer;
+      inputs = now (a .1 .1 .1 .1 .1 .0);
+      outputs = now (a .1 .1 .1 .1 .1 .1 .0);
+      settings = a .1 .1 .1 .1 .1 .1 .1 .0;
+      inputsAt = inputs;
+      outputsAt = outputs;
       fmmusThen = now (s .1 .1 .1 .0);
       channelsThen = now (s .1 .1 .1 .1 .0);
-      offsetThen = now (s .1 .1 .1 .1 .1 .0);
+      inputsThen = now (s .1 .1 .1 .1 .1 .0);
+      outputsThen = now (s .1 .1 .1 .1 .1 .1 .0);
       promise = kept;
     }
 
