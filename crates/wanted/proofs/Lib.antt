@@ -1,5 +1,6 @@
 -- Laws that belong to no one function.
 pub mod Managers
+pub mod Apart
 pub mod Sums
 pub mod Sized
 pub mod Asking

@@ -5,12 +5,12 @@ ghost use Prim.Native.Nat.{_+_, _≤_};
 ghost use lib.ListN.{length, getD, set};
 ghost use Rattle.wire.specs.Lists.{sum};
 ghost use Rattle.wire.specs.Outcome as Outcome;
-ghost use Rattle.grammar.specs.Grammar.{managerCount, nextPdo, kindFits, broken};
+ghost use Rattle.grammar.specs.Grammar.{managerCount, usagesPlace, nextPdo, kindFits, broken};
 ghost use Rattle.sheet.specs.Device.{pdoAt};
 ghost use Rattle.sheet.specs.Sheet.{sheetData};
 ghost use Rattle.passes.specs.Use.{firstWith};
 ghost use Rattle.passes.specs.Pairs.{numberAbove};
-ghost use Rattle.wanted.specs.ByKind.{kindFor, bitsIn, ofUsage};
+ghost use Rattle.wanted.specs.ByKind.{kindFor, counted, bitsIn, ofUsage};
 ghost use Rattle.wanted.specs.Paths.{roundedIn, someSize, lacksEntry, pairsRead, eepromWants, coeRoute, coeWants};
 ghost use Rattle.wanted.specs.Judged.{usesIn, comesAgain, withUse, Surveys, somePastLast, someShared, badChoice};
 ghost use Rattle.wanted.specs.Wanted.{sizesAfter, Sized, noRoute, wantedAfter, Wants};
@@ -38,11 +38,11 @@ fn sum_bytes(part: &[u8]) -> u32
 }
 
 // The bits of the PDO at a place of a sound sheet.
-fn pdo_bits(sheet: &[u8], at: usize, kind: u8) -> u32
-    requires { ⌜ (getD (now sheet) at 0 ≡ kind) × (nextPdo (now sheet) at ≤ length (now sheet)) × (kindFits kind (getD (now sheet) (at + 4) 0) ≡ true) × (length (now sheet) ≤ 16386) ⌝ }
+fn pdo_bits(sheet: &[u8], at: usize) -> u32
+    requires { ⌜ (nextPdo (now sheet) at ≤ length (now sheet)) × (kindFits (getD (now sheet) at 0) (getD (now sheet) (at + 4) 0) ≡ true) × (length (now sheet) ≤ 16386) ⌝ }
     ensures { λ r. ⌜ (r ≡ sum (pdoAt (now (sheet .entry)) at .lengths)) × (r ≤ 65535) ⌝ }
 {
-    if kind == 0 {
+    if sheet[at] == 0 {
         let end = at + grammar::PDO_BYTES + wire::wide(sheet[at + grammar::PDO_COUNT]);
         return sum_bytes(&sheet[at + grammar::PDO_BYTES..end]);
     }
@@ -67,7 +67,10 @@ fn kind_for(coe: bool, usage: u8) -> u8
 }
 
 // Whether the PDO at a place counts: it names a sync manager with process data, and is of the kind for it.
-fn counts(sheet: &[u8], at: usize, coe: bool) -> bool {
+fn counts(sheet: &[u8], at: usize, coe: bool) -> bool
+    requires { ⌜ (at + 5 ≤ length (now sheet)) × (usagesPlace (now sheet) ≤ length (now sheet)) × (length (now sheet) ≤ 16386) ⌝ }
+    ensures { λ r. ⌜ r ≡ counted (sheetData (now (sheet .entry)) .managers) «coe» (getD (now (sheet .entry)) at 0) (getD (now (sheet .entry)) (at + 1) 0) ⌝ }
+{
     let manager = sheet[at + grammar::PDO_MANAGER];
     if grammar::manager_count(sheet) <= manager {
         return false;
@@ -103,8 +106,7 @@ fn tally(sheet: &[u8], coe: bool, multipliers: &[u8]) -> [BitLen; 16]
             let slot = wire::wide(sheet[place + grammar::PDO_MANAGER]);
             let before = sums[slot].0;
             sums[slot] = BitLen(
-                before
-                    + pdo_bits(sheet, place, sheet[place]) * (multiplier_at(multipliers, i) as u32),
+                before + pdo_bits(sheet, place) * (multiplier_at(multipliers, i) as u32),
             );
         }
         place = place + grammar::PDO_BYTES + wire::wide(sheet[place + grammar::PDO_COUNT]);
