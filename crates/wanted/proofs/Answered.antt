@@ -1,4 +1,4 @@
--- What an answer tells: a refusal is the first that holds; where it is accepted none holds, the sheet is sound, and all is there.
+-- What an answer tells: a refusal is the first that holds; where it is accepted none holds, and all is there.
 -- Assumes nothing.
 use mathlib.Core.Path.{_≡_, refl, sym, _∙_, ap}
 use mathlib.Core.Bool.{Bool, true, false, cond}
@@ -6,44 +6,62 @@ use mathlib.Core.List.{List, [], _∷_, _++_}
 use Prim.Native.Nat.{ℕ}
 use Rattle.wire.specs.Outcome.{Outcome, refused, accepted, Refusal, when, first, decide}
 use Rattle.wire.proofs.Order.{never}
+use Rattle.pdi.specs.declared.ByteLen.{ByteLen}
 use Rattle.sheet.specs.Sheet.{sheetRefusals, sheetData, answerOf}
 use Rattle.sheet.specs.declared.Answer.{Answer}
 use Rattle.sheet.specs.declared.Answer.the-variants.{Accepted, Refused}
 use Rattle.sheet.proofs.Kept.{Accepts, accepted-accepts}
 use Rattle.pdo.specs.declared.PdoDirection.{PdoDirection}
 use Rattle.passes.specs.declared.FmmuMode.{FmmuMode}
-use Rattle.passes.specs.declared.FmmuMode.the-variants.{OwnNumber}
 use Rattle.passes.specs.declared.Chosen.{Chosen}
-use Rattle.passes.specs.Use.{nothingChosen}
 use Rattle.passes.specs.Pairs.{badPairs}
 use Rattle.passes.specs.Pass.{wantedRefusals}
+use Rattle.passes.specs.Call.{wantedOfBoth}
+use Rattle.passes.specs.Handed.{sizesOf}
+use Rattle.wanted.specs.declared.Sizes.{Sizes}
 use Rattle.wanted.specs.declared.Wanted.{Wanted}
-use Rattle.wanted.specs.Wanted.{wantedFrom, wantedAfter, wantingRefusals, Wants, WantsBy}
+use Rattle.wanted.specs.Wanted.{sizesAfter, Sized, wantedFrom, wantedAfter, wantingRefusals, Wants}
 
--- an answer as an outcome with nothing beside it
-says : {x y : Answer} → x ≡ y → answerOf {A = Unit {0}} x tt ≡ answerOf {A = Unit {0}} y tt
-says e = ap (λ (y : Answer). answerOf {A = Unit {0}} y tt) e
-
-answer-of : {x y : Wanted} → x ≡ y → x .answer ≡ y .answer
-answer-of e = ap (λ (y : Wanted). y .answer) e
-
-refused-first : (rs : List Refusal) (w x : Wanted) (n : ℕ) → w .answer ≡ Accepted → x .answer ≡ Refused n → x ≡ wantedAfter (decide rs w) → refused n ≡ decide {A = Unit {0}} rs tt
-refused-first [] w x n h t e = absurd (never (says (sym t ∙ answer-of e ∙ h)))
-refused-first (r ∷ rs) w x n h t e = go (r .holds) (refused-first rs w x n h t) e
+-- what is decided is a refusal or the answer
+decided : {A P : Type 0} (rs : List Refusal) (a : A) → ((n : ℕ) → decide rs a ≡ refused n → P) → (decide rs a ≡ accepted a → P) → P
+decided [] a stop on = on refl
+decided {A} {P} (r ∷ rs) a stop on = go (r .holds) (decided rs a) stop on
   where
-    go : (b : Bool) → (x ≡ wantedAfter (decide rs w) → refused n ≡ decide {A = Unit {0}} rs tt) → x ≡ wantedAfter (cond b (refused (r .number)) (decide rs w))
-        → refused n ≡ cond b (refused (r .number)) (decide {A = Unit {0}} rs tt)
-    go true rest q = says (sym t ∙ answer-of q)
-    go false rest q = rest q
+    go : (b : Bool) → (((n : ℕ) → decide rs a ≡ refused n → P) → (decide rs a ≡ accepted a → P) → P)
+        → ((n : ℕ) → cond b (refused (r .number)) (decide rs a) ≡ refused n → P) → (cond b (refused (r .number)) (decide rs a) ≡ accepted a → P) → P
+    go true rest s o = s (r .number) refl
+    go false rest s o = rest s o
 
-accepted-all : (rs : List Refusal) (w x : Wanted) → x .answer ≡ Accepted → x ≡ wantedAfter (decide rs w) → (accepted tt ≡ decide {A = Unit {0}} rs tt) × (x ≡ w)
-accepted-all [] w x t e = (refl, e)
-accepted-all (r ∷ rs) w x t e = go (r .holds) (accepted-all rs w x t) e
-  where
-    go : (b : Bool) → (x ≡ wantedAfter (decide rs w) → (accepted tt ≡ decide {A = Unit {0}} rs tt) × (x ≡ w)) → x ≡ wantedAfter (cond b (refused (r .number)) (decide rs w))
-        → (accepted tt ≡ cond b (refused (r .number)) (decide {A = Unit {0}} rs tt)) × (x ≡ w)
-    go true rest q = absurd (never (says (sym (answer-of q) ∙ t)))
-    go false rest q = rest q
+-- what an answer says of what was decided, where `after` puts an outcome into the form that code answers
+module _ {A X : Type 0} (after : Outcome A → X) (answer : X → Answer) (a : A) (says : (n : ℕ) → answer (after (refused n)) ≡ Refused n) (takes : answer (after (accepted a)) ≡ Accepted)
+    (rs : List Refusal) (x : X) (h : x ≡ after (decide rs a)) where
+  -- an answer as an outcome with nothing beside it
+  said : {y z : Answer} → y ≡ z → answerOf {A = Unit {0}} y tt ≡ answerOf {A = Unit {0}} z tt
+  said e = ap (λ (y : Answer). answerOf {A = Unit {0}} y tt) e
+
+  -- what it is where the outcome is known
+  is : {o : Outcome A} → decide rs a ≡ o → answer x ≡ answer (after o)
+  is e = ap answer (h ∙ ap after e)
+
+  refused-first : (n : ℕ) → answer x ≡ Refused n → refused n ≡ decide rs a
+  refused-first n e =
+      decided rs a (λ m q. number m (said (sym e ∙ is q ∙ says m)) ∙ sym q) (λ q. absurd (never (said (sym e ∙ is q ∙ takes))))
+    where
+      number : (m : ℕ) → _≡_ {A = Outcome (Unit {0})} (refused n) (refused m) → _≡_ {A = Outcome A} (refused n) (refused m)
+      number m q = let z : n ≡ m = cc in ap refused z
+
+  accepted-all : answer x ≡ Accepted → (accepted a ≡ decide rs a) × (x ≡ after (accepted a))
+  accepted-all e = decided rs a (λ m q. absurd (never (said (sym (says m) ∙ sym (is q) ∙ e)))) (λ q. (sym q, h ∙ ap after q))
+
+-- of sizes
+module _ (sizes : List ByteLen) (rs : List Refusal) (x : Sizes) (h : x ≡ sizesAfter (decide rs sizes)) where
+  pub sizes-refused : (n : ℕ) → x .answer ≡ Refused n → refused n ≡ decide rs sizes
+  sizes-refused n e = refused-first sizesAfter (λ (y : Sizes). y .answer) sizes (λ m. refl) refl rs x h n e
+
+  pub sizes-accepted : x .answer ≡ Accepted → (accepted sizes ≡ decide rs sizes) × (x .list ≡ sizes)
+  sizes-accepted e =
+      let a = accepted-all sizesAfter (λ (y : Sizes). y .answer) sizes (λ m. refl) refl rs x h e in
+      (a .0, ap (λ (y : Sizes). y .list) (a .1))
 
 -- none of the first refusals holds where none of all does
 front : {A : Type 0} (rs : List Refusal) (o : Outcome A) (b : A) → accepted b ≡ first rs o → accepted tt ≡ decide {A = Unit {0}} rs tt
@@ -55,37 +73,33 @@ front {A} (r ∷ rs) o b e = go (r .holds) (front rs o b) e
     go true rest q = absurd (never (sym q))
     go false rest q = rest q
 
--- the sheet's refusals, and more
-module _ (sheet : List ℕ) (more : List Refusal) (w x : Wanted) (h : x ≡ wantedAfter (decide (sheetRefusals sheet ++ more) w)) where
-  abbrev all : List Refusal
-  all = sheetRefusals sheet ++ more
+-- so the sheet is sound
+sound : {A : Type 0} (sheet : List ℕ) (more : List Refusal) (a : A) → accepted a ≡ decide (sheetRefusals sheet ++ more) a → Accepts sheet
+sound sheet more a e = accepted-accepts {A = Unit {0}} sheet tt tt (front (sheetRefusals sheet) (decide more a) a e)
 
-  any-accepted : x .answer ≡ Accepted → Accepts sheet × (accepted tt ≡ decide {A = Unit {0}} all tt) × (x ≡ w)
-  any-accepted e =
-      let a = accepted-all all w x e h in
-      (accepted-accepts {A = Unit {0}} sheet tt tt (front (sheetRefusals sheet) (decide {A = Unit {0}} more tt) tt (a .0)), a .0, a .1)
-
--- by own numbers
-module _ (sheet ws : List ℕ) (r : PdoDirection) (x : Wanted) (h : Wants sheet ws r x) where
-  abbrev own : Wanted
-  own = wantedFrom OwnNumber nothingChosen (sheetData sheet) ws r
-
+-- what counting wants
+module _ (sheet ws : List ℕ) (r : PdoDirection) (x : Sizes) (h : Sized sheet ws r x) where
   abbrev seven : List Refusal
   seven = wantedRefusals (sheetData sheet) ws r
 
-  pub wanted-refused : (n : ℕ) → x .answer ≡ Refused n → refused n ≡ decide {A = Unit {0}} (sheetRefusals sheet ++ seven) tt
-  wanted-refused n e = refused-first (sheetRefusals sheet ++ seven) own x n refl e h
+  pub sized-refused : (n : ℕ) → x .answer ≡ Refused n → refused n ≡ decide (sheetRefusals sheet ++ seven) (sizesOf (sheetData sheet) ws r)
+  sized-refused n e = sizes-refused (sizesOf (sheetData sheet) ws r) (sheetRefusals sheet ++ seven) x h n e
 
-  pub wanted-accepted : x .answer ≡ Accepted → Accepts sheet × (accepted tt ≡ decide {A = Unit {0}} (sheetRefusals sheet ++ seven) tt) × (x ≡ own)
-  wanted-accepted e = any-accepted sheet seven own x h e
+  pub sized-accepted :
+      x .answer ≡ Accepted → Accepts sheet × (accepted (sizesOf (sheetData sheet) ws r) ≡ decide (sheetRefusals sheet ++ seven) (sizesOf (sheetData sheet) ws r)) × (x .list ≡ sizesOf (sheetData sheet) ws r)
+  sized-accepted e =
+      let a = sizes-accepted (sizesOf (sheetData sheet) ws r) (sheetRefusals sheet ++ seven) x h e in
+      (sound sheet seven (sizesOf (sheetData sheet) ws r) (a .0), a .0, a .1)
 
--- by a mode
-module _ (mode : FmmuMode) (c : Chosen) (sheet ws : List ℕ) (r : PdoDirection) (x : Wanted) (h : WantsBy mode c sheet ws r x) where
+-- what a call wants
+module _ (mode : FmmuMode) (c : Chosen) (sheet ws : List ℕ) (x : Wanted) (h : Wants mode c sheet ws x) where
   abbrev w : Wanted
-  w = wantedFrom mode c (sheetData sheet) ws r
+  w = wantedFrom mode c (sheetData sheet) ws
 
-  pub by-refused : (n : ℕ) → x .answer ≡ Refused n → refused n ≡ decide {A = Unit {0}} (wantingRefusals mode c sheet ws r) tt
-  by-refused n e = refused-first (wantingRefusals mode c sheet ws r) w x n refl e h
+  pub wanted-refused : (n : ℕ) → x .answer ≡ Refused n → refused n ≡ decide (wantingRefusals mode c sheet ws) w
+  wanted-refused n e = refused-first wantedAfter (λ (y : Wanted). y .answer) w (λ m. refl) refl (wantingRefusals mode c sheet ws) x h n e
 
-  pub by-accepted : x .answer ≡ Accepted → Accepts sheet × (accepted tt ≡ decide {A = Unit {0}} (wantingRefusals mode c sheet ws r) tt) × (x ≡ w)
-  by-accepted e = any-accepted sheet (when 18 (badPairs mode c (sheetData sheet) ws) ∷ wantedRefusals (sheetData sheet) ws r) w x h e
+  pub wanted-accepted : x .answer ≡ Accepted → Accepts sheet × (accepted w ≡ decide (wantingRefusals mode c sheet ws) w) × (x ≡ w)
+  wanted-accepted e =
+      let a = accepted-all wantedAfter (λ (y : Wanted). y .answer) w (λ m. refl) refl (wantingRefusals mode c sheet ws) x h e in
+      (sound sheet (when 18 (badPairs mode c (sheetData sheet) ws) ∷ wantedOfBoth (sheetData sheet) ws) w (a .0), a .0, a .1)

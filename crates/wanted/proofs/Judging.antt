@@ -11,22 +11,28 @@ use lib.Dec.{eqb, ltb, leb·suc-suc}
 use borrow.Author.Tests.{lt-ltb, le-ltb}
 use Rattle.wire.specs.Lists.{someBelow}
 use Rattle.wire.proofs.Lists.{some-hit, some-miss, some-same, getD-listOf}
+use Rattle.pdi.specs.declared.BitLen.{BitLen}
+use Rattle.grammar.specs.Grammar.{managerCount}
 use Rattle.sheet.specs.Device.{Data}
 use Rattle.sheet.specs.Sheet.{noManager, sheetData}
 use Rattle.sheet.specs.declared.SyncManager.{SyncManager}
+use Rattle.sheet.proofs.Managers.{manager-count}
 use Rattle.pdo.specs.declared.PdoDirection.{PdoDirection}
 use Rattle.pdo.specs.declared.PdoDirection.the-variants.{MasterRead, MasterWrite}
 use Rattle.pdo.specs.Direction.{usageOf}
 use Rattle.pdo.specs.Bits.{Piece, byCoe, pathKind, bitsOf, piecesFrom, piecesOf}
-use Rattle.passes.specs.declared.FmmuMode.the-variants.{Paired}
+use Rattle.passes.specs.declared.FmmuMode.{FmmuMode}
+use Rattle.passes.specs.declared.FmmuMode.the-variants.{OwnNumber, Paired}
 use Rattle.passes.specs.declared.Chosen.{Chosen}
 use Rattle.passes.specs.Use.{Use, useOf, given, paired}
 use Rattle.passes.specs.Pairs.{numberAbove, someOn, comesBack, interrupted, badEntry, badPairs}
 use Rattle.passes.specs.Handed.{hasUsage}
 use Rattle.wanted.specs.declared.Entered.{Entered}
-use Rattle.wanted.specs.ByKind.{bitsAt, flagsIn}
-use Rattle.wanted.specs.Judged.{usesFrom, usesIn, Surveys, somePastLast, someShared, judgedUses, badChoice}
+use Rattle.wanted.specs.ByKind.{bitAt, ofUsage}
+use Rattle.wanted.specs.Paths.{pairsRead}
+use Rattle.wanted.specs.Judged.{usesFrom, Surveys, somePastLast, someShared, judgedUses, badChoice}
 use Rattle.wanted.proofs.Surveying.{some-or}
+use Rattle.wanted.proofs.Asking.{allBits, exact-read}
 
 -- whether an entry of sixteen is above 15: none so far, one that is, one more that isn't, none of sixteen
 module _ (entries : List ℕ) where
@@ -145,48 +151,41 @@ module _ (entry : ℕ → ℕ) (usage : ℕ) (bits : ℕ → ℕ) (on : ℕ → 
       go true e rest = used k n (m .«start_addr») (piecesFrom usage bits (suc k) ms) e rest
       go false e rest = rest ∙ sym (skipped k n e)
 
-module _ (s ws : List ℕ) (c : Chosen) (few : length (sheetData s .managers) ≤ 16) where
+module _ (s ws : List ℕ) (c : Chosen) (few : managerCount s ≤ 16) where
   abbrev d : Data
   d = sheetData s
 
-  -- a direction's uses by a kind of PDO
-  abbrev usesAlong : PdoDirection → ℕ → List Use
-  usesAlong r kind = usesIn (c .entries) (flagsIn s kind (usageOf r) ws)
+  abbrev judged : PdoDirection → List Use
+  judged r = judgedUses c (d .managers) (allBits s ws) r
 
-  uses-in : (r : PdoDirection) → map bare (paired c (piecesOf d ws r)) ≡ usesAlong r (pathKind d r)
+  uses-in : (r : PdoDirection) → map bare (paired c (piecesOf d ws r)) ≡ judged r
   unfolding piecesOf
   uses-in r =
-      let flag : ℕ → Bool = λ k. ltb 0 (bitsAt s (pathKind d r) (usageOf r) ws k) in
-      uses-bare (λ number. getD (c .entries) number 0) (usageOf r) (λ k. bitsOf (pathKind d r) k (d .pdos) ws) (λ k. getD (flagsIn s (pathKind d r) (usageOf r) ws) k false) 0 (d .managers) 16 few
-      (λ j l. getD-listOf flag 16 (0 + j) false (omega arith)
-      ∙ ap (λ (k : ℕ). ltb 0 (cond (hasUsage (usageOf r) (d .managers) k) (bitsOf (pathKind d r) (0 + j) (d .pdos) ws) 0)) (zero-add j))
+      let mine = ofUsage (d .managers) (usageOf r) (allBits s ws) in
+      let bits : ℕ → ℕ = λ k. bitsOf (pathKind d r) k (d .pdos) ws in
+      uses-bare (λ number. getD (c .entries) number 0) (usageOf r) bits (λ k. ltb 0 (bitAt mine k)) 0 (d .managers) 16 (omega (arith, manager-count s))
+      (λ j l. ap (ltb 0) (exact-read s ws r (0 + j) (omega arith)) ∙ ap (λ (k : ℕ). ltb 0 (cond (hasUsage (usageOf r) (d .managers) k) (bits (0 + j)) 0)) (zero-add j))
 
-  -- 18 by the flags of both directions, where the path is EEPROM's
-  both-directions :
-      byCoe d ≡ false → someBelow (badEntry (judgedUses c s ws MasterRead) (judgedUses c s ws MasterWrite)) 16 ≡ someBelow (badEntry (paired c (piecesOf d ws MasterRead)) (paired c (piecesOf d ws MasterWrite))) 16
-  both-directions e =
+  -- 18 by the exact bits of both directions
+  both-directions : someBelow (badEntry (judged MasterRead) (judged MasterWrite)) 16 ≡ someBelow (badEntry (paired c (piecesOf d ws MasterRead)) (paired c (piecesOf d ws MasterWrite))) 16
+  both-directions =
       let reads = paired c (piecesOf d ws MasterRead) in
       let writes = paired c (piecesOf d ws MasterWrite) in
-      some-same (badEntry (judgedUses c s ws MasterRead) (judgedUses c s ws MasterWrite)) (badEntry reads writes) 16
-      (λ k l. (λ i. badEntry (usesAlong MasterRead (cond (sym e i) 0 1)) (usesAlong MasterWrite (cond (sym e i) 0 2)) k)
-      ∙ (λ i. badEntry (sym (uses-in MasterRead) i) (sym (uses-in MasterWrite) i) k) ∙ bad-bare reads writes k)
+      some-same (badEntry (judged MasterRead) (judged MasterWrite)) (badEntry reads writes) 16
+      (λ k l. (λ i. badEntry (sym (uses-in MasterRead) i) (sym (uses-in MasterWrite) i) k) ∙ bad-bare reads writes k)
 
-  pub bad-pairs : not (byCoe d) && badChoice c s ws ≡ badPairs Paired c d ws
+  pub bad-pairs : (mode : FmmuMode) → pairsRead (byCoe d) mode && badChoice c (d .managers) (allBits s ws) ≡ badPairs mode c d ws
   unfolding badPairs badChoice
-  bad-pairs = go (byCoe d) refl
-    where
-      go : (b : Bool) → byCoe d ≡ b → not b && badChoice c s ws
-          ≡ not b && (numberAbove c || someBelow (badEntry (paired c (piecesOf d ws MasterRead)) (paired c (piecesOf d ws MasterWrite))) 16)
-      go true e = refl
-      go false e = ap (λ (b : Bool). numberAbove c || b) (both-directions e)
+  bad-pairs OwnNumber = refl
+  bad-pairs Paired = ap (λ (b : Bool). not (byCoe d) && (numberAbove c || b)) both-directions
 
 -- each way through the judging
-module _ (c : Chosen) (s ws : List ℕ) where
+module _ (c : Chosen) (ms : List SyncManager) (bits : List BitLen) where
   abbrev us : List Use
-  us = judgedUses c s ws MasterRead
+  us = judgedUses c ms bits MasterRead
 
   abbrev vs : List Use
-  vs = judgedUses c s ws MasterWrite
+  vs = judgedUses c ms bits MasterWrite
 
   abbrev one : Bool
   one = someBelow (λ k. interrupted k us) 16
@@ -197,25 +196,25 @@ module _ (c : Chosen) (s ws : List ℕ) where
   abbrev both : Bool
   both = someBelow (λ k. someOn k us && someOn k vs) 16
 
-  parts : badChoice c s ws ≡ numberAbove c || (both || (one || two))
+  parts : badChoice c ms bits ≡ numberAbove c || (both || (one || two))
   unfolding badChoice
   parts =
       ap (λ (b : Bool). numberAbove c || b)
       (some-or (λ k. someOn k us && someOn k vs) (λ k. interrupted k us || interrupted k vs) 16
       ∙ ap (λ (b : Bool). both || b) (some-or (λ k. interrupted k us) (λ k. interrupted k vs) 16))
 
-  pub above-bad : numberAbove c ≡ true → true ≡ badChoice c s ws
+  pub above-bad : numberAbove c ≡ true → true ≡ badChoice c ms bits
   above-bad e = sym (parts ∙ rw e)
 
   module _ (x : Entered) (h : Surveys us x) where
-    pub one-bad : x .interrupted ≡ true → true ≡ badChoice c s ws
+    pub one-bad : x .interrupted ≡ true → true ≡ badChoice c ms bits
     one-bad e = let o : one ≡ true = sym (h .breaks) ∙ e in sym (parts ∙ rw (o, or-true, or-true))
 
     module _ (y : Entered) (g : Surveys vs y) where
-      pub two-bad : y .interrupted ≡ true → true ≡ badChoice c s ws
+      pub two-bad : y .interrupted ≡ true → true ≡ badChoice c ms bits
       two-bad e = let t : two ≡ true = sym (g .breaks) ∙ e in sym (parts ∙ rw (t, or-true, or-true, or-true))
 
-      pub shared-bad : (r : Bool) → numberAbove c ≡ false → x .interrupted ≡ false → y .interrupted ≡ false → r ≡ someShared (x .used) (y .used) → r ≡ badChoice c s ws
+      pub shared-bad : (r : Bool) → numberAbove c ≡ false → x .interrupted ≡ false → y .interrupted ≡ false → r ≡ someShared (x .used) (y .used) → r ≡ badChoice c ms bits
       unfolding someShared
       shared-bad r a e f q =
           let o : one ≡ false = sym (h .breaks) ∙ e in

@@ -7,16 +7,29 @@ use Prim.Native.Nat.{ℕ, _+_, _≤_, _<_}
 use native.Mathlib.Omega.{arith}
 use lib.ListN.{length, getD, drop}
 use lib.Dec.{eqb, ltb}
-use borrow.Author.Tests.{eq-eqb, ne-eqb, lt-ltb, le-ltb, eqb-true, ltb-true}
+use borrow.Author.Tests.{eq-eqb, ne-eqb, lt-ltb, le-ltb, ltb-true}
 use Rattle.grammar.specs.Grammar.{managerCount, usageCount, managerPlace, usagesPlace}
 use Rattle.sheet.specs.Sheet.{noManager, sheetData}
+use Rattle.sheet.specs.declared.SyncManager.{SyncManager}
 use Rattle.sheet.proofs.Managers.{manager-count, manager-number, usage-turn, usage-end}
+use Rattle.pdo.specs.declared.PdoDirection.the-variants.{MasterRead, MasterWrite}
+use Rattle.pdo.specs.Direction.{usageOf, kindOf, isData}
 use Rattle.passes.specs.Handed.{hasUsage}
 use Rattle.passes.specs.Use.{firstWith}
+use Rattle.wanted.specs.ByKind.{kindFor, usageAt, hasData, counted}
 
-both : (a b : Bool) → a && b ≡ true → (a ≡ true) × (b ≡ true)
+-- of two that hold, either holds
+pub both : (a b : Bool) → a && b ≡ true → (a ≡ true) × (b ≡ true)
 both true b e = (refl, e)
 both false b e = absurd (false≢true e)
+
+-- which kind counts where the path is by EEPROM: the inputs' for their usage, the outputs' for another
+module _ (path : Bool) (usage kind : ℕ) (by : path ≡ false) where
+  pub kind-inputs : usage ≡ usageOf MasterRead → kind ≡ kindOf MasterRead → kind ≡ kindFor path usage
+  kind-inputs u k = k ∙ rw (by, eq-eqb usage 4 u)
+
+  pub kind-outputs : (usage ≡ usageOf MasterRead → ⊥) → kind ≡ kindOf MasterWrite → kind ≡ kindFor path usage
+  kind-outputs u k = k ∙ rw (by, ne-eqb usage 4 u)
 
 module _ (s : List ℕ) where
   -- one that is there has the usage by its byte; one that isn't has none
@@ -26,29 +39,33 @@ module _ (s : List ℕ) where
   pub usage-nowhere : (usage k : ℕ) → managerCount s ≤ k → hasUsage usage (sheetData s .managers) k ≡ false
   usage-nowhere usage k h = rw (manager-count s, le-ltb k (managerCount s) h)
 
-  -- whether the record at a place counts, by its kind and the sync manager that it names
-  module _ (kind usage at : ℕ) where
-    abbrev pub counted : Bool
-    counted = eqb (getD s at 0) kind && hasUsage usage (sheetData s .managers) (getD s (at + 1) 0)
+  -- and so whether a PDO of a kind that names number k counts: k isn't there, has no process data, or the kind decides
+  module _ (path : Bool) (kind k : ℕ) where
+    abbrev counting : Bool
+    counting = counted (sheetData s .managers) path kind k
 
-    pub counts-other : (getD s at 0 ≡ kind → ⊥) → false ≡ counted
-    counts-other h = rw (ne-eqb (getD s at 0) kind h)
+    module _ (u : ℕ) (l : k < managerCount s) (e : u ≡ getD s (managerPlace k + 4) 0) where
+      usage-read : usageAt (sheetData s .managers) k ≡ u
+      usage-read = ap (λ (m : SyncManager). m .«usage_type») (manager-number s k noManager l) ∙ sym e
 
-    pub counts-nowhere : getD s at 0 ≡ kind → managerCount s ≤ getD s (at + 1) 0 → false ≡ counted
-    counts-nowhere h l = rw (eq-eqb (getD s at 0) kind h, usage-nowhere usage (getD s (at + 1) 0) l)
+      counting-here : counting ≡ isData u && eqb kind (kindFor path u)
+      counting-here = rw (usage-read, manager-count s, lt-ltb k (managerCount s) l)
 
-    pub counts-here : getD s at 0 ≡ kind → getD s (at + 1) 0 < managerCount s → eqb (getD s (managerPlace (getD s (at + 1) 0) + 4) 0) usage ≡ counted
-    counts-here h l = rw (eq-eqb (getD s at 0) kind h, usage-here usage (getD s (at + 1) 0) l)
+      pub counts-no-data : isData u ≡ false → false ≡ counting
+      counts-no-data h = sym (counting-here ∙ rw h)
 
-    -- one that counts is of the kind, and the sync manager that it names is there
-    pub counts-kind : counted ≡ true → getD s at 0 ≡ kind
-    counts-kind h = eqb-true (getD s at 0) kind (both (eqb (getD s at 0) kind) (hasUsage usage (sheetData s .managers) (getD s (at + 1) 0)) h .0)
+      pub counts-data : isData u ≡ true → eqb kind (kindFor path u) ≡ counting
+      counts-data h = sym (counting-here ∙ rw h)
 
-    pub counts-there : counted ≡ true → getD s (at + 1) 0 < managerCount s
+    pub counts-nowhere : managerCount s ≤ k → false ≡ counting
+    counts-nowhere l = rw (manager-count s, le-ltb k (managerCount s) l)
+
+    -- one that counts names a sync manager that is there
+    pub counts-there : counting ≡ true → k < managerCount s
     counts-there h =
-        let m = getD s (at + 1) 0 in
-        let u = both (eqb (getD s at 0) kind) (hasUsage usage (sheetData s .managers) m) h .1 in
-        let l = ltb-true m (length (sheetData s .managers)) (both (ltb m (length (sheetData s .managers))) _ u .0) in
+        let ms = sheetData s .managers in
+        let d = both (hasData ms k) (eqb kind (kindFor path (usageAt ms k))) h .0 in
+        let l = ltb-true k (length ms) (both (ltb k (length ms)) (isData (usageAt ms k)) d .0) in
         omega (arith, manager-count s)
 
   -- the first with the usage, b being the byte at the place of number k: one that has it, one more that hasn't, and none left

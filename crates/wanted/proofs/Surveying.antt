@@ -1,4 +1,4 @@
--- A survey of uses from the last to the first: one more in front, the numbers that are flagged, and its two ends.
+-- A survey of uses from the last to the first: one more in front, the numbers that have bits, and its two ends.
 -- Assumes nothing.
 use mathlib.Core.Path.{_≡_, refl, sym, _∙_, ap, subst}
 use mathlib.Core.Bool.{Bool, true, false, cond, not, _&&_, _||_, and-false, or-self-left, or-assoc, or-comm}
@@ -8,12 +8,14 @@ use native.Mathlib.Omega.{arith}
 use lib.ListN.{getD, set, replicate, length-set, List·getD-eq-default}
 use lib.Seq.{ext-getD, getD-set-same, getD-set-other}
 use lib.Dec.{eqb, ltb}
-use borrow.Author.Tests.{eq-eqb, ne-eqb, eqb-true, eqb-false, ltb-true, ltb-false}
+use borrow.Author.Tests.{eq-eqb, ne-eqb, eqb-true, eqb-false, lt-ltb, le-ltb, ltb-true, ltb-false}
 use Rattle.wire.specs.Lists.{listOf, someBelow}
 use Rattle.wire.proofs.Lists.{some-hit, some-none, some-same, length-listOf, getD-listOf}
+use Rattle.pdi.specs.declared.BitLen.{BitLen}
 use Rattle.passes.specs.Use.{Use}
 use Rattle.passes.specs.Pairs.{someOn, comesBack, interrupted}
 use Rattle.wanted.specs.declared.Entered.{Entered}
+use Rattle.wanted.specs.ByKind.{bitAt}
 use Rattle.wanted.specs.Judged.{usesFrom, usesIn, comesAgain, withUse, Surveys}
 
 -- a question by number that is one of two
@@ -159,10 +161,10 @@ seen-next us u x s =
       first = refl;
     }
 
--- a turn: the number before those that are seen, flagged or not, and the end
-module _ (flags : List Bool) (entries : List ℕ) where
+-- a turn: the number before those that are seen, with bits or without, and the end
+module _ (bits : List BitLen) (entries : List ℕ) where
   abbrev on : ℕ → Bool
-  on k = getD flags k false
+  on k = ltb 0 (bitAt bits k)
 
   abbrev entryAt : ℕ → ℕ
   entryAt k = getD entries k 0
@@ -180,17 +182,17 @@ module _ (flags : List Bool) (entries : List ℕ) where
         let p : suc k ≡ next = omega arith in
         ap (usesFrom on entryAt k) q ∙ (λ i. cond (t i) (mine ∷ usesFrom on entryAt (p i) (16 - next)) (usesFrom on entryAt (p i) (16 - next)))
 
-    pub seen-with : (y : Entered) → on k ≡ true → y ≡ withUse x (entryAt k) → Seen (usesAfter k) y
+    pub seen-with : (y : Entered) → 0 < bitAt bits k → y ≡ withUse x (entryAt k) → Seen (usesAfter k) y
     seen-with y t q =
         let more = seen-next (usesAfter next) mine x s in
-        subst (λ (us : List Use). Seen us y) (sym (uses true (16 - k) t (omega arith))) (subst (λ (z : Entered). Seen (mine ∷ usesAfter next) z) (sym q) more)
+        subst (λ (us : List Use). Seen us y) (sym (uses true (16 - k) (lt-ltb 0 (bitAt bits k) t) (omega arith))) (subst (λ (z : Entered). Seen (mine ∷ usesAfter next) z) (sym q) more)
 
-    pub seen-without : on k ≡ false → Seen (usesAfter k) x
-    seen-without t = subst (λ (us : List Use). Seen us x) (sym (uses false (16 - k) t (omega arith))) s
+    pub seen-without : bitAt bits k ≤ 0 → Seen (usesAfter k) x
+    seen-without t = subst (λ (us : List Use). Seen us x) (sym (uses false (16 - k) (le-ltb 0 (bitAt bits k) t) (omega arith))) s
 
   pub seen-start : Seen (usesAfter 16) (record { used = replicate 16 false; first = 0; interrupted = false })
   unfolding usesFrom
   seen-start = seen-none
 
-  pub seen-end : (k : ℕ) (x : Entered) → k ≡ 0 → Seen (usesAfter k) x → Surveys (usesIn entries flags) x
+  pub seen-end : (k : ℕ) (x : Entered) → k ≡ 0 → Seen (usesAfter k) x → Surveys (usesIn entries bits) x
   seen-end k x e s = subst (λ (j : ℕ). Surveys (usesAfter j) x) e (s .finds)

@@ -1,168 +1,115 @@
--- What a pass wants as code goes: 6 and 7 by number, and what each way through the call answers.
+-- What a call wants: what each way through it answers.
 -- Assumes nothing.
 use mathlib.Core.Path.{_≡_, refl, sym, _∙_, ap}
-use mathlib.Core.Bool.{Bool, true, false, cond, _&&_, _||_, or-false, or-assoc, and-comm}
+use mathlib.Core.Bool.{Bool, true, false, _&&_, and-false}
 use mathlib.Core.List.{List, [], _∷_, _++_}
-use Prim.Native.Nat.{ℕ, zero, suc, _+_, _-_, _≤_, _<_}
-use native.Mathlib.Nat.{add-zero, zero-add}
-use native.Mathlib.Omega.{arith}
-use lib.ListN.{length, getD}
-use lib.Dec.{eqb, ltb}
-use borrow.Author.Tests.{lt-ltb}
-use Rattle.wire.specs.Lists.{someBelow, someOf}
-use Rattle.wire.specs.Outcome.{refused, accepted, when, decide}
-use Rattle.wire.proofs.Lists.{some-same}
-use Rattle.wire.proofs.Order.{passed-first}
-use Rattle.pdi.specs.Unit.{tooManyBits}
+use Prim.Native.Nat.{ℕ, _≤_}
+use Rattle.wire.specs.Outcome.{refused, Refusal, when, decide}
+use Rattle.pdi.specs.declared.BitLen.{BitLen}
 use Rattle.pdi.specs.declared.ByteLen.{ByteLen}
-use Rattle.grammar.specs.Grammar.{managerCount, usageCount}
+use Rattle.grammar.specs.Grammar.{managerCount}
+use Rattle.wire.proofs.Order.{passed-first}
 use Rattle.sheet.specs.Device.{Data}
-use Rattle.sheet.specs.Sheet.{noManager, sheetRefusals, sheetData}
-use Rattle.sheet.specs.declared.SyncManager.{SyncManager}
+use Rattle.sheet.specs.Sheet.{sheetRefusals, sheetData}
 use Rattle.sheet.specs.declared.Answer.the-variants.{Accepted, Refused}
-use Rattle.sheet.proofs.Managers.{manager-count, usage-count}
 use Rattle.sheet.proofs.Reading.{Checked, checked-accepts, checked-more, checked-whole}
-use Rattle.channels.specs.Channels.{sizeAt}
-use Rattle.pdo.specs.declared.PdoDirection.{PdoDirection}
-use Rattle.pdo.specs.declared.Terms.{Terms}
-use Rattle.pdo.specs.Direction.{usageOf, termsOf}
-use Rattle.pdo.specs.Bits.{Piece, byCoe, pathKind, bitsOf, piecesFrom, piecesOf}
-use Rattle.passes.specs.declared.FmmuMode.the-variants.{OwnNumber}
-use Rattle.passes.specs.Use.{firstWith, coeEntry, nothingChosen}
-use Rattle.passes.specs.Pass.{someTooMany, noEntry, wantedRefusals}
-use Rattle.passes.specs.Handed.{hasUsage, exactBits, sizesOf}
-use Rattle.passes.proofs.Pieces.{some-bytes, size-handed}
+use Rattle.pdo.specs.declared.PdoDirection.the-variants.{MasterRead, MasterWrite}
+use Rattle.pdo.specs.Bits.{byCoe}
+use Rattle.passes.specs.declared.FmmuMode.{FmmuMode}
+use Rattle.passes.specs.declared.Chosen.{Chosen}
+use Rattle.passes.specs.Pairs.{badPairs}
+use Rattle.passes.specs.Start.{ofEither}
+use Rattle.passes.specs.Pass.{someTooMany, noEntry}
+use Rattle.passes.specs.Call.{wantedOfBoth}
+use Rattle.passes.specs.Handed.{sizesOfBoth}
+use Rattle.wanted.specs.declared.Sizes.{Sizes}
 use Rattle.wanted.specs.declared.Wanted.{Wanted}
-use Rattle.wanted.specs.ByKind.{someTooWide, sizesIn, someSize, routedOf}
-use Rattle.wanted.specs.Wanted.{wantedFrom, noSizes, wantedAfter, Wants}
-use Rattle.wanted.proofs.Sized.{was-refused, no-bits}
+use Rattle.wanted.specs.ByKind.{bitsIn}
+use Rattle.wanted.specs.Paths.{roundedIn, pairsRead, eepromWants, coeRoute, coeWants}
+use Rattle.wanted.specs.Judged.{badChoice}
+use Rattle.wanted.specs.Wanted.{sizesAfter, wantedFrom, wantedAfter, Wants}
+use Rattle.wanted.proofs.Sized.{was-refused}
+use Rattle.wanted.proofs.Asking.{allBits, rounds-both, seven-either}
+use Rattle.wanted.proofs.Judging.{bad-pairs}
+use Rattle.wanted.proofs.Answered.{sizes-refused, sizes-accepted}
 
--- a question by number: its first part, and numbers of which it doesn't hold
-some-first : (f : ℕ → Bool) (n : ℕ) → someBelow f (suc n) ≡ f 0 || someBelow (λ j. f (suc j)) n
-unfolding someBelow
-some-first f zero = sym (or-false (f 0))
-some-first f (suc n) = ap (λ (b : Bool). b || f (suc n)) (some-first f n) ∙ or-assoc (f 0) (someBelow (λ j. f (suc j)) n) (f (suc n))
-
-some-past : (f : ℕ → Bool) (n e : ℕ) → ((j : ℕ) → n ≤ j → f j ≡ false) → someBelow f (n + e) ≡ someBelow f n
-unfolding someBelow
-some-past f n zero h = ap (someBelow f) (add-zero n)
-some-past f n (suc e) h = ap (someBelow f) (shift n e) ∙ ap (λ (b : Bool). someBelow f (n + e) || b) (h (n + e) (omega arith)) ∙ or-false (someBelow f (n + e)) ∙ some-past f n e h
-  where
-    shift : (n e : ℕ) → n + suc e ≡ suc (n + e)
-    shift n e = omega arith
-
--- a question of the bits of the wanted sync managers is one by number, if it doesn't hold of 0
-module _ (t : ℕ → Bool) (none : t 0 ≡ false) (usage : ℕ) (bits : ℕ → ℕ) where
-  abbrev ask : List Piece → Bool
-  ask ps = someOf (λ (p : Piece). t (p .bits)) ps
-
-  abbrev askAt : ℕ → List SyncManager → ℕ → Bool
-  askAt k ms j = t (cond (eqb (getD ms j noManager .«usage_type») usage) (bits (k + j)) 0)
-
-  ask-from : (k : ℕ) (ms : List SyncManager) → ask (piecesFrom usage bits k ms) ≡ someBelow (askAt k ms) (length ms)
-  unfolding piecesFrom someBelow
-  ask-from k [] = refl
-  ask-from k (m ∷ ms) =
-      one (eqb (m .«usage_type») usage)
-      ∙ (λ i. t (cond (eqb (m .«usage_type») usage) (bits (sym (add-zero k) i)) 0) || (ask-from (suc k) ms ∙ some-same (askAt (suc k) ms) (λ j. askAt k (m ∷ ms) (suc j)) (length ms) next) i)
-      ∙ sym (some-first (askAt k (m ∷ ms)) (length ms))
-    where
-      one : (b : Bool) → ask (cond b (record { number = k; bits = bits k; address = m .«start_addr» } ∷ piecesFrom usage bits (suc k) ms) (piecesFrom usage bits (suc k) ms))
-          ≡ t (cond b (bits k) 0) || ask (piecesFrom usage bits (suc k) ms)
-      one true = refl
-      one false = ap (λ (b : Bool). b || ask (piecesFrom usage bits (suc k) ms)) (sym none)
-
-      shift : (j : ℕ) → suc k + j ≡ k + suc j
-      shift j = omega arith
-
-      next : (j : ℕ) → j < length ms → askAt (suc k) ms j ≡ askAt k (m ∷ ms) (suc j)
-      next j l = ap (λ (n : ℕ). t (cond (eqb (getD ms j noManager .«usage_type») usage) (bits n) 0)) (shift j)
-
-  ask-below : (ms : List SyncManager) → ask (piecesFrom usage bits 0 ms) ≡ someBelow (λ k. t (cond (hasUsage usage ms k) (bits k) 0)) (length ms)
-  ask-below ms = ask-from 0 ms ∙ some-same (askAt 0 ms) (λ k. t (cond (hasUsage usage ms k) (bits k) 0)) (length ms) there
-    where
-      there : (k : ℕ) → k < length ms → askAt 0 ms k ≡ t (cond (hasUsage usage ms k) (bits k) 0)
-      there k l =
-          let u = eqb (getD ms k noManager .«usage_type») usage in
-          (λ i. t (cond (sym (lt-ltb k (length ms) l) i && u) (bits (zero-add k i)) 0))
-
-module _ (s ws : List ℕ) (r : PdoDirection) where
-  abbrev d : Data
-  d = sheetData s
-
-  -- by own numbers
+module _ (mode : FmmuMode) (c : Chosen) (s ws : List ℕ) where
   abbrev w : Wanted
-  w = wantedFrom OwnNumber nothingChosen d ws r
+  w = wantedFrom mode c (sheetData s) ws
 
-  abbrev exact : ℕ → ℕ
-  exact k = exactBits d ws r k
+  abbrev asked : List Refusal
+  asked = when 18 (badPairs mode c (sheetData s) ws) ∷ wantedOfBoth (sheetData s) ws
 
-  -- 6 by number
-  too-wide : someTooWide s (pathKind d r) (usageOf r) ws ≡ someTooMany d ws r
-  unfolding someTooWide someTooMany piecesOf
-  too-wide =
-      ap (someBelow (λ k. tooManyBits (exact k))) (sym (manager-count s))
-      ∙ sym (ask-below tooManyBits refl (usageOf r) (λ k. bitsOf (pathKind d r) k (d .pdos) ws) (d .managers))
+  pub sheet-wants : (n : ℕ) (x : Wanted) → Checked s (Refused n) → x ≡ wantedAfter (refused n) → Wants mode c s ws x
+  sheet-wants n x e h = h ∙ ap wantedAfter (sym (checked-whole s asked w e))
 
-  -- some size is above 0 exactly if a wanted sync manager has bits
-  some-bits : managerCount s ≤ 16 → someSize (sizesOf d ws r) ≡ someOf (λ (p : Piece). ltb 0 (p .bits)) (piecesOf d ws r)
-  unfolding someSize piecesOf
-  some-bits few =
-      let f : ℕ → Bool = λ k. ltb 0 (exact k) in
-      let n = managerCount s in
-      let e : 16 ≡ n + (16 - n) = omega arith in
-      some-same (λ k. ltb 0 (sizeAt (sizesOf d ws r) k)) f 16 (λ k l. ap (ltb 0) (size-handed d ws r k l) ∙ some-bytes (exact k))
-      ∙ ap (someBelow f) e
-      ∙ some-past f n (16 - n) (λ j h. ap (ltb 0) (no-bits s (pathKind d r) (usageOf r) ws j h))
-      ∙ ap (someBelow f) (sym (manager-count s))
-      ∙ sym (ask-below (ltb 0) refl (usageOf r) (λ k. bitsOf (pathKind d r) k (d .pdos) ws) (d .managers))
+  -- the sheet is sound: `path` is whether it goes by CoE, and `bits` are the exact bits
+  module _ (sound : Checked s Accepted) (path : Bool) (ep : path ≡ byCoe (sheetData s)) (bits : List BitLen) (eb : bits ≡ bitsIn s path ws) where
+    abbrev d : Data
+    d = sheetData s
 
-  -- 7 by number
-  seven-is : managerCount s ≤ 16 → byCoe d && (eqb (coeEntry d r) (usageCount s) && someSize (sizesOf d ws r)) ≡ noEntry d ws r
-  unfolding noEntry
-  seven-is few =
-      let some = some-bits few in
-      (λ i. byCoe d && (eqb (coeEntry d r) (sym (usage-count s) i) && some i))
-      ∙ ap (λ (b : Bool). byCoe d && b) (and-comm (eqb (coeEntry d r) (length (d .usages))) (someOf (λ (p : Piece). ltb 0 (p .bits)) (piecesOf d ws r)))
+    few : managerCount s ≤ 16
+    few = checked-accepts s sound .managers
 
-  -- the sheet is refused
-  pub sheet-wants : (n : ℕ) (x : Wanted) → Checked s (Refused n) → x ≡ wantedAfter (refused n) → Wants s ws r x
-  sheet-wants n x e h = h ∙ ap wantedAfter (sym (checked-whole s (wantedRefusals d ws r) (w) e))
+    on : decide asked w ≡ decide (sheetRefusals s ++ asked) w
+    on = sym (checked-more s asked w sound)
 
-  -- it is accepted: the path and the terms are known
-  module _ (sound : Checked s Accepted) (path : Bool) (terms : Terms) (kind : ℕ) (ep : path ≡ byCoe d) (et : terms ≡ termsOf r) (ek : kind ≡ cond path 0 (terms .kind)) where
-    kind-is : kind ≡ pathKind d r
-    kind-is = ek ∙ (λ i. cond (ep i) 0 (et i .kind))
+    all : bits ≡ allBits s ws
+    all = eb ∙ ap (λ (b : Bool). bitsIn s b ws) ep
 
-    abbrev wide : Bool
-    wide = someTooWide s kind (terms .usage) ws
+    -- 18 as it is asked
+    bad : (b : Bool) → pairsRead path mode && badChoice c (d .managers) bits ≡ b → badPairs mode c d ws ≡ b
+    bad b e = sym (bad-pairs s ws c few mode) ∙ (λ i. pairsRead (sym ep i) mode && badChoice c (d .managers) (sym all i)) ∙ e
 
-    wide-is : wide ≡ someTooMany d ws r
-    wide-is = (λ i. someTooWide s (kind-is i) (et i .usage) ws) ∙ too-wide
+    pub eighteen-wants : (x : Wanted) → pairsRead path mode ≡ true → badChoice c (d .managers) bits ≡ true → x ≡ wantedAfter (refused 18) → Wants mode c s ws x
+    eighteen-wants x p q h =
+        let e : badPairs mode c d ws ≡ true = bad true (λ i. p i && q i) in
+        h ∙ (λ i. wantedAfter (decide (when 18 (sym e i) ∷ wantedOfBoth d ws) w)) ∙ ap wantedAfter on
 
-    on : decide (wantedRefusals d ws r) (w) ≡ decide (sheetRefusals s ++ wantedRefusals d ws r) (w)
-    on = sym (checked-more s (wantedRefusals d ws r) (w) sound)
+    pub good-pairs : badChoice c (d .managers) bits ≡ false → badPairs mode c d ws ≡ false
+    good-pairs q = bad false (ap (λ (b : Bool). pairsRead path mode && b) q ∙ and-false (pairsRead path mode))
 
-    pub six-wants : (n : ℕ) (x : Wanted) → refused n ≡ decide {A = Unit {0}} (when 6 wide ∷ []) tt → x ≡ wantedAfter (refused n) → Wants s ws r x
-    six-wants n x e h =
-        let held = was-refused {A = Unit {0}} 6 n wide tt e in
-        let t : someTooMany d ws r ≡ true = sym wide-is ∙ held .0 in
-        let six : refused 6 ≡ decide (wantedRefusals d ws r) (w) = rw t in
-        h ∙ ap wantedAfter (ap refused (held .1) ∙ six ∙ on)
+    pub unread-pairs : pairsRead path mode ≡ false → badPairs mode c d ws ≡ false
+    unread-pairs p = bad false (ap (λ (b : Bool). b && badChoice c (d .managers) bits) p)
 
-    -- 6 doesn't hold: the path decides
-    pub routed-wants :
-        (list : List ByteLen) (x : Wanted) → accepted tt ≡ decide {A = Unit {0}} (when 6 wide ∷ []) tt → list ≡ cond wide noSizes (sizesIn s kind (terms .usage) ws)
-        → x ≡ routedOf path (eqb (firstWith (terms .«fmmu_usage») (d .usages)) (usageCount s) && someSize list) (firstWith (terms .«fmmu_usage») (d .usages)) list
-        → Wants s ws r x
-    routed-wants list x a l h =
-        let f : wide ≡ false = passed-first {A = Unit {0}} (when 6 wide) [] tt tt a .0 in
-        let six : someTooMany d ws r ≡ false = sym wide-is ∙ f in
-        let all : list ≡ sizesOf d ws r = l ∙ (λ i. cond (f i) noSizes (sizesIn s (kind-is i) (et i .usage) ws)) in
-        let seven = seven-is (checked-accepts s sound .managers) in
-        let us = d .usages in
-        h
-        ∙ (λ i. routedOf (ep i) (eqb (firstWith (et i .«fmmu_usage») us) (usageCount s) && someSize (all i)) (firstWith (et i .«fmmu_usage») us) (all i))
-        ∙ (λ i. wantedAfter (decide (when 7 (seven i) ∷ []) (w)))
-        ∙ (λ i. wantedAfter (decide (when 6 (sym six i) ∷ when 7 (noEntry d ws r) ∷ []) (w)))
-        ∙ ap wantedAfter on
+    -- it doesn't hold, and `sized` has the bits rounded up
+    module _ (good : badPairs mode c d ws ≡ false) (sized : Sizes) (h : sized ≡ sizesAfter (roundedIn (managerCount s) bits)) where
+      abbrev sizes : List ByteLen
+      sizes = sizesOfBoth d ws
+
+      abbrev wide : Bool
+      wide = ofEither (someTooMany d ws)
+
+      rounds : sized ≡ sizesAfter (decide (when 6 wide ∷ []) sizes)
+      rounds = h ∙ (λ i. sizesAfter (roundedIn (managerCount s) (all i))) ∙ ap sizesAfter (rounds-both s ws few)
+
+      -- 6 and 7 of either direction then decide
+      decides : (a b : Bool) (x : Wanted) → wide ≡ a → ofEither (noEntry d ws) ≡ b → x ≡ wantedAfter (decide (when 6 a ∷ when 7 b ∷ []) w) → Wants mode c s ws x
+      decides a b x ea e q = q ∙ (λ i. wantedAfter (decide (when 18 (sym good i) ∷ when 6 (sym ea i) ∷ when 7 (sym e i) ∷ []) w)) ∙ ap wantedAfter on
+
+      pub six-wants : (n : ℕ) (x : Wanted) → sized .answer ≡ Refused n → x ≡ wantedAfter (refused n) → Wants mode c s ws x
+      six-wants n x e q =
+          let was = was-refused 6 n wide sizes (sizes-refused sizes (when 6 wide ∷ []) sized rounds n e) in
+          decides true (ofEither (noEntry d ws)) x (was .0) refl (q ∙ ap (λ (m : ℕ). wantedAfter (refused m)) (was .1))
+
+      module _ (e : sized .answer ≡ Accepted) where
+        fits : wide ≡ false
+        fits = passed-first (when 6 wide) [] sizes sizes (sizes-accepted sizes (when 6 wide ∷ []) sized rounds e .0) .0
+
+        list-is : sized .list ≡ sizes
+        list-is = sizes-accepted sizes (when 6 wide ∷ []) sized rounds e .1
+
+        pub coe-wants : (x : Wanted) → path ≡ true → x ≡ coeWants d (sized .list) → Wants mode c s ws x
+        coe-wants x p q =
+            let by : byCoe d ≡ true = sym ep ∙ p in
+            let is : record { answer = Accepted; sizes = sizes; inputs = coeRoute d MasterRead; outputs = coeRoute d MasterWrite } ≡ w = rw by refl in
+            decides false (ofEither (noEntry d ws)) x fits refl
+            (q ∙ ap (coeWants d) list-is ∙ (λ i. wantedAfter (decide (when 7 (seven-either s ws few by i) ∷ []) (is i))))
+
+        pub eeprom-wants : (x : Wanted) → path ≡ false → x ≡ eepromWants mode c (sized .list) → Wants mode c s ws x
+        unfolding noEntry
+        eeprom-wants x p q =
+            let by : byCoe d ≡ false = sym ep ∙ p in
+            let is : eepromWants mode c sizes ≡ w = rw by refl in
+            let none : ofEither (noEntry d ws) ≡ false = rw by refl in
+            decides false false x fits none (q ∙ ap (eepromWants mode c) list-is ∙ is)

@@ -1,4 +1,4 @@
--- Pairs as code judges them: what a survey of one direction's entries finds, whether what was chosen is bad, and what pairs make of what is wanted.
+-- Pairs as code judges them: what a survey of one direction's entries finds, and whether what was chosen is bad.
 -- Assumes nothing.
 use mathlib.Core.Path.{_≡_}
 use mathlib.Core.Bool.{Bool, true, false, cond, not, _&&_, _||_}
@@ -7,28 +7,25 @@ use Prim.Native.Nat.{ℕ, zero, suc}
 use lib.ListN.{getD, set}
 use lib.Dec.{eqb, ltb}
 use Rattle.wire.specs.Lists.{listOf, someBelow}
-use Rattle.wire.specs.Outcome as Outcome
-use Rattle.sheet.specs.declared.Answer.{Answer}
-use Rattle.sheet.specs.declared.Answer.the-variants.{Accepted, Refused}
+use Rattle.pdi.specs.declared.BitLen.{BitLen}
+use Rattle.sheet.specs.declared.SyncManager.{SyncManager}
 use Rattle.pdo.specs.declared.PdoDirection.the-variants.{MasterRead, MasterWrite}
 use Rattle.pdo.specs.declared.PdoDirection.{PdoDirection}
-use Rattle.pdo.specs.Direction.{usageOf, kindOf}
+use Rattle.pdo.specs.Direction.{usageOf}
 use Rattle.passes.specs.declared.Chosen.{Chosen}
 use Rattle.passes.specs.Use.{Use}
 use Rattle.passes.specs.Pairs.{numberAbove, someOn, interrupted, badEntry}
 use Rattle.wanted.specs.declared.Entered.{Entered}
-use Rattle.wanted.specs.declared.Wanted.{Wanted}
-use Rattle.wanted.specs.ByKind.{flagsIn}
-use Rattle.wanted.specs.Wanted.{wantedAfter}
+use Rattle.wanted.specs.ByKind.{bitAt, ofUsage}
 
 -- the uses of n numbers from k on, of those that are flagged; which entries are used doesn't ask for sizes or addresses
 unfoldable pub usesFrom : (ℕ → Bool) → (ℕ → ℕ) → ℕ → ℕ → List Use
 usesFrom on entry k zero = []
 usesFrom on entry k (suc n) = cond (on k) (record { entry = entry k; size = 0; at = 0 } ∷ usesFrom on entry (suc k) n) (usesFrom on entry (suc k) n)
 
--- of sixteen
-abbrev pub usesIn : List ℕ → List Bool → List Use
-usesIn entries flags = usesFrom (λ k. getD flags k false) (λ k. getD entries k 0) 0 16
+-- of sixteen, those that have bits
+abbrev pub usesIn : List ℕ → List BitLen → List Use
+usesIn entries bits = usesFrom (λ k. ltb 0 (bitAt bits k)) (λ k. getD entries k 0) 0 16
 
 -- what a survey knows once a use is seen in front of the others: an entry that is used, and not by the first of them, is come back to
 abbrev pub comesAgain : Entered → ℕ → Bool
@@ -50,25 +47,10 @@ somePastLast entries = someBelow (λ k. ltb 15 (getD entries k 0)) 16
 unfoldable pub someShared : List Bool → List Bool → Bool
 someShared one two = someBelow (λ k. getD one k false && getD two k false) 16
 
--- a direction's uses by its own kind of PDO
-abbrev pub judgedUses : Chosen → List ℕ → List ℕ → PdoDirection → List Use
-judgedUses c sheet ws r = usesIn (c .entries) (flagsIn sheet (kindOf r) (usageOf r) ws)
+-- a direction's uses: of its usage alone
+abbrev pub judgedUses : Chosen → List SyncManager → List BitLen → PdoDirection → List Use
+judgedUses c ms bits r = usesIn (c .entries) (ofUsage ms (usageOf r) bits)
 
 -- 18 where pairs are read
-unfoldable pub badChoice : Chosen → List ℕ → List ℕ → Bool
-badChoice c sheet ws = numberAbove c || someBelow (badEntry (judgedUses c sheet ws MasterRead) (judgedUses c sheet ws MasterWrite)) 16
-
--- an answer is one of 2 to 5
-abbrev pub firstFive : Answer → Bool
-firstFive (Refused n) = ltb n 6
-firstFive Accepted = false
-
--- the chosen entries take the route's place, unless it is refused
-abbrev pub chosenFor : List ℕ → Wanted → Answer → Wanted
-chosenFor entries w (Refused n) = w
-chosenFor entries w Accepted = record { answer = Accepted; sizes = w .sizes; route = record { own = false; entries = entries } }
-
--- what pairs make of what is wanted by own numbers
-abbrev pub pairedOf : Bool → Bool → List ℕ → Wanted → Wanted
-pairedOf path bad entries w =
-    cond (firstFive (w .answer)) w (cond path w (cond bad (wantedAfter (Outcome.refused 18)) (chosenFor entries w (w .answer))))
+unfoldable pub badChoice : Chosen → List SyncManager → List BitLen → Bool
+badChoice c ms bits = numberAbove c || someBelow (badEntry (judgedUses c ms bits MasterRead) (judgedUses c ms bits MasterWrite)) 16

@@ -1,23 +1,19 @@
 // Which sync managers a call wants, with which sizes, and by which path: configuration.rs up to the first register that it writes.
 ghost use mathlib.Core.Path.{_≡_};
-ghost use mathlib.Core.Bool.{true, false, cond, _&&_};
-ghost use mathlib.Core.List.{[], _∷_};
-ghost use Prim.Native.Nat.{_+_, _*_, _≤_};
+ghost use mathlib.Core.Bool.{true, false};
+ghost use Prim.Native.Nat.{_+_, _≤_};
 ghost use lib.ListN.{length, getD, set};
-ghost use lib.Dec.{eqb, ltb};
 ghost use Rattle.wire.specs.Lists.{sum};
 ghost use Rattle.wire.specs.Outcome as Outcome;
-ghost use Rattle.wire.specs.Outcome.{when, decide};
-ghost use Rattle.grammar.specs.Grammar.{usageCount, usagesPlace, nextPdo, kindFits, broken};
+ghost use Rattle.grammar.specs.Grammar.{managerCount, usagesPlace, nextPdo, kindFits, broken};
 ghost use Rattle.sheet.specs.Device.{pdoAt};
-ghost use Rattle.sheet.specs.Sheet.{sheetData, answerOf};
-ghost use Rattle.pdo.specs.Bits.{byCoe};
+ghost use Rattle.sheet.specs.Sheet.{sheetData};
 ghost use Rattle.passes.specs.Use.{firstWith};
 ghost use Rattle.passes.specs.Pairs.{numberAbove};
-ghost use Rattle.passes.specs.Handed.{hasUsage};
-ghost use Rattle.wanted.specs.ByKind.{bitsIn, flagsIn, someTooWide, sizesIn, someSize, routedOf};
-ghost use Rattle.wanted.specs.Judged.{usesIn, comesAgain, withUse, Surveys, somePastLast, someShared, badChoice, firstFive, pairedOf};
-ghost use Rattle.wanted.specs.Wanted.{noSizes, wantedAfter, Wants, WantsBy};
+ghost use Rattle.wanted.specs.ByKind.{kindFor, counted, bitsIn, ofUsage};
+ghost use Rattle.wanted.specs.Paths.{roundedIn, someSize, lacksEntry, pairsRead, eepromWants, coeRoute, coeWants};
+ghost use Rattle.wanted.specs.Judged.{usesIn, comesAgain, withUse, Surveys, somePastLast, someShared, badChoice};
+ghost use Rattle.wanted.specs.Wanted.{sizesAfter, Sized, noRoute, wantedAfter, Wants};
 use passes::Chosen;
 use passes::FmmuMode;
 use passes::Route;
@@ -42,11 +38,11 @@ fn sum_bytes(part: &[u8]) -> u32
 }
 
 // The bits of the PDO at a place of a sound sheet.
-fn pdo_bits(sheet: &[u8], at: usize, kind: u8) -> u32
-    requires { ⌜ (getD (now sheet) at 0 ≡ kind) × (nextPdo (now sheet) at ≤ length (now sheet)) × (kindFits kind (getD (now sheet) (at + 4) 0) ≡ true) × (length (now sheet) ≤ 16386) ⌝ }
+fn pdo_bits(sheet: &[u8], at: usize) -> u32
+    requires { ⌜ (nextPdo (now sheet) at ≤ length (now sheet)) × (kindFits (getD (now sheet) at 0) (getD (now sheet) (at + 4) 0) ≡ true) × (length (now sheet) ≤ 16386) ⌝ }
     ensures { λ r. ⌜ (r ≡ sum (pdoAt (now (sheet .entry)) at .lengths)) × (r ≤ 65535) ⌝ }
 {
-    if kind == 0 {
+    if sheet[at] == 0 {
         let end = at + grammar::PDO_BYTES + wire::wide(sheet[at + grammar::PDO_COUNT]);
         return sum_bytes(&sheet[at + grammar::PDO_BYTES..end]);
     }
@@ -71,7 +67,10 @@ fn kind_for(coe: bool, usage: u8) -> u8
 }
 
 // Whether the PDO at a place counts: it names a sync manager with process data, and is of the kind for it.
-fn counts(sheet: &[u8], at: usize, coe: bool) -> bool {
+fn counts(sheet: &[u8], at: usize, coe: bool) -> bool
+    requires { ⌜ (at + 5 ≤ length (now sheet)) × (usagesPlace (now sheet) ≤ length (now sheet)) × (length (now sheet) ≤ 16386) ⌝ }
+    ensures { λ r. ⌜ r ≡ counted (sheetData (now (sheet .entry)) .managers) «coe» (getD (now (sheet .entry)) at 0) (getD (now (sheet .entry)) (at + 1) 0) ⌝ }
+{
     let manager = sheet[at + grammar::PDO_MANAGER];
     if grammar::manager_count(sheet) <= manager {
         return false;
@@ -107,8 +106,7 @@ fn tally(sheet: &[u8], coe: bool, multipliers: &[u8]) -> [BitLen; 16]
             let slot = wire::wide(sheet[place + grammar::PDO_MANAGER]);
             let before = sums[slot].0;
             sums[slot] = BitLen(
-                before
-                    + pdo_bits(sheet, place, sheet[place]) * (multiplier_at(multipliers, i) as u32),
+                before + pdo_bits(sheet, place) * (multiplier_at(multipliers, i) as u32),
             );
         }
         place = place + grammar::PDO_BYTES + wire::wide(sheet[place + grammar::PDO_COUNT]);
@@ -157,7 +155,9 @@ pub struct Sizes {
 }
 
 // A refusal has nothing beside it.
-fn no_sizes(number: u8) -> Sizes {
+fn no_sizes(number: u8) -> Sizes
+    ensures { λ r. ⌜ r ≡ sizesAfter (Outcome.refused number) ⌝ }
+{
     Sizes {
         answer: Answer::Refused(number),
         list: [ByteLen(0); 16],
@@ -165,7 +165,10 @@ fn no_sizes(number: u8) -> Sizes {
 }
 
 // The exact bits of a sheet's sync managers rounded up, each by itself, or 6.
-fn rounded(sheet: &[u8], bits: [BitLen; 16]) -> Sizes {
+fn rounded(sheet: &[u8], bits: [BitLen; 16]) -> Sizes
+    requires { ⌜ managerCount (now sheet) ≤ 16 ⌝ }
+    ensures { λ r. ⌜ r ≡ sizesAfter (roundedIn (managerCount (now (sheet .entry))) bits) ⌝ }
+{
     let mut list = [ByteLen(0); 16];
     let n = wire::wide(sheet::front_count(sheet));
     let mut k = 0;
@@ -187,7 +190,10 @@ fn rounded(sheet: &[u8], bits: [BitLen; 16]) -> Sizes {
 }
 
 // Whether some sync manager of a usage has a size above 0.
-fn some_size(sheet: &[u8], usage: u8, sizes: [ByteLen; 16]) -> bool {
+fn some_size(sheet: &[u8], usage: u8, sizes: [ByteLen; 16]) -> bool
+    requires { ⌜ managerCount (now sheet) ≤ 16 ⌝ }
+    ensures { λ r. ⌜ r ≡ someSize (sheetData (now (sheet .entry)) .managers) usage sizes ⌝ }
+{
     let n = sheet::front_count(sheet);
     let mut k = 0;
     while k < n {
@@ -202,7 +208,10 @@ fn some_size(sheet: &[u8], usage: u8, sizes: [ByteLen; 16]) -> bool {
 }
 
 // 7: whether no entry is the direction's though one of its sync managers has bits.
-fn no_entry(sheet: &[u8], direction: PdoDirection, sizes: [ByteLen; 16]) -> bool {
+fn no_entry(sheet: &[u8], direction: PdoDirection, sizes: [ByteLen; 16]) -> bool
+    requires { ⌜ managerCount (now sheet) ≤ 16 ⌝ }
+    ensures { λ r. ⌜ r ≡ lacksEntry (sheetData (now (sheet .entry))) sizes direction ⌝ }
+{
     let terms = direction.filter_terms();
     if first_with(sheet, terms.fmmu_usage) != grammar::usage_count(sheet) {
         return false;
@@ -293,7 +302,9 @@ fn with_use(seen: Entered, entry: u8) -> Entered
 }
 
 // The entry of each number that has bits, from the last number to the first.
-fn survey(bits: [BitLen; 16], entries: [u8; 16]) -> Entered {
+fn survey(bits: [BitLen; 16], entries: [u8; 16]) -> Entered
+    ensures { λ r. ⌜ Surveys (usesIn entries bits) r ⌝ }
+{
     let mut seen = Entered {
         used: [false; 16],
         first: 0,
@@ -351,7 +362,10 @@ fn number_above(chosen: Chosen) -> bool
 }
 
 // 18: a number above 15, an entry of both directions, or one of a direction left for another and come back to.
-fn bad_pairs(sheet: &[u8], bits: [BitLen; 16], chosen: Chosen) -> bool {
+fn bad_pairs(sheet: &[u8], bits: [BitLen; 16], chosen: Chosen) -> bool
+    requires { ⌜ managerCount (now sheet) ≤ 16 ⌝ }
+    ensures { λ r. ⌜ r ≡ badChoice chosen (sheetData (now (sheet .entry)) .managers) bits ⌝ }
+{
     if number_above(chosen) {
         return true;
     }
@@ -372,7 +386,9 @@ fn bad_pairs(sheet: &[u8], bits: [BitLen; 16], chosen: Chosen) -> bool {
 }
 
 // Whether the pairs are read: by the mode that asks for them, and not on the CoE path.
-fn by_pairs(coe: bool, mode: FmmuMode) -> bool {
+fn by_pairs(coe: bool, mode: FmmuMode) -> bool
+    ensures { λ r. ⌜ r ≡ pairsRead «coe» mode ⌝ }
+{
     match mode {
         FmmuMode::OwnNumber => false,
         FmmuMode::Paired => !coe,
@@ -388,7 +404,9 @@ pub struct Wanted {
 }
 
 // Each uses its own entry, also at 0 bits.
-fn own_entries() -> Route {
+fn own_entries() -> Route
+    ensures { λ r. ⌜ r ≡ noRoute ⌝ }
+{
     Route {
         own: true,
         entries: [0u8; 16],
@@ -396,7 +414,9 @@ fn own_entries() -> Route {
 }
 
 // A refusal has nothing beside it.
-fn refused(number: u8) -> Wanted {
+fn refused(number: u8) -> Wanted
+    ensures { λ r. ⌜ r ≡ wantedAfter (Outcome.refused number) ⌝ }
+{
     Wanted {
         answer: Answer::Refused(number),
         sizes: [ByteLen(0); 16],
@@ -406,12 +426,15 @@ fn refused(number: u8) -> Wanted {
 }
 
 // By EEPROM both directions go by own numbers, or by the chosen entries.
-fn by_eeprom(mode: FmmuMode, chosen: Chosen, sizes: [ByteLen; 16]) -> Wanted {
+fn by_eeprom(mode: FmmuMode, chosen: Chosen, sizes: [ByteLen; 16]) -> Wanted
+    ensures { λ r. ⌜ r ≡ eepromWants mode chosen sizes ⌝ }
+{
+    let entries = chosen.entries;
     let route = match mode {
         FmmuMode::OwnNumber => own_entries(),
         FmmuMode::Paired => Route {
             own: false,
-            entries: chosen.entries,
+            entries,
         },
     };
     Wanted {
@@ -423,7 +446,9 @@ fn by_eeprom(mode: FmmuMode, chosen: Chosen, sizes: [ByteLen; 16]) -> Wanted {
 }
 
 // On the CoE path all of a direction use the first entry with its usage.
-fn first_entry(sheet: &[u8], direction: PdoDirection) -> Route {
+fn first_entry(sheet: &[u8], direction: PdoDirection) -> Route
+    ensures { λ r. ⌜ r ≡ coeRoute (sheetData (now (sheet .entry))) direction ⌝ }
+{
     let entry = first_with(sheet, direction.filter_terms().fmmu_usage);
     Route {
         own: false,
@@ -432,7 +457,10 @@ fn first_entry(sheet: &[u8], direction: PdoDirection) -> Route {
 }
 
 // By CoE it is 7 where there is none for a direction that has bits.
-fn by_coe(sheet: &[u8], sizes: [ByteLen; 16]) -> Wanted {
+fn by_coe(sheet: &[u8], sizes: [ByteLen; 16]) -> Wanted
+    requires { ⌜ managerCount (now sheet) ≤ 16 ⌝ }
+    ensures { λ r. ⌜ r ≡ coeWants (sheetData (now (sheet .entry))) sizes ⌝ }
+{
     if no_entry(sheet, PdoDirection::MasterRead, sizes) {
         return refused(7);
     }

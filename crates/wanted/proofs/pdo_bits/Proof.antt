@@ -1,6 +1,6 @@
 -- `wanted::pdo_bits`: by its kind a record holds m bit lengths or one.
 -- Assumes nothing.
-use mathlib.Core.Path.{_≡_, refl, sym}
+use mathlib.Core.Path.{_≡_, refl}
 use Prim.Native.Nat.{_+_, _-_}
 use native.Mathlib.Omega.{arith}
 use lib.ListN.{getD}
@@ -13,8 +13,11 @@ use Rattle.wanted.proofs.pdo_bits.Statement.{statement}
 use Rattle.wanted.proofs.pdo_bits.Tie as tie
 
 -- a record of another kind than 0 has two bytes
-two : (c : tie.Else1) → getD (now (c .before .before .args .sheet)) (c .before .before .args .at + 4) 0 ≡ 2
-two c = fits-two (c .before .before .args .kind) _ (c .before .before .pre .2) (c .if1 .left) .1
+two : (c : tie.Else1) → getD (now (c .before .before .before .args .sheet)) (c .before .before .before .args .at + 4) 0 ≡ 2
+two c = let b = c .before .before .before in fits-two (getD (now (b .args .sheet)) (b .args .at) 0) _ (b .pre .1) (c .if1 .left) .1
+
+shared-slice-read-if1 : tie.Need-shared-slice-read-if1
+shared-slice-read-if1 c = search needs
 
 add-end : tie.Need-add-end
 add-end c = search needs
@@ -48,11 +51,11 @@ sum-bytes-requires c κs = search needs
 
 returns : tie.Need-returns
 returns c =
-    let b = c .before .before .before .before .before .before in
+    let b = c .before .before .before .before .before .before .before in
     let a = b .args in
     let s = now (a .sheet) in
     let n = a .at + 5 + c .before .before .wide .result - (a .at + 5) in (
-      bits-coe s (a .at) (a .kind) _ (c .sum-bytes .result) (sym (b .pre .0)) (c .before .before .before .before .if1 .taken) refl
+      bits-coe s (a .at) (getD s (a .at) 0) _ (c .sum-bytes .result) refl (c .before .before .before .before .if1 .taken) refl
           (sum-part s (a .at + 5) (getD s (a .at + 4) 0) n (c .sum-bytes .result) (c .sum-bytes .ensures .0) (omega arith)),
       omega arith,
     )
@@ -78,14 +81,15 @@ cast-result c = search needs
 returns-2 : tie.Need-returns-2
 returns-2 c =
     let e = c .before .before .before in
-    let a = e .before .before .args in
+    let a = e .before .before .before .args in
     let s = now (a .sheet) in
-    (bits-eeprom s (a .at) (a .kind) (getD s (a .at + 5) 0) (getD s (a .at + 6) 0) (c .be16 .result) (sym (e .before .before .pre .0)) (e .if1 .left) refl refl (c .be16 .ensures), omega arith)
+    (bits-eeprom s (a .at) (getD s (a .at) 0) (getD s (a .at + 5) 0) (getD s (a .at + 6) 0) (c .be16 .result) refl (e .if1 .left) refl refl (c .be16 .ensures), omega arith)
 
 pub pdo-bits-spec : {M : Type 1} → statement M
 pdo-bits-spec =
     tie.close
     (tie.spec
+    shared-slice-read-if1
     add-end
     add-wide
     shared-slice-read-wide

@@ -1,124 +1,154 @@
--- `wanted::sizes_of`: after k turns k sizes stand there, and none of them is too wide.
+-- `wanted::sizes_of`: the sheet's refusals, then 6, then 7; what is worked out before each return decides it.
 -- Assumes nothing.
-use mathlib.Core.Path.{_≡_, sym, _∙_, ap}
-use Prim.Native.Nat.{_-_, _≤_}
-use native.Mathlib.Omega.{arith}
+use mathlib.Core.Path.{_≡_, sym, _∙_}
+use mathlib.Core.List.{List}
 use denote.Ref.{now}
 use borrow.Author.Needs.{needs}
-use Rattle.pdi.specs.Unit.{roundedOf}
+use borrow.Author.Tests.{not-true, not-false}
+use Rattle.pdi.specs.declared.BitLen.{BitLen}
 use Rattle.grammar.specs.Grammar.{managerCount}
-use Rattle.grammar.proofs.Broken.{kept}
-use Rattle.wanted.specs.ByKind.{bitsAt, bitsIn}
-use Rattle.wanted.proofs.Sums.{bitAt}
-use Rattle.wanted.proofs.Sized.{Rounding, rounding-start, bits-read, rounding-turn, rounding-refused, rounding-end}
+use Rattle.sheet.specs.Sheet.{sheetData}
+use Rattle.sheet.specs.declared.Answer.the-variants.{Accepted}
+use Rattle.sheet.proofs.Kept.{Accepts}
+use Rattle.sheet.proofs.Reading.{Checked, checked-case, checked-accepts}
+use Rattle.pdo.specs.Direction.{usageOf}
+use Rattle.wanted.specs.ByKind.{bitsIn, ofUsage}
+use Rattle.wanted.specs.Paths.{roundedIn}
+use Rattle.wanted.specs.Wanted.{sizesAfter}
+use Rattle.wanted.proofs.Sizing.{sheet-sizes, eeprom-sizes, six-sizes, seven-sizes, all-sizes}
 use Rattle.wanted.proofs.sizes_of.Statement.{statement}
 use Rattle.wanted.proofs.sizes_of.Tie as tie
 
-abbrev Inv-loop : tie.InvT-loop
-Inv-loop sheet kind usage multipliers bits list₀ n k₀ list k =
-    (k ≤ n) × (n ≡ managerCount sheet) × (n ≤ 16) × (bits ≡ bitsIn sheet kind usage multipliers)
-    × Rounding sheet kind usage multipliers list k
+-- from here on the sheet keeps every rule
+keeps : (c : tie.After-enum-told) → Checked (now (c .before .before .before .before .before .args .sheet)) Accepted
+keeps c = checked-case _ (c .before .before .check .ensures) (c .enum-told .given .1)
 
-abbrev μ-loop : tie.MeasureT-loop
-μ-loop sheet kind usage multipliers bits list₀ n k₀ list k = n - k
+sound : (c : tie.After-enum-told) → Accepts (now (c .before .before .before .before .before .args .sheet))
+sound c = checked-accepts _ (keeps c)
 
--- the bits that are rounded up are those of the number
-of-number :
-    (c : tie.In-loop Inv-loop μ-loop)
-    → bitAt (c .before .before .before .before .tally .result) (c .before .loop .k)
-    ≡ bitsAt (now (c .before .before .before .before .before .before .before .args .sheet)) (c .before .before .before .before .before .before .before .args .kind)
-    (c .before .before .before .before .before .before .before .args .usage) (now (c .before .before .before .before .before .before .before .args .multipliers)) (c .before .loop .k)
-of-number c =
-    let b = c .before .before .before .before .before .before .before in
-    bits-read (now (b .args .sheet)) (b .args .kind) (b .args .usage) (now (b .args .multipliers)) _ (c .before .loop .k) (c .before .loop .inv .3) (omega arith)
+-- where the path is known, and where the call began
+abbrev pathed : tie.After-rounded → tie.After-coe-on
+pathed c = c .before .before .before .before
 
-tally-requires : tie.Need-tally-requires Inv-loop μ-loop
-tally-requires c κs = c .before .before .pre
+abbrev start : tie.After-rounded → tie.Start
+start c = pathed c .before .before .before .before .before .before
 
-manager-count-requires : tie.Need-manager-count-requires Inv-loop μ-loop
-manager-count-requires c κs = tt
+-- the direction's bits are rounded up
+abbrev mine : tie.After-rounded → List BitLen
+mine c =
+    let a = start c .args in
+    ofUsage (sheetData (now (a .sheet)) .managers) (usageOf (a .direction)) (bitsIn (now (a .sheet)) (pathed c .coe-on .result) (now (a .multipliers)))
 
-wide-requires : tie.Need-wide-requires Inv-loop μ-loop
-wide-requires c κs = tt
+rounds : (c : tie.After-rounded) → c .rounded .result ≡ sizesAfter (roundedIn (managerCount (now (start c .args .sheet))) (mine c))
+rounds c =
+    let u = c .before in
+    let t = u .before in
+    let s = now (start c .args .sheet) in
+    let e = _∙_ {c = mine c} (u .of-usage .ensures) (λ i. ofUsage (sheetData s .managers) (t .filter-terms .ensures i .usage) (t .before .tally .ensures i)) in
+    c .rounded .ensures ∙ (λ i. sizesAfter (roundedIn (managerCount s) (e i)))
 
-loop-holds : tie.Need-loop-holds Inv-loop μ-loop
-loop-holds c =
-    let b = c .before .before .before .before .before in
-    let k = kept (now (b .args .sheet)) (b .pre .1) in
-    let e = c .wide .ensures .0 ∙ c .before .manager-count .ensures in
-    (omega arith, e, omega (arith, k .managers), c .before .before .tally .ensures, rounding-start _ _ _ _)
+check-requires : tie.Need-check-requires
+check-requires c κs = search needs
 
-mul-round-up : tie.Need-mul-round-up Inv-loop μ-loop
-mul-round-up c = omega arith
+enum-known-sound : tie.Need-enum-known-sound
+enum-known-sound c = search needs
 
-array-copy-out-round-up : tie.Need-array-copy-out-round-up Inv-loop μ-loop
-array-copy-out-round-up c = omega arith
+no-sizes-requires : tie.Need-no-sizes-requires
+no-sizes-requires c κs = search needs
 
-round-up-requires : tie.Need-round-up-requires Inv-loop μ-loop
-round-up-requires c κs = tt
-
-enum-known-size : tie.Need-enum-known-size Inv-loop μ-loop
-enum-known-size c = search needs
-
-mul-list : tie.Need-mul-list Inv-loop μ-loop
-mul-list c = omega arith
-
-array-set-from-list : tie.Need-array-set-from-list Inv-loop μ-loop
-array-set-from-list c = omega arith
-
-enum-known-number : tie.Need-enum-known-number Inv-loop μ-loop
-enum-known-number c = search needs
-
-returns : tie.Need-returns Inv-loop μ-loop
+returns : tie.Need-returns
 returns c =
-    let u = c .before .before .before in
-    let l = u .before .before .before .loop in
-    let b = u .before .before .before .before .before .before .before .before .before in
-    let n = c .before .number .given in
-    rounding-refused (now (b .args .sheet)) (b .args .kind) (b .args .usage) (now (b .args .multipliers)) (l .k) _ (n .0 .0) (omega arith) (of-number (u .before .before))
-    (sym (ap roundedOf (n .1)) ∙ u .round-up .ensures)
+    let k = c .before .before .before .before in
+    let a = k .before .before .before .args in
+    let n = c .before .before .sound .given in
+    sheet-sizes (now (a .sheet)) (now (a .multipliers)) (a .direction) (n .0 .0) (c .no-sizes .result) (checked-case _ (k .check .ensures) (n .1)) (c .no-sizes .ensures)
 
-add-k : tie.Need-add-k Inv-loop μ-loop
-add-k c = omega arith
+enum-told : tie.Need-enum-told
+enum-told c = search needs
 
-loop-less : tie.Need-loop-less Inv-loop μ-loop
-loop-less c = omega arith
+coe-on-requires : tie.Need-coe-on-requires
+coe-on-requires c κs = search needs
 
-loop-again : tie.Need-loop-again Inv-loop μ-loop
-loop-again c =
-    let u = c .before .before .before in
-    let l = u .before .before .before .loop in
-    let b = u .before .before .before .before .before .before .before .before .before in
-    let w = c .before .size .given in
-    let t = rounding-turn (now (b .args .sheet)) (b .args .kind) (b .args .usage) (now (b .args .multipliers)) (l .list) (l .k) _ (w .0 .0) (omega arith) (of-number (u .before .before))
-    (sym (ap roundedOf (w .1)) ∙ u .round-up .ensures) (l .inv .4) in
-    (omega arith, l .inv .1, l .inv .2, l .inv .3, t)
+tally-requires : tie.Need-tally-requires
+tally-requires c κs = let k = sound (c .before) in (k .high, k .whole)
 
-returns-2 : tie.Need-returns-2 Inv-loop μ-loop
+filter-terms-requires : tie.Need-filter-terms-requires
+filter-terms-requires c κs = search needs
+
+of-usage-requires : tie.Need-of-usage-requires
+of-usage-requires c κs = sound (c .before .before .before) .managers
+
+rounded-requires : tie.Need-rounded-requires
+rounded-requires c κs = sound (c .before .before .before .before) .managers
+
+returns-2 : tie.Need-returns-2
 returns-2 c =
-    let l = c .before .loop in
-    let b = c .before .before .before .before .before .before .before in
-    rounding-end (now (b .args .sheet)) (b .args .kind) (b .args .usage) (now (b .args .multipliers)) (l .list) (l .k) (omega arith) (omega arith) (l .inv .4)
+    let r = c .before in
+    let p = pathed r in
+    let a = start r .args in
+    eeprom-sizes (now (a .sheet)) (now (a .multipliers)) (a .direction) (keeps (p .before)) (p .coe-on .result) (p .coe-on .ensures) (r .rounded .result) (rounds r)
+    (not-true (p .coe-on .result) (c .if1 .taken))
+
+enum-told-2 : tie.Need-enum-told-2
+enum-told-2 c = search needs
+
+no-entry-requires : tie.Need-no-entry-requires
+no-entry-requires c κs = sound (pathed (c .before .before .before .before) .before) .managers
+
+no-sizes-requires-2 : tie.Need-no-sizes-requires-2
+no-sizes-requires-2 c κs = search needs
+
+returns-3 : tie.Need-returns-3
+returns-3 c =
+    let n = c .before .before in
+    let e = n .before .before .before .before in
+    let r = e .before in
+    let p = pathed r in
+    let a = start r .args in
+    seven-sizes (now (a .sheet)) (now (a .multipliers)) (a .direction) (keeps (p .before)) (p .coe-on .result) (p .coe-on .ensures) (r .rounded .result) (rounds r)
+    (not-false (p .coe-on .result) (e .if1 .left)) (n .before .enum-told2 .given .1) (c .no-sizes2 .result) (sym (n .no-entry .ensures) ∙ c .before .if2 .taken) (c .no-sizes2 .ensures)
+
+enum-told-3 : tie.Need-enum-told-3
+enum-told-3 c = search needs
+
+returns-4 : tie.Need-returns-4
+returns-4 c =
+    let n = c .before in
+    let e = n .before .before .before .before in
+    let r = e .before in
+    let p = pathed r in
+    let a = start r .args in
+    all-sizes (now (a .sheet)) (now (a .multipliers)) (a .direction) (keeps (p .before)) (p .coe-on .result) (p .coe-on .ensures) (r .rounded .result) (rounds r)
+    (not-false (p .coe-on .result) (e .if1 .left)) (n .before .enum-told2 .given .1) (sym (n .no-entry .ensures) ∙ c .if2 .left)
+
+returns-5 : tie.Need-returns-5
+returns-5 c =
+    let r = c .before .before .before .before in
+    let p = pathed r in
+    let a = start r .args in
+    let n = c .enum-told3 .given in
+    six-sizes (now (a .sheet)) (now (a .multipliers)) (a .direction) (keeps (p .before)) (p .coe-on .result) (p .coe-on .ensures) (r .rounded .result) (rounds r)
+    (n .0 .0) (n .1)
 
 pub sizes-of-spec : {M : Type 1} → statement M
 sizes-of-spec =
     tie.close
     (tie.spec
-    Inv-loop
-    μ-loop
-    tally-requires
-    manager-count-requires
-    wide-requires
-    loop-holds
-    mul-round-up
-    array-copy-out-round-up
-    round-up-requires
-    enum-known-size
-    mul-list
-    array-set-from-list
-    enum-known-number
+    check-requires
+    enum-known-sound
+    no-sizes-requires
     returns
-    add-k
-    loop-less
-    loop-again
-    returns-2)
+    enum-told
+    coe-on-requires
+    tally-requires
+    filter-terms-requires
+    of-usage-requires
+    rounded-requires
+    returns-2
+    enum-told-2
+    no-entry-requires
+    no-sizes-requires-2
+    returns-3
+    enum-told-3
+    returns-4
+    returns-5)

@@ -12,37 +12,33 @@ use Rattle.grammar.proofs.Broken.{kept}
 use Rattle.sheet.specs.Sheet.{sheetData}
 use Rattle.sheet.proofs.Sound.{Fits}
 use Rattle.pdo.proofs.Records.{product-bounded}
-use Rattle.passes.specs.Handed.{hasUsage}
-use Rattle.wanted.proofs.Managers.{counts-kind, counts-there}
-use Rattle.wanted.proofs.Sums.{Tallied, fits-as, tallied-start, next-fits, tallied-here, tallied-on, tallied-end}
+use Rattle.wanted.specs.ByKind.{kindFor, usageAt, hasData}
+use Rattle.wanted.proofs.Managers.{counts-there}
+use Rattle.wanted.proofs.Sums.{Tallied, tallied-start, next-fits, tallied-here, tallied-on, tallied-end, sums-are}
 use Rattle.wanted.proofs.tally.Statement.{statement}
 use Rattle.wanted.proofs.tally.Tie as tie
 
 abbrev Inv-loop : tie.InvT-loop
-Inv-loop sheet kind usage multipliers sums₀ place₀ i₀ count sums place i =
+Inv-loop sheet «coe» multipliers sums₀ place₀ i₀ count sums place i =
     (length sheet ≤ 16386) × (managerCount sheet ≤ 16) × (usagesPlace sheet ≤ length sheet) × (count ≡ pdoCount sheet) × (count ≤ 255)
-    × Tallied sheet multipliers kind (hasUsage usage (sheetData sheet .managers)) (pdoCount sheet) (pdosPlace sheet) sums place i
+    × Tallied sheet multipliers (λ k. kindFor «coe» (usageAt (sheetData sheet .managers) k)) (hasData (sheetData sheet .managers)) (pdoCount sheet) (pdosPlace sheet) sums place i
 
 abbrev μ-loop : tie.MeasureT-loop
-μ-loop sheet kind usage multipliers sums₀ place₀ i₀ count sums place i = count - i
+μ-loop sheet «coe» multipliers sums₀ place₀ i₀ count sums place i = count - i
 
 -- where the call began
 abbrev start : tie.At-loop Inv-loop μ-loop → tie.Start Inv-loop μ-loop
 start c = c .before .before .before .before .before .before
 
--- the next record stands within the bytes; one that counts is of the kind, and names one of sixteen
+-- the next record stands within the bytes; one that counts names one of sixteen
 fit : (c : tie.In-loop Inv-loop μ-loop) → Fits (now (start (c .before) .args .sheet)) (pdoCount (now (start (c .before) .args .sheet)) - (c .before .loop .i + 1)) (c .before .loop .place)
-fit c = next-fits _ _ _ _ (c .before .loop .inv .5 .walked) (omega arith)
-
-of-kind : (c : tie.Then1 Inv-loop μ-loop) → getD (now (start (c .before .before .before) .args .sheet)) (c .before .before .before .loop .place) 0 ≡ start (c .before .before .before) .args .kind
-of-kind c =
-    let a = start (c .before .before .before) .args in
-    counts-kind (now (a .sheet)) (a .kind) (a .usage) (c .before .before .before .loop .place) (sym (c .before .counts .ensures) ∙ c .if1 .taken)
+fit c = next-fits _ _ _ _ (c .before .loop .inv .5) (omega arith)
 
 low : (c : tie.Then1 Inv-loop μ-loop) → getD (now (start (c .before .before .before) .args .sheet)) (c .before .before .before .loop .place + 1) 0 < 16
 low c =
     let a = start (c .before .before .before) .args in
-    let h = counts-there (now (a .sheet)) (a .kind) (a .usage) (c .before .before .before .loop .place) (sym (c .before .counts .ensures) ∙ c .if1 .taken) in
+    let s = now (a .sheet) in
+    let h = counts-there s (a .«coe») (getD s (c .before .before .before .loop .place) 0) (getD s (c .before .before .before .loop .place + 1) 0) (sym (c .before .counts .ensures) ∙ c .if1 .taken) in
     omega arith
 
 product : (c : tie.After-multiplier-at Inv-loop μ-loop) → c .before .pdo-bits .result * c .multiplier-at .result ≤ 16711425
@@ -87,19 +83,19 @@ pdo-bits-requires : tie.Need-pdo-bits-requires Inv-loop μ-loop
 pdo-bits-requires c κs =
     let t = c .before .before in
     let f = fit (t .before .before) in
-    (of-kind t, f .within, fits-as _ _ _ _ (of-kind t) f, t .before .before .before .loop .inv .0)
+    (f .within, f .kind, t .before .before .before .loop .inv .0)
 
 multiplier-at-requires : tie.Need-multiplier-at-requires Inv-loop μ-loop
 multiplier-at-requires c κs = tt
 
-cast-t21 : tie.Need-cast-t21 Inv-loop μ-loop
-cast-t21 c = search needs
+cast-t20 : tie.Need-cast-t20 Inv-loop μ-loop
+cast-t20 c = search needs
 
-mul-t22 : tie.Need-mul-t22 Inv-loop μ-loop
-mul-t22 c = omega (arith, product c)
+mul-t21 : tie.Need-mul-t21 Inv-loop μ-loop
+mul-t21 c = omega (arith, product c)
 
-add-t23 : tie.Need-add-t23 Inv-loop μ-loop
-add-t23 c =
+add-t22 : tie.Need-add-t22 Inv-loop μ-loop
+add-t22 c =
     let t = c .before .before .before .before in
     let l = t .before .before .before .loop in
     omega (arith, product c, l .inv .5 .small (c .before .before .wide2 .result) (omega (arith, low t)))
@@ -148,7 +144,7 @@ loop-again c =
 
 returns : tie.Need-returns Inv-loop μ-loop
 unfolding sheetData
-returns c = tallied-end _ _ _ _ (c .before .loop .inv .5) (omega arith)
+returns c = let a = start (c .before) .args in sums-are (now (a .sheet)) (a .«coe») (now (a .multipliers)) _ (tallied-end _ _ _ _ (c .before .loop .inv .5) (omega arith))
 
 pub tally-spec : {M : Type 1} → statement M
 tally-spec =
@@ -168,9 +164,9 @@ tally-spec =
     element-copy-out-before
     pdo-bits-requires
     multiplier-at-requires
-    cast-t21
-    mul-t22
-    add-t23
+    cast-t20
+    mul-t21
+    add-t22
     mul-sums
     array-set-from-sums
     add-place
