@@ -1,8 +1,8 @@
--- What is in the way of a pass: asked sync manager by sync manager; what the entries are then, and that 8 on those is 8 of the pass.
+-- What is in the way of a call: asked sync manager by sync manager; what the entries are then, and that 8 on those is 8 of the call.
 -- Assumes nothing.
 use mathlib.Core.Path.{_≡_, refl, sym, _∙_, ap, subst}
 use mathlib.Core.Bool.{Bool, true, false, cond, _||_}
-use mathlib.Core.List.{List, [], _∷_, map}
+use mathlib.Core.List.{List, [], _∷_, _++_, map}
 use mathlib.Core.Logic.{inl}
 use Prim.Native.Nat.{ℕ, _+_, _<_, _≤_, min}
 use native.Mathlib.Omega.{arith}
@@ -15,17 +15,18 @@ use Rattle.sheet.specs.declared.SyncManager.{SyncManager}
 use Rattle.sheet.specs.Sheet.{managerCount, managerPlace, managerAt, managersIn}
 use Rattle.sheet.proofs.Managers.{front-manager, front-over}
 use Rattle.pdo.specs.declared.PdoDirection.{PdoDirection}
+use Rattle.pdo.specs.declared.PdoDirection.the-variants.{MasterRead, MasterWrite}
 use Rattle.pdo.specs.Direction.{usageOf}
 use Rattle.channels.specs.Channels.{sizeAt}
 use Rattle.passes.specs.declared.OldEntries.{OldEntries}
 use Rattle.passes.specs.declared.OldEntries.the-variants.{Clear, Keep}
 use Rattle.passes.specs.declared.Route.{Route}
 use Rattle.passes.specs.Use.{Use}
-use Rattle.passes.specs.Handed.{usesBy}
-use Rattle.passes.specs.Entries.{lengthNow, tooLong}
-use Rattle.passes.specs.Old.{cleared, bothBits, someEnabled, inTheWay}
+use Rattle.passes.specs.Handed.{usesBy, Short}
+use Rattle.passes.specs.Entries.{lengthNow, tooLong, usesOfBoth}
+use Rattle.passes.specs.Old.{clearedOfBoth, bothBits, someEnabled, inTheWay}
 use Rattle.passes.proofs.Cleared.{nil-off, zeros-all-off, none-used, cleared-at, length-off, cleared-short, from-zero, cleared-eight}
-use Rattle.entries.specs.Lay.{takesEntry, entryTaken, Short}
+use Rattle.entries.specs.Lay.{takesEntry, entryTaken}
 use Rattle.entries.specs.Ready.{on, zeroEntries, ready, Clears, Readies}
 use Rattle.entries.proofs.Uses.{usesAt, uses-end, uses-other, uses-skip, uses-next}
 
@@ -88,69 +89,82 @@ module _ {sheet : List ℕ} {route : Route} {sizes : List ByteLen} {usage : ℕ}
         pub free-passed : on (getD es e []) ≡ false → NoneYet sheet route sizes usage es (k + 1)
         free-passed o = record { same = sym (ap (λ (b : Bool). b || enabledFrom sheet route sizes usage es (k + 1)) o) ∙ asked }
 
+-- of both directions together: one that the inputs use, else one that the outputs use
+of-two : (us vs : List Use) (es : List (List ℕ)) → someEnabled us es || someEnabled vs es ≡ someEnabled (us ++ vs) es
+of-two [] vs es = refl
+of-two (u ∷ us) vs es = go (on (getD es (u .entry) [])) (of-two us vs es)
+  where
+    go : (b : Bool) → someEnabled us es || someEnabled vs es ≡ someEnabled (us ++ vs) es → (b || someEnabled us es) || someEnabled vs es ≡ b || someEnabled (us ++ vs) es
+    go true e = refl
+    go false e = e
+
+pub by-inputs :
+    (uses : PdoDirection → List Use) (es : List (List ℕ)) {b : Bool} → someEnabled (uses MasterRead) es ≡ b → b || someEnabled (uses MasterWrite) es ≡ someEnabled (usesOfBoth uses) es
+by-inputs uses es e = ap (λ (b : Bool). b || someEnabled (uses MasterWrite) es) (sym e) ∙ of-two (uses MasterRead) (uses MasterWrite) es
+
 -- clearing leaves as many
-pub cleared-many : {r : PdoDirection} {before after : List (List ℕ)} {enabled both : Bool} → Clears r before after enabled both → length before ≡ 16 → length after ≡ 16
-cleared-many {r} {before} c many = ap length (c .holds) ∙ length-map before (cleared r) ∙ many
+pub cleared-many : {before after : List (List ℕ)} {enabled both : Bool} → Clears before after enabled both → length before ≡ 16 → length after ≡ 16
+cleared-many {before} c many = ap length (c .holds) ∙ length-map before clearedOfBoth ∙ many
 
 -- the entries as they are made ready
-module _ {old : OldEntries} (r : PdoDirection) (us : List Use) (before : List (List ℕ)) where
-  pub keeps : old ≡ Keep → Readies old r us before before false
+module _ {old : OldEntries} (us : List Use) (before : List (List ℕ)) where
+  pub keeps : old ≡ Keep → Readies old us before before false
   unfolding inTheWay
-  keeps is = subst (λ (o : OldEntries). Readies o r us before before false) (sym is) (record { says = refl; holds = refl })
+  keeps is = subst (λ (o : OldEntries). Readies o us before before false) (sym is) (record { says = refl; holds = refl })
 
-  module _ (is : old ≡ Clear) {after : List (List ℕ)} {enabled both : Bool} (c : Clears r before after enabled both) where
-    by-both : (x y : Bool) → someOf bothBits before ≡ x → someEnabled us (map (cleared r) before) ≡ y → inTheWay Clear r us before ≡ x || y
+  module _ (is : old ≡ Clear) {after : List (List ℕ)} {enabled both : Bool} (c : Clears before after enabled both) where
+    by-both : (x y : Bool) → someOf bothBits before ≡ x → someEnabled us (map clearedOfBoth before) ≡ y → inTheWay Clear us before ≡ x || y
     unfolding inTheWay
     by-both x y e f = λ i. e i || f i
 
-    made : {now : List (List ℕ)} {b : Bool} → inTheWay Clear r us before ≡ b → now ≡ cond b zeroEntries (map (cleared r) before) → Readies old r us before now b
+    made : {now : List (List ℕ)} {b : Bool} → inTheWay Clear us before ≡ b → now ≡ cond b zeroEntries (map clearedOfBoth before) → Readies old us before now b
     made {now} {b} w h =
-        subst (λ (o : OldEntries). Readies o r us before now b) (sym is)
-        (record { says = sym w; holds = h ∙ ap (λ (x : Bool). cond x zeroEntries (map (cleared r) before)) (sym w) })
+        subst (λ (o : OldEntries). Readies o us before now b) (sym is)
+        (record { says = sym w; holds = h ∙ ap (λ (x : Bool). cond x zeroEntries (map clearedOfBoth before)) (sym w) })
 
     -- none is enabled any more; none that is wanted
-    pub all-off : both ≡ false → enabled ≡ false → Readies old r us before after false
-    all-off b e = made (by-both false false (sym (c .twice) ∙ b) (none-used us (map (cleared r) before) (at-none on (map (cleared r) before) [] nil-off (sym (c .some) ∙ e)))) (c .holds)
+    pub all-off : both ≡ false → enabled ≡ false → Readies old us before after false
+    all-off b e = made (by-both false false (sym (c .twice) ∙ b) (none-used us (map clearedOfBoth before) (at-none on (map clearedOfBoth before) [] nil-off (sym (c .some) ∙ e)))) (c .holds)
 
-    pub none-wanted : both ≡ false → someEnabled us after ≡ false → Readies old r us before after false
+    pub none-wanted : both ≡ false → someEnabled us after ≡ false → Readies old us before after false
     none-wanted b e = made (by-both false false (sym (c .twice) ∙ b) (sym (ap (someEnabled us) (c .holds)) ∙ e)) (c .holds)
 
     -- one with both bits; one that is wanted
-    pub both-blocks : both ≡ true → Readies old r us before zeroEntries true
+    pub both-blocks : both ≡ true → Readies old us before zeroEntries true
     both-blocks b = made (by-both true _ (sym (c .twice) ∙ b) refl) refl
 
-    pub wanted-blocks : both ≡ false → someEnabled us after ≡ true → Readies old r us before zeroEntries true
+    pub wanted-blocks : both ≡ false → someEnabled us after ≡ true → Readies old us before zeroEntries true
     wanted-blocks b e = made (by-both false true (sym (c .twice) ∙ b) (sym (ap (someEnabled us) (c .holds)) ∙ e)) refl
 
 short-zeros : Short zeroEntries
 short-zeros = record { many = refl; short = λ k h. (let z = length-off (getD zeroEntries k []) (zeros-all-off 16 k) in omega arith) }
 
-short-cleared : (r : PdoDirection) (es : List (List ℕ)) → Short es → Short (map (cleared r) es)
-short-cleared r es s =
+short-cleared : (es : List (List ℕ)) → Short es → Short (map clearedOfBoth es)
+short-cleared es s =
     record {
-      many = length-map es (cleared r) ∙ s .many;
-      short = λ k h. subst (λ (e : List ℕ). lengthNow e ≤ 65535) (sym (cleared-at r es k)) (cleared-short r (getD es k []) (s .short k h));
+      many = length-map es clearedOfBoth ∙ s .many;
+      short = λ k h. subst (λ (e : List ℕ). lengthNow e ≤ 65535) (sym (cleared-at es k)) (cleared-short (getD es k []) (s .short k h));
     }
 
 -- what is made ready is as short
-short-ready : (old : OldEntries) (r : PdoDirection) (us : List Use) (es : List (List ℕ)) → Short es → Short (ready old r us es)
+short-ready : (old : OldEntries) (us : List Use) (es : List (List ℕ)) → Short es → Short (ready old us es)
 unfolding inTheWay
-short-ready Keep r us es s = s
-short-ready Clear r us es s = go (inTheWay Clear r us es)
+short-ready Keep us es s = s
+short-ready Clear us es s = go (inTheWay Clear us es)
   where
-    go : (b : Bool) → Short (cond b zeroEntries (map (cleared r) es))
+    go : (b : Bool) → Short (cond b zeroEntries (map clearedOfBoth es))
     go true = short-zeros
-    go false = short-cleared r es s
+    go false = short-cleared es s
 
-pub short-made : {old : OldEntries} {r : PdoDirection} {us : List Use} {before after : List (List ℕ)} {blocked : Bool} → Readies old r us before after blocked → Short before → Short after
-short-made {old} {r} {us} {before} m s = subst (λ (es : List (List ℕ)). Short es) (sym (m .holds)) (short-ready old r us before s)
+pub short-made : {old : OldEntries} {us : List Use} {before after : List (List ℕ)} {blocked : Bool} → Readies old us before after blocked → Short before → Short after
+short-made {old} {us} {before} m s = subst (λ (es : List (List ℕ)). Short es) (sym (m .holds)) (short-ready old us before s)
 
--- 8 on what is laid on is 8 of the pass
-pub too-long-ready : (old : OldEntries) (r : PdoDirection) (us : List Use) (es : List (List ℕ)) → Short es → tooLong Keep us (ready old r us es) ≡ tooLong old us es
+-- 8 on what is laid on is 8 of the call
+pub too-long-ready : (old : OldEntries) (us : List Use) (es : List (List ℕ)) → Short es → tooLong Keep us (ready old us es) ≡ tooLong old us es
 unfolding inTheWay
-too-long-ready Keep r us es s = refl
-too-long-ready Clear r us es s = go (inTheWay Clear r us es) refl
+too-long-ready Keep us es s = refl
+too-long-ready Clear us es s = go (inTheWay Clear us es) refl
   where
-    go : (b : Bool) → inTheWay Clear r us es ≡ b → tooLong Keep us (cond b zeroEntries (map (cleared r) es)) ≡ tooLong Clear us es
+    go : (b : Bool) → inTheWay Clear us es ≡ b → tooLong Keep us (cond b zeroEntries (map clearedOfBoth es)) ≡ tooLong Clear us es
     go true w = from-zero us zeroEntries es (short-zeros .short) (λ k. inl (zeros-all-off 16 k))
-    go false w = cleared-eight r us es (s .short) w
+    go false w = cleared-eight us es (s .short) w

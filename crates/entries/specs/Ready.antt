@@ -1,20 +1,26 @@
 -- What the parts of making the entries ready promise one another.
 -- Assumes nothing.
 use mathlib.Core.Path.{_≡_}
-use mathlib.Core.Bool.{Bool, cond}
+use mathlib.Core.Bool.{Bool, cond, _||_}
 use mathlib.Core.List.{List, map}
 use Prim.Native.Nat.{ℕ}
 use lib.ListN.{getD, replicate}
 use Rattle.wire.specs.Field.{bitsAt}
 use Rattle.wire.specs.Lists.{someOf}
+use Rattle.fmmu.specs.declared.Fmmu.{Fmmu}
 use Rattle.fmmu.specs.Image.{fieldsOf}
+use Rattle.pdo.specs.declared.PdoDirection.the-variants.{MasterRead, MasterWrite}
 use Rattle.passes.specs.Use.{Use}
-use Rattle.passes.specs.Old.{clearedOfBoth, beginning, bothBits, inTheWay}
+use Rattle.passes.specs.Old.{carriesAlone, clearedOfBoth, beginning, bothBits, inTheWay}
 use Rattle.passes.specs.declared.OldEntries.{OldEntries}
 
 -- byte 11: bit 0 read, bit 1 write
 abbrev pub accessOf : List ℕ → ℕ
 accessOf e = bitsAt (getD e 11 0) 0 2
+
+-- it carries one direction's bit alone
+abbrev pub carriesOne : Fmmu → Bool
+carriesOne f = carriesAlone MasterRead f || carriesAlone MasterWrite f
 
 -- an entry that is enabled
 abbrev pub on : List ℕ → Bool

@@ -5,10 +5,10 @@ ghost use lib.ListN.{length, getD};
 ghost use mathlib.Core.List.{[]};
 ghost use Rattle.fmmu.specs.Image.{fieldsOf};
 ghost use Rattle.sheet.specs.Sheet.{managersIn};
-ghost use Rattle.passes.specs.Old as Old;
-ghost use Rattle.passes.specs.Old.{carriesAlone, carriesBoth, someEnabled};
-ghost use Rattle.passes.specs.Handed.{usesBy};
-ghost use Rattle.entries.specs.Ready.{accessOf, accessAlone, Clears, Readies};
+ghost use Rattle.passes.specs.Old.{carriesBoth, clearedOfBoth, someEnabled};
+ghost use Rattle.passes.specs.Entries.{usesOfBoth};
+ghost use Rattle.passes.specs.Handed.{usesBy, usesByBoth};
+ghost use Rattle.entries.specs.Ready.{accessOf, carriesOne, Clears, Readies};
 use crate::entry_of;
 use crate::takes;
 use passes::OldEntries;
@@ -37,13 +37,18 @@ fn access_of(image: [u8; 16]) -> u8
 }
 
 // Whether an entry carries one direction's bit alone.
-fn carries_one(image: [u8; 16]) -> bool {
+fn carries_one(image: [u8; 16]) -> bool
+    ensures { λ r. ⌜ r ≡ carriesOne (fieldsOf image) ⌝ }
+{
     let access = access_of(image);
     access == 1 || access == 2
 }
 
 // What is left of an enabled entry: an old one is set to zero, all sixteen bytes of it.
-fn cleared(image: [u8; 16]) -> [u8; 16] {
+fn cleared(image: [u8; 16]) -> [u8; 16]
+    requires { ⌜ fieldsOf image .enable ≡ true ⌝ }
+    ensures { λ r. ⌜ r ≡ clearedOfBoth image ⌝ }
+{
     if carries_one(image) {
         return [0u8; 16];
     }
@@ -128,7 +133,10 @@ fn some_wanted(
     sizes: [ByteLen; 16],
     inputs: Route,
     outputs: Route,
-) -> bool {
+) -> bool
+    requires { ⌜ length (now entries) ≡ 16 ⌝ }
+    ensures { λ r. ⌜ r ≡ someEnabled (usesOfBoth (usesByBoth inputs outputs sizes (managersIn (now (sheet .entry))))) (now (entries .entry)) ⌝ }
+{
     if some_enabled(entries, sheet, sizes, inputs, PdoDirection::MasterRead) {
         return true;
     }

@@ -10,13 +10,13 @@ use Rattle.entries.proofs.ready.clear_old.Statement.{statement}
 use Rattle.entries.proofs.ready.clear_old.Tie as tie
 
 abbrev Inv-loop : tie.InvT-loop
-Inv-loop entries₀ direction enabled₀ both₀ k₀ entries enabled both k = (k ≤ 16) × (length entries₀ ≡ 16) × Clearing direction entries₀ k entries enabled both
+Inv-loop entries₀ enabled₀ both₀ k₀ entries enabled both k = (k ≤ 16) × (length entries₀ ≡ 16) × Clearing entries₀ k entries enabled both
 
 abbrev μ-loop : tie.MeasureT-loop
-μ-loop entries₀ direction enabled₀ both₀ k₀ entries enabled both k = 16 - k
+μ-loop entries₀ enabled₀ both₀ k₀ entries enabled both k = 16 - k
 
 loop-holds : tie.Need-loop-holds Inv-loop μ-loop
-loop-holds c = (omega arith, c .pre, clearing-starts _ _)
+loop-holds c = (omega arith, c .pre, clearing-starts _)
 
 mul-image : tie.Need-mul-image Inv-loop μ-loop
 mul-image c = omega arith

@@ -12,7 +12,7 @@ enum-told : tie.Need-enum-told
 enum-told c = search needs
 
 returns : tie.Need-returns
-returns c = keeps _ _ _ (c .enum-told .given .1)
+returns c = keeps _ _ (c .enum-told .given .1)
 
 enum-told-2 : tie.Need-enum-told-2
 enum-told-2 c = search needs
@@ -24,10 +24,10 @@ returns-2 : tie.Need-returns-2
 returns-2 c =
     let b = c .before .before in
     let l = b .before .before in
-    all-off _ _ _ (l .before .before .enum-told2 .given .1) (l .clear-old .ensures) (not-true _ (b .if1 .taken)) (not-true _ (c .if2 .taken))
+    all-off _ _ (l .before .before .enum-told2 .given .1) (l .clear-old .ensures) (not-true _ (b .if1 .taken)) (not-true _ (c .if2 .taken))
 
-some-enabled-requires : tie.Need-some-enabled-requires
-some-enabled-requires c κs =
+some-wanted-requires : tie.Need-some-wanted-requires
+some-wanted-requires c κs =
     let l = c .before .before .before .before .before in
     cleared-many (l .clear-old .ensures) (l .before .before .before .before .before .pre)
 
@@ -35,16 +35,16 @@ returns-3 : tie.Need-returns-3
 returns-3 c =
     let b = c .before .before .before .before .before in
     let l = b .before .before in
-    none-wanted _ _ _ (l .before .before .enum-told2 .given .1) (l .clear-old .ensures) (not-true _ (b .if1 .taken)) (sym (c .before .some-enabled .ensures) ∙ not-true _ (c .if3 .taken))
+    none-wanted _ _ (l .before .before .enum-told2 .given .1) (l .clear-old .ensures) (not-true _ (b .if1 .taken)) (sym (c .before .some-wanted .ensures) ∙ not-true _ (c .if3 .taken))
 
 returns-4 : tie.Need-returns-4
 returns-4 c =
     let l = c .before .before .before in
     let is = l .before .before .enum-told2 .given .1 in
     ⊎-elim
-    (λ w. wanted-blocks _ _ _ is (l .clear-old .ensures) (not-true _ (w .0 .taken)) (sym (w .4 .ensures) ∙ not-false _ (w .5 .left)))
-    (λ w. both-blocks _ _ _ is (l .clear-old .ensures) (not-false _ (w .left)))
+    (λ w. wanted-blocks _ _ is (l .clear-old .ensures) (not-true _ (w .0 .taken)) (sym (w .4 .ensures) ∙ not-false _ (w .5 .left)))
+    (λ w. both-blocks _ _ is (l .clear-old .ensures) (not-false _ (w .left)))
     (c .before .if1 .came)
 
 pub make-ready-spec : {M : Type 1} → statement M
-make-ready-spec = tie.close (tie.spec enum-told returns enum-told-2 clear-old-requires returns-2 some-enabled-requires returns-3 returns-4)
+make-ready-spec = tie.close (tie.spec enum-told returns enum-told-2 clear-old-requires returns-2 some-wanted-requires returns-3 returns-4)
