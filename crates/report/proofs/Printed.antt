@@ -59,7 +59,7 @@ unfolding channelsAfter
 after-reads f k [] es h = h
 after-reads f k (m ∷ ms) es h = after-reads f (suc k) ms (written k m (f k m) es) (written-reads k m (f k m) es h)
 
--- a sync manager area, and both areas, as the passes hand them on
+-- a sync manager area, and both areas, as they are handed on
 pub record Images (l : List ℕ) : Type 0 where
   pub long : length l ≡ 128
   pub reads : Each Reads (entriesOf 8 l)
