@@ -9,27 +9,29 @@ use lib.ListN.{length}
 use Rattle.wire.specs.Outcome.{Outcome, refused, accepted, when, first, decide}
 use Rattle.wire.proofs.Order.{passed, passed-answer}
 use Rattle.pdi.specs.Offset.{pastEnd}
-use Rattle.pdi.specs.declared.PdiOffset.{PdiOffset}
-use Rattle.pdi.specs.declared.Placed.{Placed}
 use Rattle.sheet.specs.Device.{Data}
 use Rattle.sheet.specs.Sheet.{managerCount, sheetRefusals, sheetData, readSheet}
 use Rattle.sheet.proofs.Managers.{manager-count}
 use Rattle.area.specs.Area.{entriesOf, notChannels}
 use Rattle.pdo.specs.declared.PdoDirection.{PdoDirection}
-use Rattle.pdo.specs.declared.PdoDirection.the-variants.{MasterRead, MasterWrite}
 use Rattle.pdo.specs.declared.Oversampling.{Oversampling}
 use Rattle.pdo.specs.Bits.{multipliersOf, piecesOf}
 use Rattle.mailboxes.specs.Mailbox.{Recorded, configOf, mailboxPass, mailboxArea}
 use Rattle.passes.specs.declared.Chosen.{Chosen}
 use Rattle.passes.specs.declared.FmmuMode.the-variants.{OwnNumber}
+use Rattle.passes.specs.declared.Offsets.{Offsets}
+use Rattle.passes.specs.declared.OutputStart.the-variants.{AfterInputs}
+use Rattle.passes.specs.declared.Segments.{Segments}
 use Rattle.passes.specs.declared.Settings.{Settings}
 use Rattle.passes.specs.Old.{clean}
-use Rattle.passes.specs.Use.{nothingChosen, chosenBy, usesOf, sizeOf}
+use Rattle.passes.specs.Use.{nothingChosen, chosenBy, sizeOf}
 use Rattle.passes.specs.Pairs.{badPairs}
-use Rattle.passes.specs.Entries.{Planned, entryRefusals}
-use Rattle.passes.specs.Pass.{notAreas, wantedRefusals, plannedOf, dataPass, entriesAfter, channelAreaAfter, segmentAlone, offsetAfter, Passes}
+use Rattle.passes.specs.Start.{Both, segmentsAlone, offsetsAfter}
+use Rattle.passes.specs.Entries.{entryRefusals}
+use Rattle.passes.specs.Pass.{notAreas, wantedRefusals}
+use Rattle.passes.specs.Call.{usesFor, wantedOfBoth, bothOf, call, entriesAfter, imagesAfter, Calls}
 use Rattle.counting.specs.Count.{Spot, spotIn, count}
-use Rattle.report.specs.Plan.{andThen, Areas, areas, bay, once, pass, passLeaves, withOutputs, withInputs, mailboxLeaves, planBay, outcomeText, reportText}
+use Rattle.report.specs.Plan.{andThen, Areas, areas, bay, once, fromZero, dataCall, callLeaves, withData, mailboxLeaves, planBay, outcomeText, reportText}
 use Rattle.dump.specs.Calls.{sheetFrom}
 use Rattle.dump.proofs.Theorems.{has-sheet}
 use Rattle.dump_plans.specs.Plans.{PlannedAlike, PlanningADump}
@@ -49,15 +51,15 @@ module _ (s : List ℕ) {x : Data} (e : readSheet s ≡ accepted x) where
   unfolding mailboxPass
   mailboxes-of area = ap (λ (o : Outcome Recorded). cond (notChannels area) (refused 1) o) (goes-on (accepted (configOf (sheetData s))) ∙ ap (λ (d : Data). accepted (configOf d)) holds)
 
-  pass-of : (ws : List ℕ) (k : Chosen) (r : PdoDirection) (offset : ℕ) (settings : Settings) (fmmus channels : List ℕ)
-      → dataPass s ws k r offset settings fmmus channels
+  call-of : (ws : List ℕ) (k : Chosen) (o : Offsets) (settings : Settings) (fmmus channels : List ℕ)
+      → call s ws k o settings fmmus channels
       ≡ cond (notAreas fmmus channels) (refused 1)
-      (decide (when 18 (badPairs (settings .mode) k x ws) ∷ wantedRefusals x ws r ++ entryRefusals (usesOf (settings .mode) k x ws r) (sizeOf x ws r) r offset settings (entriesOf 16 fmmus)) (plannedOf x ws r offset (settings .group)))
-  unfolding dataPass
-  pass-of ws k r offset settings fmmus channels =
-      let rest : Data → Outcome Planned =
-      λ d. decide (when 18 (badPairs (settings .mode) k d ws) ∷ wantedRefusals d ws r ++ entryRefusals (usesOf (settings .mode) k d ws r) (sizeOf d ws r) r offset settings (entriesOf 16 fmmus)) (plannedOf d ws r offset (settings .group)) in
-      ap (λ (o : Outcome Planned). cond (notAreas fmmus channels) (refused 1) o) (goes-on (rest (sheetData s)) ∙ ap rest holds)
+      (decide (when 18 (badPairs (settings .mode) k x ws) ∷ wantedOfBoth x ws ++ entryRefusals (usesFor settings k x ws) (sizeOf x ws) o settings (entriesOf 16 fmmus)) (bothOf x ws o settings))
+  unfolding call
+  call-of ws k o settings fmmus channels =
+      let rest : Data → Outcome Both =
+      λ d. decide (when 18 (badPairs (settings .mode) k d ws) ∷ wantedOfBoth d ws ++ entryRefusals (usesFor settings k d ws) (sizeOf d ws) o settings (entriesOf 16 fmmus)) (bothOf d ws o settings) in
+      ap (λ (y : Outcome Both). cond (notAreas fmmus channels) (refused 1) y) (goes-on (rest (sheetData s)) ∙ ap rest holds)
 
   count-of : (r : PdoDirection) (a : ℕ) (ws : List ℕ) (offset : ℕ)
       → count r a s ws offset ≡ decide (wantedRefusals x ws r ++ (when 9 (pastEnd (offset + sizeOf x ws r)) ∷ [])) (spotIn offset (piecesOf x ws r) a)
@@ -85,50 +87,44 @@ module _ (s t : List ℕ) {x : Data} (e : readSheet s ≡ accepted x) (f : readS
   same-mailboxes : (area : List ℕ) → mailboxPass s area ≡ mailboxPass t area
   same-mailboxes area = mailboxes-of s e area ∙ sym (mailboxes-of t f area)
 
-  same-pass : (ws : List ℕ) (k : Chosen) (r : PdoDirection) (offset : ℕ) (settings : Settings) (fmmus channels : List ℕ)
-      → dataPass s ws k r offset settings fmmus channels ≡ dataPass t ws k r offset settings fmmus channels
-  same-pass ws k r offset settings fmmus channels = pass-of s e ws k r offset settings fmmus channels ∙ sym (pass-of t f ws k r offset settings fmmus channels)
+  same-call : (ws : List ℕ) (k : Chosen) (o : Offsets) (settings : Settings) (fmmus channels : List ℕ)
+      → call s ws k o settings fmmus channels ≡ call t ws k o settings fmmus channels
+  same-call ws k o settings fmmus channels = call-of s e ws k o settings fmmus channels ∙ sym (call-of t f ws k o settings fmmus channels)
 
-  passes-too :
-      (ws : List ℕ) (k : Chosen) (r : PdoDirection) (offset : PdiOffset) (settings : Settings) (fmmus channels : List ℕ)
-      (answer : Placed) (offsetThen : PdiOffset) (fmmusThen channelsThen : List ℕ)
-      → Passes s ws k r offset settings fmmus channels answer offsetThen fmmusThen channelsThen
-      → Passes t ws k r offset settings fmmus channels answer offsetThen fmmusThen channelsThen
-  passes-too ws k r offset settings fmmus channels answer offsetThen fmmusThen channelsThen p =
-      let o = same-pass ws k r (offset .«start_address») settings fmmus channels in
+  calls-too :
+      (ws : List ℕ) (k : Chosen) (o : Offsets) (settings : Settings) (fmmus channels : List ℕ) (answer : Segments) (offsetsThen : Offsets) (fmmusThen channelsThen : List ℕ)
+      → Calls s ws k o settings fmmus channels answer offsetsThen fmmusThen channelsThen → Calls t ws k o settings fmmus channels answer offsetsThen fmmusThen channelsThen
+  calls-too ws k o settings fmmus channels answer offsetsThen fmmusThen channelsThen p =
+      let c = same-call ws k o settings fmmus channels in
       record {
-        says = p .says ∙ ap segmentAlone o;
-        moves = p .moves ∙ ap (λ (o : Outcome Planned). offsetAfter o offset) o;
-        entries = p .entries ∙ ap₂ (λ (o : Outcome Planned) (d : Data). entriesAfter o d ws k r (offset .«start_address») settings fmmus) o same-data;
-        images = p .images ∙ ap₂ (λ (o : Outcome Planned) (d : Data). channelAreaAfter o d ws r channels) o same-data;
+        says = p .says ∙ ap segmentsAlone c;
+        moves = p .moves ∙ ap (λ (y : Outcome Both). offsetsAfter y o) c;
+        entries = p .entries ∙ ap₂ (λ (y : Outcome Both) (d : Data). entriesAfter y d ws k o settings fmmus) c same-data;
+        images = p .images ∙ ap₂ (λ (y : Outcome Both) (d : Data). imagesAfter y d ws channels) c same-data;
       }
 
-  -- what is printed: the three passes one after the other
-  pass-too : (r : PdoDirection) (offset : ℕ) (a : Areas) → pass s r offset a ≡ pass t r offset a
-  pass-too r offset a =
-      ap (λ (ws : List ℕ). dataPass s ws nothingChosen r offset (clean OwnNumber 0) (a .fmmus) (a .channels)) (same-multipliers []) ∙ same-pass (once t) nothingChosen r offset (clean OwnNumber 0) (a .fmmus) (a .channels)
+  -- what is printed: the mailbox pass, then the call
+  call-too : (a : Areas) → dataCall s a ≡ dataCall t a
+  call-too a =
+      ap (λ (ws : List ℕ). call s ws nothingChosen fromZero (clean OwnNumber AfterInputs 0) (a .fmmus) (a .channels)) (same-multipliers [])
+      ∙ same-call (once t) nothingChosen fromZero (clean OwnNumber AfterInputs 0) (a .fmmus) (a .channels)
 
-  leaves-too : (r : PdoDirection) (offset : ℕ) (a : Areas) (p : Planned) → passLeaves s r offset a p ≡ passLeaves t r offset a p
-  leaves-too r offset a p =
+  leaves-too : (a : Areas) (b : Both) → callLeaves s a b ≡ callLeaves t a b
+  leaves-too a b =
       λ i.
       areas
-      (entriesAfter (accepted p) (same-data i) (same-multipliers [] i) nothingChosen r offset (clean OwnNumber 0) (a .fmmus))
-      (channelAreaAfter (accepted p) (same-data i) (same-multipliers [] i) r (a .channels))
+      (entriesAfter (accepted b) (same-data i) (same-multipliers [] i) nothingChosen fromZero (clean OwnNumber AfterInputs 0) (a .fmmus))
+      (imagesAfter (accepted b) (same-data i) (same-multipliers [] i) (a .channels))
 
-  outputs-too : (i : Planned) (a : Areas) → withOutputs s i a ≡ withOutputs t i a
-  unfolding withOutputs
-  outputs-too i a =
-      and-then (pass-too MasterWrite (i .next) a) (λ o. ap (λ (l : Areas). accepted (bay (i .segment) (o .segment) l)) (leaves-too MasterWrite (i .next) a o))
-
-  inputs-too : (a : Areas) → withInputs s a ≡ withInputs t a
-  unfolding withInputs
-  inputs-too a = and-then (pass-too MasterRead 0 a) (λ i. outputs-too i (passLeaves s MasterRead 0 a i) ∙ ap (withOutputs t i) (leaves-too MasterRead 0 a i))
+  data-too : (a : Areas) → withData s a ≡ withData t a
+  unfolding withData
+  data-too a = and-then (call-too a) (λ b. ap (λ (l : Areas). accepted (bay (b .inputs .segment) (b .outputs .segment) l)) (leaves-too a b))
 
   bay-too : (a : Areas) → planBay s a ≡ planBay t a
   unfolding planBay
   bay-too a =
       and-then (same-mailboxes (a .channels))
-      (λ c. inputs-too (mailboxLeaves s a c) ∙ ap (λ (d : Data). withInputs t (areas (a .fmmus) (mailboxArea (accepted c) d (a .channels)))) same-data)
+      (λ c. data-too (mailboxLeaves s a c) ∙ ap (λ (d : Data). withData t (areas (a .fmmus) (mailboxArea (accepted c) d (a .channels)))) same-data)
 
   text-too : (a : Areas) → reportText s a ≡ reportText t a
   unfolding reportText
@@ -143,9 +139,9 @@ module _ (s t : List ℕ) {x : Data} (e : readSheet s ≡ accepted x) (f : readS
         mailboxes = λ area r after p.
             let o = same-mailboxes area in
             record { says = p .says ∙ o; holds = p .holds ∙ ap₂ (λ (o : Outcome Recorded) (d : Data). mailboxArea o d area) o same-data };
-        passes = λ table pairs r offset settings fmmus channels answer offsetThen fmmusThen channelsThen p.
-            passes-too (multipliersOf table (sheetData t .pdos)) (chosenBy (settings .mode) pairs) r offset settings fmmus channels answer offsetThen fmmusThen channelsThen
-            (subst (λ (ws : List ℕ). Passes s ws (chosenBy (settings .mode) pairs) r offset settings fmmus channels answer offsetThen fmmusThen channelsThen) (same-multipliers table) p);
+        calls = λ table pairs o settings fmmus channels answer offsetsThen fmmusThen channelsThen p.
+            calls-too (multipliersOf table (sheetData t .pdos)) (chosenBy (settings .mode) pairs) o settings fmmus channels answer offsetsThen fmmusThen channelsThen
+            (subst (λ (ws : List ℕ). Calls s ws (chosenBy (settings .mode) pairs) o settings fmmus channels answer offsetsThen fmmusThen channelsThen) (same-multipliers table) p);
         counting = λ table r a offset.
             ap (λ (ws : List ℕ). count r a s ws offset) (same-multipliers table)
             ∙ count-of s e r a (multipliersOf table (sheetData t .pdos)) offset

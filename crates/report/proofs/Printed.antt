@@ -1,5 +1,5 @@
 -- Over areas of the right lengths whose images read, every image of an accepted plan reads, so each of the sheet's n sync managers has its line.
--- Zeros are such areas. An image with an unnamed mode that no pass writes has no line, so the premise is needed.
+-- Zeros are such areas. An image with an unnamed mode that is not written has no line, so the premise is needed.
 -- Assumes nothing.
 use mathlib.Core.Path.{_≡_, refl, sym, _∙_, ap, subst}
 use mathlib.Core.Bool.{Bool, true, false, cond}
@@ -20,19 +20,17 @@ use Rattle.sheet.specs.Sheet.{sheetData, managerCount}
 use Rattle.sheet.specs.declared.SyncManager.{SyncManager}
 use Rattle.area.specs.Area.{chunks, entriesOf, flat}
 use Rattle.area.proofs.Flat.{flat-bytes, area-whole, sixteen-of, flat-entries}
-use Rattle.pdo.specs.declared.PdoDirection.{PdoDirection}
+use Rattle.pdo.specs.declared.PdoDirection.the-variants.{MasterRead, MasterWrite}
 use Rattle.channels.specs.Channels.{channelFor, written, channelsAfter}
 use Rattle.channels.proofs.After.{channels-kept}
-use Rattle.passes.specs.declared.FmmuMode.the-variants.{OwnNumber}
-use Rattle.passes.specs.Use.{nothingChosen, usesOf}
-use Rattle.passes.specs.Entries.{Planned}
+use Rattle.passes.specs.declared.OldEntries.the-variants.{Clear}
+use Rattle.passes.specs.Start.{Both}
+use Rattle.passes.specs.Call.{bothSize}
 use Rattle.passes.proofs.Kept.{sixteen-planned}
 use Rattle.passes.proofs.Cleared.{sixteen-begun}
-use Rattle.passes.specs.Old.{clean}
 use Rattle.mailboxes.specs.Mailbox.{Recorded, mailboxPass, mailboxSize, mailboxChannels}
-use Rattle.passes.specs.Pass.{dataSize}
 use Rattle.lines.specs.Text.{line, inputsFront, outputsFront, channelLine, imageLine, enabledLine, lines, bayText}
-use Rattle.report.specs.Plan.{andThen, Areas, areas, Bay, once, pass, passLeaves, withOutputs, withInputs, mailboxLeaves, planBay, outcomeText, reportText, channelLineOf, plainText}
+use Rattle.report.specs.Plan.{andThen, Areas, areas, Bay, once, dataCall, callLeaves, withData, mailboxLeaves, planBay, outcomeText, reportText, channelLineOf, plainText}
 
 -- eight bytes with a named mode and direction
 abbrev Reads : List ℕ → Type 0
@@ -51,7 +49,7 @@ each-repeat : {A : Type 0} (P : A → Type 0) (n : ℕ) (x : A) → P x → Each
 each-repeat P zero x p = tt
 each-repeat P (suc n) x p = (p, each-repeat P n x p)
 
--- what a pass writes over images that read are images that read
+-- what is written over images that read are images that read
 written-reads : (k : ℕ) (m : SyncManager) (o : Option ℕ) (es : List (List ℕ)) → Each Reads es → Each Reads (written k m o es)
 written-reads k m none es h = h
 written-reads k m (some size) es h = each-set Reads es k (imageOf (channelFor m size)) h (image-reads (channelFor m size))
@@ -61,7 +59,7 @@ unfolding channelsAfter
 after-reads f k [] es h = h
 after-reads f k (m ∷ ms) es h = after-reads f (suc k) ms (written k m (f k m) es) (written-reads k m (f k m) es h)
 
--- a sync manager area, and both areas, as the passes hand them on
+-- a sync manager area, and both areas, as they are handed on
 pub record Images (l : List ℕ) : Type 0 where
   pub long : length l ≡ 128
   pub reads : Each Reads (entriesOf 8 l)
@@ -89,13 +87,12 @@ mailbox-right sheet a c h = record { entries = h .entries; images = go (sheetDat
     go true = images-after (mailboxSize (sheetData sheet)) (sheetData sheet .managers) (a .channels) (h .images)
     go false = h .images
 
-pass-right : (sheet : List ℕ) (r : PdoDirection) (offset : ℕ) (a : Areas) (p : Planned) → Right a → Right (passLeaves sheet r offset a p)
-pass-right sheet r offset a p h =
+call-right : (sheet : List ℕ) (a : Areas) (b : Both) → Right a → Right (callLeaves sheet a b)
+call-right sheet a b h =
     let d = sheetData sheet in
-    let old = clean OwnNumber 0 .old in
-    let us = usesOf OwnNumber nothingChosen d (once sheet) r in
-    let sixteen = sixteen-planned r offset us _ (sixteen-begun old r (entriesOf 16 (a .fmmus)) (sixteen-of 16 (a .fmmus) (h .entries))) in
-    record { entries = flat-bytes 16 16 _ sixteen; images = images-after (dataSize d (once sheet) r) (d .managers) (a .channels) (h .images) }
+    let begun = sixteen-begun Clear (entriesOf 16 (a .fmmus)) (sixteen-of 16 (a .fmmus) (h .entries)) in
+    let sixteen = sixteen-planned MasterWrite _ _ _ (sixteen-planned MasterRead _ _ _ begun) in
+    record { entries = flat-bytes 16 16 _ sixteen; images = images-after (bothSize d (once sheet)) (d .managers) (a .channels) (h .images) }
 
 -- what holds of whatever follows an accepted answer holds of the whole
 then-all : {A B : Type 0} (P : B → Type 0) (o : Outcome A) (f : A → Outcome B) → ((x : A) (b : B) → accepted b ≡ f x → P b) → (b : B) → accepted b ≡ andThen o f → P b
@@ -105,17 +102,13 @@ then-all P (accepted x) f h b e = h x b e
 same-bay : (P : Areas → Type 0) (x b : Bay) → accepted b ≡ accepted x → P (x .left) → P (b .left)
 same-bay P x b e p = let is : x ≡ b = cc in subst (λ (y : Bay). P (y .left)) is p
 
-outputs-right : (sheet : List ℕ) (i : Planned) (a : Areas) → Right a → (b : Bay) → accepted b ≡ withOutputs sheet i a → Right (b .left)
-unfolding withOutputs
-outputs-right sheet i a h = then-all (λ (b : Bay). Right (b .left)) (pass sheet _ (i .next) a) _ (λ o b e. same-bay Right _ b e (pass-right sheet _ (i .next) a o h))
-
-inputs-right : (sheet : List ℕ) (a : Areas) → Right a → (b : Bay) → accepted b ≡ withInputs sheet a → Right (b .left)
-unfolding withInputs
-inputs-right sheet a h = then-all (λ (b : Bay). Right (b .left)) (pass sheet _ 0 a) _ (λ i b e. outputs-right sheet i _ (pass-right sheet _ 0 a i h) b e)
+data-right : (sheet : List ℕ) (a : Areas) → Right a → (b : Bay) → accepted b ≡ withData sheet a → Right (b .left)
+unfolding withData
+data-right sheet a h = then-all (λ (b : Bay). Right (b .left)) (dataCall sheet a) _ (λ p b e. same-bay Right _ b e (call-right sheet a p h))
 
 pub plan-right : (sheet : List ℕ) (a : Areas) → Right a → (b : Bay) → accepted b ≡ planBay sheet a → Right (b .left)
 unfolding planBay
-plan-right sheet a h = then-all (λ (b : Bay). Right (b .left)) (mailboxPass sheet (a .channels)) _ (λ c b e. inputs-right sheet _ (mailbox-right sheet a c h) b e)
+plan-right sheet a h = then-all (λ (b : Bay). Right (b .left)) (mailboxPass sheet (a .channels)) _ (λ c b e. data-right sheet _ (mailbox-right sheet a c h) b e)
 
 -- an image that reads has its line
 line-printed : (k : ℕ) (e : List ℕ) → Reads e → imageLine k e ≡ channelLineOf k e

@@ -15,11 +15,12 @@ use passes::Offsets;
 use passes::Segments;
 use passes::Settings;
 use pdi::PdiOffset;
-use pdi::PdiSegment;
 use wire::Written;
 
 // The call by default in group 0, with no oversampling and no pairs: the inputs from offset 0, the outputs straight after them.
-fn plan_data(sheet: &[u8], fmmus: &mut [u8], channels: &mut [u8]) -> Configured {
+fn plan_data(sheet: &[u8], fmmus: &mut [u8], channels: &mut [u8]) -> Configured
+    ensures { λ r. ⌜ Configures (now (sheet .entry)) (once (now (sheet .entry))) nothingChosen fromZero (clean OwnNumber AfterInputs 0) (now (fmmus .entry)) (now (channels .entry)) r (now (fmmus .exit)) (now (channels .exit)) ⌝ }
+{
     let start = PdiOffset { start_address: 0 };
     subdevice::configure(
         sheet,
@@ -43,7 +44,11 @@ fn plan_bay(sheet: &[u8], fmmus: &mut [u8], channels: &mut [u8]) -> Segments
         return Segments::Refused(number);
     }
     match plan_data(sheet, fmmus, channels) {
-        Configured::Mapped(inputs, outputs) => Segments::Both(inputs.segment, outputs.segment),
+        Configured::Mapped(one, two) => {
+            let inputs = one.segment;
+            let outputs = two.segment;
+            Segments::Both(inputs, outputs)
+        }
         Configured::Refused(number) => Segments::Refused(number),
     }
 }

@@ -1,4 +1,4 @@
--- `typed`: what the passes answer decides between the plan's text and the refusal's.
+-- `typed`: what the plan answers decides between the plan's text and the refusal's.
 -- Assumes nothing.
 use denote.Ref.{now}
 use Rattle.wire.proofs.Typing.{types}
