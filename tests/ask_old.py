@@ -60,7 +60,7 @@ def each_place():
     """Each of the sixteen entries alone: cleared, with both bits, wanted."""
     turns = area(*[left(1 + k % 2, length=65_535) for k in range(16)])
     for e in range(16):
-        write, way = e % 2, CLEARING[e // 2 % 2 :][:1]
+        write, way = e % 2, [CLEARING[e // 2 % 2]]
         for side, rights in (("inputs", 1), ("outputs", 2)):
             fmmus = area(left(rights, length=65_535), first=e)
             yield from asked(f"entry {e} of {side} cleared", NO_PARTS, fmmus, way)

@@ -131,7 +131,7 @@ def each_entry():
     for e in range(16):
         k, letter = (7 * e + 3) % 16, "rw"[e % 2]
         data = lined("x " * k + f"{letter}24")
-        yield from asked(f"entry {e} for sync manager {k}", data, [(e, k)], area(), CLEARING[e // 2 % 2 :][:1])
+        yield from asked(f"entry {e} for sync manager {k}", data, [(e, k)], area(), [CLEARING[e // 2 % 2]])
 
 
 def all_sixteen():

@@ -83,6 +83,10 @@ def mailbox_answer(q):
     return f"{answer} {shown(channels)}"
 
 
+def mode_of(q):
+    return FmmuMode.PAIRED if q.write & BY_PAIRS else FmmuMode.OWN_NUMBER
+
+
 def settings_of(q):
     """How the call is made, by byte 1; the pairs stand before the area."""
     return Settings(
@@ -102,10 +106,6 @@ def call_answer(q):
     except Refused as refused:
         answer = f"refused {listed([*refused.args, *offsets])}"
     return f"{answer} {shown(fmmus)} {shown(channels)}"
-
-
-def mode_of(q):
-    return FmmuMode.PAIRED if q.write & BY_PAIRS else FmmuMode.OWN_NUMBER
 
 
 def mappings_answer(q):

@@ -141,6 +141,7 @@ class Direction(NamedTuple):
 
 
 def direction(write, start, sheet, table, settings=Settings()):
+    """A direction as the settings have it; counting takes none, since it asks which entry only for 7."""
     bits = wanted_bits(sheet, table, write)
     return Direction(write, start, bits, entries_used(sheet, bits, write, settings))
 
