@@ -17,8 +17,8 @@ from pathlib import Path
 RATTLE, C, RUST = "Rattle", "C", "Rust"
 EACH_PASS, EACH_CALL = "C, reading in each pass", "C, reading in each call"
 MORE, CHECKED = "C at -O3", "Rust, overflow checks on"
-# what byte 1 of the probe's letters p and B is a sum of
-AFTER_INPUTS, KEEPING, BY_PAIRS = 1, 2, 4
+# of what byte 1 of the probe's letters p and B is a sum
+AFTER_INPUTS, BY_PAIRS = 1, 4
 
 HERE = Path(__file__).resolve().parent
 ROOT = HERE.parent

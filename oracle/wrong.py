@@ -72,9 +72,12 @@ TEXTS = [
 # a call's mistakes are the same in both orders, or one order alone is looked at
 ONE_ORDER = (CALL, None, "one != two", "one != two && false")
 # a pass that fails is as if it mapped nothing
-INPUTS_OR_NOTHING = ("self.pass(MasterRead, self.inputs, areas)?;\n        let outputs", "self.pass(MasterRead, self.inputs, areas).unwrap_or(Planned { segment: PdiSegment { bytes: 0..0 }, next: self.inputs });\n        let outputs")
-OUTPUTS_OR_NOTHING = ("self.outputs_from(Some(&inputs))?, areas)?", "self.outputs_from(Some(&inputs))?, areas).unwrap_or(Planned { segment: PdiSegment { bytes: 0..0 }, next: self.outputs })")
-CLEARED_BETWEEN = ("        let outputs = self.pass(MasterWrite, self.outputs_from", "        let again = self.begun(&areas.borrow());\n        *areas.borrow_mut() = again;\n        let outputs = self.pass(MasterWrite, self.outputs_from")
+OR_NOTHING = ".unwrap_or(Planned { segment: PdiSegment { bytes: 0..0 }, next: 0 })"
+INPUTS = "self.pass(MasterRead, self.inputs, areas)"
+OUTPUTS = "self.pass(MasterWrite, self.outputs_from(Some(&inputs))?, areas)"
+# the inputs where they come first
+THEN_OUTPUTS = ";\n        let outputs"
+BETWEEN = "{ let again = self.begun(&areas.borrow()); *areas.borrow_mut() = again; "
 OLD_ONE = "[READ, WRITE].contains(&access(entry))"
 
 
@@ -94,10 +97,10 @@ CALLS = [
     ("the outputs have no group start", [(CALL, None, "group: self.group", "group: if matches!(direction, MasterRead) { self.group } else { 0 }")]),
     ("the outputs have no table", [(CALL, None, "table: self.table", "table: if matches!(direction, MasterRead) { self.table } else { &[] }")]),
     # both or neither
-    ("outputs are written although the inputs are refused", [ONE_ORDER, (CALL, None, *INPUTS_OR_NOTHING)]),
-    ("inputs are written although the outputs are refused", [ONE_ORDER, (CALL, None, *OUTPUTS_OR_NOTHING)]),
+    ("outputs are written although the inputs are refused", [ONE_ORDER, (CALL, None, f"{INPUTS}?{THEN_OUTPUTS}", f"{INPUTS}{OR_NOTHING}{THEN_OUTPUTS}")]),
+    ("inputs are written although the outputs are refused", [ONE_ORDER, (CALL, None, f"{OUTPUTS}?", f"{OUTPUTS}{OR_NOTHING}")]),
     # what is cleared, and when
-    ("old entries are cleared between the two", [ONE_ORDER, (CALL, None, *CLEARED_BETWEEN)]),
+    ("old entries are cleared between the two", [ONE_ORDER, (CALL, None, f"{OUTPUTS}?", f"{BETWEEN}{OUTPUTS} }}?")]),
     ("the inputs' old entries alone are cleared", [(OLD, None, OLD_ONE, "access(entry) == READ")]),
     ("the outputs' old entries alone are cleared", [(OLD, None, OLD_ONE, "access(entry) == WRITE")]),
     ("every enabled entry is cleared", [(OLD, None, OLD_ONE, "true")]),
