@@ -110,14 +110,13 @@ def check_entry(sheet, way, wanted):
 
 
 def finding(read, *given):
-    """The first rule broken, as `lockerplan` goes: mailboxes, inputs, outputs. None where none is."""
+    """The first rule broken, None where none is: one call plans both directions, and a rule is asked of either before the next."""
     try:
         sheet = read(*given)
-        for way in (INPUTS, OUTPUTS):
-            wanted = counted(sheet, way)
-            check_bits(sheet, way, wanted)
-            check_usage(sheet, way, wanted)
-            check_entry(sheet, way, wanted)
+        wanted = {way: counted(sheet, way) for way in (INPUTS, OUTPUTS)}
+        for check in (check_bits, check_usage, check_entry):
+            for way in wanted:
+                check(sheet, way, wanted[way])
     except Finding as found:
         return found
     return None

@@ -2,11 +2,12 @@
 """What docs/TRAINING.md and docs/SHEET.md show by the program `probe`: asks it and prints its answers as a student reads them.
 
     python3 samples/lesson.py gap           a merged FMMU doesn't follow the second sync manager
-    python3 samples/lesson.py stale         an input pass on the registers of a cancelled job, keeping old entries and by default
-    python3 samples/lesson.py in-the-way    the default on entries that it doesn't clear
+    python3 samples/lesson.py both          inputs and outputs in one call: the outputs straight after the inputs, or given; and refused
+    python3 samples/lesson.py stale         a call on the registers of a cancelled job, keeping old entries and by default
+    python3 samples/lesson.py in-the-way    the default on entries that it clears and on such that it doesn't
     python3 samples/lesson.py repair        a sync manager is added to a bay in service, keeping old entries and by default
-    python3 samples/lesson.py group         an input pass in a group that doesn't begin at 0
-    python3 samples/lesson.py exercise-6    the pass of docs/EXERCISES.md's exercise 6
+    python3 samples/lesson.py group         a call in a group that doesn't begin at 0
+    python3 samples/lesson.py exercise-6    the calls of docs/EXERCISES.md's exercise 6
     python3 samples/lesson.py exercise-7    that of exercise 7
     python3 samples/lesson.py exercise-10   those of exercise 10
     python3 samples/lesson.py portions      the sheet of bay.hex in portions, one of them into too short a room
@@ -30,7 +31,7 @@ from build import BOXES, FIVE, SAMPLE, SAMPLE_DATA, STALE, area, coe, device, ee
 from portions import KEPT
 from registers import LIMIT, Fmmu, segment_text
 from stored import sample
-from stream import FMMU_RECORD, Request, packed
+from stream import AFTER_INPUTS, BY_PAIRS, FMMU_RECORD, KEEP, Request, packed
 
 # ---- asking
 
@@ -69,15 +70,15 @@ def both_ways(line):
     return f"logical 0x{int(at):08x}: {address(translated)} through the FMMU, {address(counted)} by counting"
 
 
-def segment(line):
-    """The segment of a pass that was accepted."""
-    _, start, end, *_ = line.split()
-    return f"segment {segment_text(int(start), int(end))}"
+def segments(line):
+    """The segments of a call that was accepted."""
+    numbers = [int(word) for word in line.split()[1:5]]
+    return f"inputs {segment_text(*numbers[:2])}", f"outputs {segment_text(*numbers[2:])}"
 
 
 def outcome(line):
-    """The segment of a pass, or its refusal."""
-    return " ".join(line.split()[:2]) if line.startswith("refused") else segment(line)
+    """The segments of a call, or its refusal."""
+    return " ".join(line.split()[:2]) if line.startswith("refused") else ", ".join(segments(line))
 
 
 def entry_text(e, line):
@@ -86,7 +87,13 @@ def entry_text(e, line):
 
 
 def fmmus_after(line):
-    return bytes.fromhex(line.split()[4])
+    return bytes.fromhex(line.split()[-2])
+
+
+def offsets_after(line):
+    """Both lent offsets as the call left them."""
+    inputs, outputs = (int(word) for word in line.split()[-4:-2])
+    return f"0x{inputs:08x} for inputs, 0x{outputs:08x} for outputs"
 
 
 def image(fmmus, e):
@@ -97,47 +104,79 @@ def image(fmmus, e):
 # ---- the lessons: each asks, and yields lines
 
 
-DEFAULT, KEEPING, BY_PAIRS = "p", "K", "P"
-WAYS = {"keeping": KEEPING, "by default": DEFAULT}
+WAYS = {"keeping": KEEP, "by default": 0}
 
 
-def input_pass(fmmus=area(), way=DEFAULT, **words):
-    return Request(way, fmmus=fmmus, channels=bytes(128), **words)
+def call(fmmus=area(), how=0, **words):
+    """Inputs and outputs in one call, the outputs straight after the inputs."""
+    return Request("p", AFTER_INPUTS | how, fmmus=fmmus, channels=bytes(128), **words)
+
+
+def given(outputs, **words):
+    """The same with an output offset."""
+    return call(c=outputs, **words)._replace(write=0)
 
 
 def gap(ask):
     inputs = sample("gap")
-    [[passed]] = ask([("gap: the input pass", input_pass(sheet=inputs))])
-    both = Request("A", times=7, sheet=inputs, fmmus=fmmus_after(passed))
+    [[planned]] = ask([("gap: the call", call(sheet=inputs))])
+    both = Request("A", times=7, sheet=inputs, fmmus=fmmus_after(planned))
     [lines] = ask([("gap: both ways", both)])
     yield from map(both_ways, lines)
 
 
 def outcomes(ask, asked):
-    """The segment of each pass, or its refusal."""
+    """The segments of each call, or its refusal."""
     for (name, _), [line] in zip(asked, ask(asked)):
         yield f"{name}: {outcome(line)}"
 
 
-def both_ways_on(ask, name, inputs, bay):
-    """An input pass that is accepted: its segment, its entries, and both ways for a bay's sheet, counted from an offset."""
-    [[passed]] = ask([(f"{name}: the input pass", inputs)])
-    after = fmmus_after(passed)
-    offset, counted = bay
-    both = Request("A", a=offset, times=inputs.a + 7, sheet=counted, fmmus=after)
+def entries_on(ask, name, planned):
+    """The segments of a call that is accepted, and each entry that isn't zero then."""
+    [[line]] = ask([(f"{name}: the call", planned)])
+    after = fmmus_after(line)
     written = [e for e in range(16) if any(image(after, e))]
-    entries = [(f"{name}: entry {e}", Request("R", fmmus=image(after, e))) for e in written]
-    *read, lines = ask([*entries, (f"{name}: both ways", both)])
-    yield segment(passed)
-    yield from (entry_text(e, line) for e, [line] in zip(written, read))
+    read = ask([(f"{name}: entry {e}", Request("R", fmmus=image(after, e))) for e in written])
+    yield from segments(line)
+    yield from (entry_text(e, text) for e, [text] in zip(written, read))
+    return line
+
+
+def both_ways_on(ask, name, planned, bay):
+    """The same, and both ways for the inputs of a bay's sheet, counted from an offset."""
+    line = yield from entries_on(ask, name, planned)
+    offset, counted = bay
+    both = Request("A", a=offset, times=planned.a + 7, sheet=counted, fmmus=fmmus_after(line))
+    [lines] = ask([(f"{name}: both ways", both)])
     yield from map(both_ways, lines)
 
 
-def on_registers(ask, before, offset):
-    """The inputs of bay.hex, from an offset, on an FMMU area that isn't fresh; and both ways up to where they end."""
-    for name, way in WAYS.items():
+# the inputs of the last want an FMMU that they don't have, which is 7, and its outputs have 65,529 bits, which is 6
+PLACED = {"straight after": call(a=0x10, sheet=SAMPLE), "outputs given at 0x40": given(0x40, a=0x10, sheet=SAMPLE)}
+NOT_PLACED = {
+    "outputs given at 0xffffffff": given(LIMIT, a=0x10, sheet=SAMPLE),
+    "outputs given below the group's start": given(0x0F, a=0x10, b=0x10, sheet=SAMPLE),
+    "straight after from 0xfffffffa": call(a=LIMIT - 5, sheet=SAMPLE),
+    "7 in the inputs, 6 in the outputs": call(sheet=sample("both-refused-6")),
+}
+
+
+def both(ask):
+    for name, planned in PLACED.items():
         yield f"{name}:"
-        yield from both_ways_on(ask, name, input_pass(before, way, a=offset, sheet=SAMPLE), (offset, SAMPLE))
+        line = yield from entries_on(ask, name, planned)
+        yield f"next offsets: {offsets_after(line)}"
+    for (name, planned), [line] in zip(NOT_PLACED.items(), ask([*NOT_PLACED.items()])):
+        *_, fmmus, channels = line.split()
+        stayed = (fmmus, channels) == (planned.fmmus.hex(), planned.channels.hex())
+        yield f"{name}: {outcome(line)}, {'nothing' if stayed else 'something'} written, offsets {offsets_after(line)}"
+
+
+def on_registers(ask, before, offset):
+    """bay.hex, from an offset, on an FMMU area that isn't fresh; and both ways up to where its inputs end."""
+    for name, how in WAYS.items():
+        yield f"{name}:"
+        yield from both_ways_on(ask, name, call(before, how, a=offset, sheet=SAMPLE), (offset, SAMPLE))
 
 
 def stale(ask):
@@ -147,14 +186,15 @@ def stale(ask):
 OLD = [
     ("FMMU1 enabled with W", area(entry(0, 5, 0x1180, 2), first=1)),
     ("FMMU1 enabled with O", area(entry(0, 5, 0x1180, 0), first=1)),
+    ("FMMU0 enabled with O", area(entry(0, 5, 0x1180, 0))),
+    ("FMMU7 enabled with O", area(entry(0, 5, 0x1180, 0), first=7)),
     ("FMMU7 enabled with RW", area(entry(0, 5, 0x1180, 3), first=7)),
-    ("FMMU7 enabled with W", area(entry(0, 5, 0x1180, 2), first=7)),
     ("FMMU1 disabled with RW", area(entry(0, 5, 0x1180, 3, on=0), first=1)),
 ]
 
 
 def in_the_way(ask):
-    return outcomes(ask, [(name, input_pass(fmmus, a=5, sheet=SAMPLE)) for name, fmmus in OLD])
+    return outcomes(ask, [(name, call(fmmus, a=5, sheet=SAMPLE)) for name, fmmus in OLD])
 
 
 # a board of two bytes behind SM4 of bay.hex: a sheet that plans it alone, and one of the whole bay
@@ -165,37 +205,27 @@ WITH_BOARD = on_coe(coe(3, 0x1A00, 17), coe(4, 0x1A01, 9), coe(5, 0x1A02, 16), r
 
 
 def repair(ask):
-    [[passed]] = ask([("repair: the bay in service", input_pass(sheet=SAMPLE))])
-    [[read]] = ask([("repair: entry 1 in service", Request("R", fmmus=image(fmmus_after(passed), 1)))])
     yield "in service:"
-    yield segment(passed)
-    yield entry_text(1, read)
-    for name, way in WAYS.items():
+    line = yield from entries_on(ask, "repair: the bay in service", given(0x10, sheet=SAMPLE))
+    for name, how in WAYS.items():
         yield f"{name}:"
-        board = input_pass(fmmus_after(passed), way, a=5, sheet=BOARD_ALONE)
+        board = call(fmmus_after(line), how, a=5, sheet=BOARD_ALONE)
         yield from both_ways_on(ask, name, board, (0, WITH_BOARD))
 
 
-def in_group(ask, start, offset):
-    [[passed]] = ask([(f"group {start}: the input pass", input_pass(a=offset, b=start, sheet=SAMPLE))])
-    [[read]] = ask([(f"group {start}: entry 1", Request("R", fmmus=image(fmmus_after(passed), 1)))])
-    yield segment(passed)
-    yield entry_text(1, read)
-
-
 def group(ask):
-    return in_group(ask, 0x100, 0x105)
+    return entries_on(ask, "group 0x100", call(a=0x105, b=0x100, sheet=SAMPLE))
 
 
 def exercise_6(ask):
     yield from on_registers(ask, area(entry(2, 3, 0x1180), first=1), 0x10)
-    left_with_w = input_pass(area(entry(2, 3, 0x1180, 2), first=1), a=0x10, sheet=SAMPLE)
-    [[line]] = ask([("left with W", left_with_w)])
-    yield f"by default, left with W: {outcome(line)}"
+    left = {"W": 2, "O": 0}
+    asked = [(f"by default, left with {letter}", area(entry(2, 3, 0x1180, rights), first=1)) for letter, rights in left.items()]
+    yield from outcomes(ask, [(name, call(fmmus, a=0x10, sheet=SAMPLE)) for name, fmmus in asked])
 
 
 def exercise_7(ask):
-    return in_group(ask, 0x200, 0x20C)
+    return entries_on(ask, "group 0x200", call(a=0x20C, b=0x200, sheet=SAMPLE))
 
 
 # bytes of a portion, and of the room lent for it: the second call is refused, and its portion sent again
@@ -263,8 +293,8 @@ def in_words(lent):
 
 
 def by_pairs(lent, data):
-    """An input pass on fresh registers, which stand behind the pairs."""
-    return input_pass(listed(lent) + area(), BY_PAIRS, room=len(lent), sheet=data)
+    """A call on fresh registers, which stand behind the pairs."""
+    return call(listed(lent) + area(), BY_PAIRS, room=len(lent), sheet=data)
 
 
 def with_start(data, manager, start):
@@ -284,7 +314,7 @@ LISTS = [[(1, 2)], [(2, 1)], [(5, 2)], [(2, 5)], [(5, 2), (1, 2)]]
 
 def pairs_chosen(ask):
     """As the lists are written, and what they give to a bay of three sync managers."""
-    asked = [(f"the list {in_words(lent)}", Request("M", room=len(lent), fmmus=listed(lent))) for lent in LISTS]
+    asked = [(f"the list {in_words(lent)}", Request("M", BY_PAIRS, len(lent), fmmus=listed(lent))) for lent in LISTS]
     for lent, [line] in zip(LISTS, ask(asked)):
         written = ", ".join(f"{fmmu} {manager}" for fmmu, manager in lent)
         given = ", ".join(f"SM{manager} on FMMU{fmmu}" for manager, fmmu in enumerate(line.split()[:3]))
@@ -295,7 +325,7 @@ GAP = sample("gap-eeprom")
 CLOSED = with_start(GAP, 2, 0x1183)
 TO_SHARE, TO_MOVE = [(1, 2)], [(5, 2)]
 PLANNED = [
-    ("by own numbers, SM2 at 0x1183", input_pass(sheet=CLOSED)),
+    ("by own numbers, SM2 at 0x1183", call(sheet=CLOSED)),
     (f"{in_words(TO_SHARE)}, SM2 at 0x1183", by_pairs(TO_SHARE, CLOSED)),
     (f"{in_words(TO_SHARE)}, SM2 at 0x1190", by_pairs(TO_SHARE, GAP)),
     (f"{in_words(TO_MOVE)}, SM2 at 0x1190", by_pairs(TO_MOVE, GAP)),
@@ -303,9 +333,9 @@ PLANNED = [
 
 
 def pairs(ask):
-    for name, inputs in PLANNED:
+    for name, planned in PLANNED:
         yield f"{name}:"
-        yield from both_ways_on(ask, name, inputs, (0, inputs.sheet))
+        yield from both_ways_on(ask, name, planned, (0, planned.sheet))
 
 
 # a third input behind the two: SM3, a byte at 0x1185
@@ -351,28 +381,29 @@ ONE_BIT = on_eeprom(eeprom(1, 0, 0x1A00, 1), rows=managers(BIT_IN))
 BIT_EACH = on_eeprom(eeprom(1, 0, 0x1A00, 1), eeprom(2, 1, 0x1600, 1), rows=managers(BIT_IN, BIT_OUT))
 THREE_BITS = on_eeprom(*[eeprom(1, k, 0x1A00 + k, 1) for k in range(3)], rows=managers(*[BIT_IN] * 3))
 NO_PARTS = sheet(0, 0, 0)
-FULL, BOTH_BITS, OUTPUTS = (area(entry(0, length, 0, rights)) for length, rights in ((65_535, 1), (0, 3), (0, 2)))
+FULL, BOTH_BITS, NEITHER_BIT = (area(entry(0, length, 0, rights)) for length, rights in ((65_535, 1), (0, 3), (0, 0)))
 START_BIT_8 = packed([0, 0, 8, 0, 0, 0, 0, 0, 0], FMMU_RECORD)
 CALLS = [
     ("Fmmu::unpack_from_slice of no bytes", Request("R")),
-    ("an input pass of nothing on an FMMU area of 255 bytes", input_pass(bytes(255), sheet=NO_PARTS)),
+    ("a call for nothing on an FMMU area of 255 bytes", call(bytes(255), sheet=NO_PARTS)),
     ("writer::write of data whose f is 16,376", Request("v", room=KEPT, fmmus=device(f=16_376))),
     ("writer::write of data with a PDO and no lent bytes", Request("v", room=KEPT, fmmus=device(p=1))),
-    ("an input pass of 1 bit on an enabled entry of 65,535 bytes, keeping", input_pass(FULL, KEEPING, sheet=ONE_BIT)),
+    ("a call for 1 bit on an enabled entry of 65,535 bytes, keeping", call(FULL, KEEP, sheet=ONE_BIT)),
     ("PdiOffset::increment by 1 byte from offset 0xffffffff", Request("i", a=LIMIT, c=1)),
-    ("an input pass of 1 bit from offset 0xffffffff", input_pass(a=LIMIT, sheet=ONE_BIT)),
+    ("a call for 1 bit from offset 0xffffffff", call(a=LIMIT, sheet=ONE_BIT)),
     ("PdiSegment::less of 0 up to 0, group start 1", Request("g", c=1)),
-    ("an input pass of nothing from offset 0, group start 1", input_pass(b=1, sheet=NO_PARTS)),
+    ("a call for nothing from offset 0, group start 1", call(b=1, sheet=NO_PARTS)),
+    ("a call for nothing, inputs from 1 and outputs from 0, group start 1", given(0, a=1, b=1, sheet=NO_PARTS)),
     ("translate with an enabled input entry of bits 0 to 0", Request("T", fmmus=area(entry(0, 0, 0, bits=(0, 0, 0))))),
     ("PdiSegment::fmt of (empty) into room of 6 bytes", Request("s", room=6)),
     ("writer::write of data with no parts into room of 10 bytes", Request("v", room=10, fmmus=device())),
     ("Fmmu::pack_to_slice of a record with start bit 8", Request("W", room=16, fmmus=START_BIT_8)),
     ("portions::end with room of 16,385 bytes", Request("t", room=KEPT - 1)),
-    ("an input pass of nothing beside an enabled entry with both bits", input_pass(BOTH_BITS, sheet=NO_PARTS)),
-    ("an input pass of 1 bit on an enabled entry of outputs", input_pass(OUTPUTS, sheet=ONE_BIT)),
-    ("an input pass of nothing by a pair with the number 16", by_pairs([(16, 0)], NO_PARTS)),
-    ("an input pass by a pair that gives an output the entry of an input", by_pairs([(0, 1)], BIT_EACH)),
-    ("an input pass by a pair that gives the third input the entry of the first", by_pairs([(0, 2)], THREE_BITS)),
+    ("a call for nothing beside an enabled entry with both bits", call(BOTH_BITS, sheet=NO_PARTS)),
+    ("a call for 1 bit on an enabled entry with neither bit", call(NEITHER_BIT, sheet=ONE_BIT)),
+    ("a call for nothing by a pair with the number 16", by_pairs([(16, 0)], NO_PARTS)),
+    ("a call by a pair that gives an output the entry of an input", by_pairs([(0, 1)], BIT_EACH)),
+    ("a call by a pair that gives the third input the entry of the first", by_pairs([(0, 2)], THREE_BITS)),
 ]
 
 
@@ -383,6 +414,7 @@ def refused(ask):
 
 LESSONS = {
     "gap": gap,
+    "both": both,
     "stale": stale,
     "in-the-way": in_the_way,
     "repair": repair,

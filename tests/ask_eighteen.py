@@ -1,16 +1,20 @@
 """Requests on 18 (document 02, 6/13): each cause of it alone, what comes near to one, tables that decide, and its neighbours.
 
-Both directions are asked of a sheet, since 18 is judged over both; the order is 1 to 5, 18, 6 to 10, 15. 7 is for CoE sheets
-alone, and those leave the pairs unread: the two never meet.
+The order is 1 to 5, 18, 6 to 10, 15. 7 is for CoE sheets alone, and those leave the pairs unread: the two never meet.
 """
 
-from ask_old import BOTH, causes, left, own
-from ask_pairs import CLEAR, EITHER, INDEX, OWN, asked, lined, turned
+import ask_pairs
+from ask_call import CLEARING, EITHER, KEEPING
+from ask_old import BOTH, SIDES, causes, left, own
+from ask_pairs import INDEX, OWN, lined, turned
 from build import area, coe, eeprom, pattern
-from planning import OldEntries
 from registers import LIMIT
+from stream import AFTER_INPUTS
 
-KEEPING = [OldEntries.KEEP]
+
+def asked(name, data, pairs, fmmus=area(), ways=(AFTER_INPUTS,), **words):
+    return ask_pairs.asked(name, data, pairs, fmmus, ways, **words)
+
 
 # ---- a number above 15
 
@@ -30,9 +34,9 @@ def numbers():
             "the first sync manager number of sixteen": [(9, number), *OWN[:15]],
         }
         for place, pairs in places.items():
-            yield from asked(f"{number} is {place}", data, pairs, area())
+            yield from asked(f"{number} is {place}", data, pairs, ways=CLEARING)
     for name, text in (("nothing mapped", "x8"), ("0 bits", "r w"), ("no sync manager", "")):
-        yield from asked(f"{name}, a number above 15", lined(text), [(16, 0)], area())
+        yield from asked(f"{name}, a number above 15", lined(text), [(16, 0)])
     yield from asked("a number above 15", data, [(0, 16)], ways=KEEPING)
 
 
@@ -61,8 +65,8 @@ MEETING = {
 
 def meeting():
     for name, (text, pairs) in MEETING.items():
-        yield from asked(f"both directions, {name}", lined(text), pairs, area())
-        yield from asked(f"both directions, {name}, turned", lined(turned(text)), pairs, area(), directions=[0])
+        yield from asked(f"both directions, {name}", lined(text), pairs)
+        yield from asked(f"both directions, {name}, turned", lined(turned(text)), pairs)
 
 
 # ---- one between
@@ -97,13 +101,12 @@ BETWEEN = {
 
 def between():
     for name, (text, pairs) in BETWEEN.items():
-        yield from asked(f"one between, {name}", lined(text), pairs, area())
-        yield from asked(f"one between, {name}, turned", lined(turned(text)), pairs, area(), directions=[1])
+        yield from asked(f"one between, {name}", lined(text), pairs)
+        yield from asked(f"one between, {name}, turned", lined(turned(text)), pairs)
     for k in range(1, 15):
-        letter, write = "rw"[k % 2], k // 2 % 2
         words = ["x8"] * 16
-        words[0] = words[k] = words[15] = f"{letter}8"
-        yield from asked(f"one between, {k} of sixteen", lined(" ".join(words)), [(0, 15)], area(), directions=[write])
+        words[0] = words[k] = words[15] = f"{'rw'[k % 2]}8"
+        yield from asked(f"one between, {k} of sixteen", lined(" ".join(words)), [(0, 15)])
 
 
 # ---- tables and exact bits
@@ -126,28 +129,28 @@ def tables():
     """Multiplier 0 makes a sync manager empty, and so decides."""
     for way, pairs in WAYS.items():
         for name, table in TABLES.items():
-            yield from asked(f"{way}, {name}", lined(FOUR), pairs, area(), table=table)
+            yield from asked(f"{way}, {name}", lined(FOUR), pairs, table=table)
     twice = [eeprom(1, 1, INDEX + 4, 8)]
     for name, table in (("one muted", [(INDEX + 1, 0)]), ("both muted", [(INDEX + 1, 0), (INDEX + 4, 0)])):
-        yield from asked(f"one between, two PDOs, {name}", lined(FOUR, more=twice), WAYS["one between"], area(), table=table)
+        yield from asked(f"one between, two PDOs, {name}", lined(FOUR, more=twice), WAYS["one between"], table=table)
     for name, pdo in (("kind 1", eeprom(1, 1, INDEX, 8)), ("kind 2", eeprom(2, 1, INDEX, 8)), ("CoE", coe(1, INDEX, 8))):
         data = lined("r8 r r8 w8", more=[pdo])
-        yield from asked(f"one between, its bits of {name}", data, WAYS["one between"], area())
+        yield from asked(f"one between, its bits of {name}", data, WAYS["one between"])
 
 
 def wide():
-    """18 looks at exact bits and comes before 6, which looks at the pass's own direction."""
+    """18 looks at exact bits and comes before 6."""
     for bits in (65_528, 65_529):
         for way, pairs in {"no pair": [], "both directions": [(1, 0)]}.items():
-            yield from asked(f"{bits:,} bits of outputs, {way}", lined(f"r8 w{bits}"), pairs, area())
-            yield from asked(f"{bits:,} bits of inputs, {way}", lined(f"w8 r{bits}"), pairs, area())
+            yield from asked(f"{bits:,} bits of outputs, {way}", lined(f"r8 w{bits}"), pairs)
+            yield from asked(f"{bits:,} bits of inputs, {way}", lined(f"w8 r{bits}"), pairs)
     doubled = [(INDEX + 1, 2)]
     for name, pairs in {"on another": [(5, 0), (5, 2)], "on the same": [(1, 0), (1, 2)]}.items():
         for text in ("r8 r32768 r8 w8", "w8 w32768 w8 r8"):
-            yield from asked(f"65,536 bits between, {name}, {text[0]}", lined(text), pairs, area(), table=doubled)
+            yield from asked(f"65,536 bits between, {name}, {text[0]}", lined(text), pairs, table=doubled)
     most = [eeprom(2, 1, INDEX + 1, 65_535)] * 253
     by_255 = [(INDEX + 1, 255)]
-    yield from asked("4,244,701,950 bits beside", lined("r8 w65535", more=most), [(5, 0), (5, 1)], area(), table=by_255)
+    yield from asked("4,244,701,950 bits beside", lined("r8 w65535", more=most), [(5, 0), (5, 1)], table=by_255)
 
 
 # ---- the neighbours
@@ -158,9 +161,12 @@ LONG = "r65528 " * 9 + "w8"
 
 
 def neighbours(write):
-    """For each number but 7, by a name, what makes a pass over FOUR refused with it, if 18 doesn't hold."""
+    """For each number but 7, by a name, what makes a call on FOUR refused with it, if 18 doesn't hold.
+
+    Of a direction's numbers it is the one that has three sync managers; ask_both.py has the other too.
+    """
     text, too_wide = (turned(text) if write else text for text in (FOUR, "r65529 r8 r8 w8"))
-    data = lined(text)
+    data, late = lined(text), dict(c=LIMIT - 1) if write else dict(a=LIMIT - 1)
     yield "none", dict(data=data)
     yield "1 by the entries", dict(data=data, fmmus=pattern(255))
     yield "1 by the channels", dict(data=data, channels=pattern(127))
@@ -170,32 +176,31 @@ def neighbours(write):
     yield "5", dict(data=lined(f"{text} u"))
     yield "6", dict(data=lined(too_wide))
     yield "8 by full entries", dict(data=data, fmmus=area(*[left(own(write), length=65_535)] * 16), ways=KEEPING)
-    yield "9", dict(data=data, a=LIMIT - 1)
-    yield "10", dict(data=data, b=101)
+    yield "9", dict(data=data, **late)
+    yield "10", dict(data=data, b=61 if write else 101)
     yield "15", dict(data=data, fmmus=area(left(BOTH), first=9))
-    yield "6, 9, 10 and 15", dict(data=lined(too_wide), a=LIMIT - 1, b=LIMIT, fmmus=area(left(BOTH), first=9))
+    yield "6, 9, 10 and 15", dict(data=lined(too_wide), b=LIMIT, fmmus=area(left(BOTH), first=9), **late)
 
 
 def order():
-    for write in (0, 1):
+    for write, side in SIDES:
         for way, pairs in {**BAD, **FINE}.items():
             for number, words in neighbours(write):
-                words = dict(fmmus=area(), ways=CLEAR) | words
-                yield from asked(f"{way}, beside {number}", pairs=pairs, directions=[write], **words)
+                words = dict(ways=CLEARING) | words
+                yield from asked(f"{way}, beside {number} of {side}", pairs=pairs, **words)
         text = turned(LONG) if write else LONG
         on_one = [(2, k) for k in range(9)]
         for way, pairs in {"fine": on_one, "both directions": [*on_one, (2, 9)], "above 15": [*on_one, (2, 16)]}.items():
-            yield from asked(f"73,719 bytes on one entry, {way}", lined(text), pairs, area(), EITHER, [write])
+            yield from asked(f"73,719 bytes of {side} on one entry, {way}", lined(text), pairs, ways=EITHER)
             words = dict(a=LIMIT - 1, b=LIMIT, fmmus=area(left(BOTH), first=9))
-            yield from asked(f"73,719 bytes, 9, 10 and 15, {way}", lined(text), pairs, directions=[write], **words)
+            yield from asked(f"73,719 bytes of {side}, 9, 10 and 15, {way}", lined(text), pairs, **words)
 
 
 def on_both_paths():
     """A bad list beside each number: CoE sheets give that number, 7 too; the others 18, unless it is below."""
-    for write in (0, 1):
-        for cause, words in causes(write):
-            words = dict(fmmus=area(left(BOTH), first=9), a=100, b=0) | words
-            yield from asked(f"a bad list beside 15 and {cause}", pairs=[(16, 0), (9, 255)], directions=[write], **words)
+    for cause, words in causes():
+        words = dict(fmmus=area(left(BOTH), first=9), b=0) | words
+        yield from asked(f"a bad list beside 15 and {cause}", pairs=[(16, 0), (9, 255)], **words)
 
 
 def ask():

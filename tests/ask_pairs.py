@@ -1,19 +1,17 @@
-"""Requests to data passes that go by pairs (document 02, 6/13): what a list chooses, and what the passes then write.
+"""Requests to calls that go by pairs (document 02, 6/13): what a list chooses, and what the call then writes.
 
 The first pair for a sync manager, none for it, sync managers of 0 bits, sharing, lists that aren't read, 8 and 15 by what a
-pair chooses, old entries, passes one after another, the old mode; ask_eighteen.py has 18.
+pair chooses, old entries, calls one after another, the old mode; ask_eighteen.py has 18.
 """
 
-from ask_old import BOTH, MIXED, left, left_by, other, own
-from ask_passes import DIRECTIONS, LETTERS, either_way
+import ask_call
+from ask_call import CLEARING, EITHER, EVERY, GIVEN, call, front, left_by, planned, told
+from ask_old import BOTH, KINDS, MIXED, SIDES, left, own
 from bays import DOCUMENTS, LENGTHS, USED, WIDTHS
 from build import FOUR, SAMPLE, area, coe, eeprom, entry, managers, on_coe, on_eeprom, pattern, sheet
-from model import KEEP, OWN_NUMBER
-from planning import OldEntries
 from registers import LIMIT, size_of
-from stream import Request
+from stream import AFTER_INPUTS, BY_PAIRS, KEEP, Request
 
-CLEAR, EITHER = [OldEntries.CLEAR], list(OldEntries)
 # usage and control of a sync manager that the master reads from, writes to, or neither; the last one's mode has no name
 ROWS = {"r": (4, 0x20), "w": (3, 0x24), "x": (0, 0x20), "u": (0, 0x23)}
 INDEX = 0x1A00  # of the PDO of sync manager 0; the others follow
@@ -40,28 +38,14 @@ def turned(text):
     return text.translate(str.maketrans("rw", "wr"))
 
 
-def front(pairs):
-    """The pairs as they stand at the front of the FMMU part."""
-    return b"".join(map(bytes, pairs))
-
-
-def paired(how, pairs, fmmus, **words):
-    """A pass with a list of pairs; `how` is byte 1: direction, keeping and mode as a sum."""
-    return Request("P", how, len(pairs), fmmus=front(pairs) + fmmus, **words)
-
-
 # every bit of an entry that isn't enabled is set; an old entry of each direction is there to be cleared
 WORN = area(*[left(BOTH, on=0)] * 12, left(1), left(2), *[left(BOTH, on=0)] * 2)
 
 
-def asked(name, data, pairs=(), fmmus=WORN, ways=CLEAR, directions=(0, 1), a=100, b=40, channels=pattern(128), **words):
-    """A pass by pairs over an area, in each of the directions and ways."""
-    for write in directions:
-        for old in ways:
-            keep, told = KEEP if old is OldEntries.KEEP else 0, LETTERS[old][1]
-            title = f"by pairs, {name}{told}: {DIRECTIONS[write]}"
-            words |= dict(a=a, b=b, sheet=data, channels=channels)
-            yield title, paired(write | keep, pairs, fmmus, **words)
+def asked(name, data, pairs=(), fmmus=WORN, ways=CLEARING, **words):
+    """A call by pairs over an area, in each of the ways."""
+    ways = [how | BY_PAIRS for how in ways]
+    return ask_call.asked(f"by pairs, {name}", data, fmmus, ways, pairs=pairs, **words)
 
 
 # ---- the list by itself
@@ -94,37 +78,39 @@ LISTS = {
 def lists():
     """The function that reads the list: sixteen entries, and whether a number is above 15."""
     for name, pairs in LISTS.items():
-        for how, told in ((0, ""), (OWN_NUMBER, ", by own numbers")):
-            yield f"the pairs, {name}{told}", Request("M", how, len(pairs), fmmus=front(pairs))
+        for how, mode in ((BY_PAIRS, ""), (0, ", by own numbers")):
+            yield f"the pairs, {name}{mode}", Request("M", how, len(pairs), fmmus=front(pairs))
     for number in (15, 16, 128, 255):
         for place, pair in (("an FMMU", (number, 2)), ("a sync manager", (2, number))):
-            for told, pairs in (("alone", [pair]), ("first of sixteen", [pair, *OWN[1:]]), ("last", [*OWN[:15], pair])):
-                yield f"the pairs, {number} for {place}, {told}", Request("M", 0, len(pairs), fmmus=front(pairs))
+            for where, pairs in (("alone", [pair]), ("first of sixteen", [pair, *OWN[1:]]), ("last", [*OWN[:15], pair])):
+                asked_for = Request("M", BY_PAIRS, len(pairs), fmmus=front(pairs))
+                yield f"the pairs, {number} for {place}, {where}", asked_for
 
 
 def lent_lists():
     """How many pairs are lent: what stands whole, as many as the room says; byte 1's other bits are ignored."""
     bad = front([(1, 0), (2, 3), (16, 5)])
+    asked_for = Request("M", BY_PAIRS, fmmus=bad)
     for room in (0, 1, 2, 3, 4, 20_480):
-        yield f"the pairs, room {room} of three", Request("M", room=room, fmmus=bad)
+        yield f"the pairs, room {room} of three", asked_for._replace(room=room)
     for size in (0, 1, 2, 3, 5):
-        yield f"the pairs, {size} bytes", Request("M", room=3, fmmus=bad[:size])
+        yield f"the pairs, {size} bytes", asked_for._replace(room=3, fmmus=bad[:size])
     for room in (255, 256, 257):
-        yield f"the pairs, room {room}, 512 bytes", Request("M", room=room, fmmus=bytes(510) + b"\x07\x10")
+        yield f"the pairs, room {room}, 512 bytes", asked_for._replace(room=room, fmmus=bytes(510) + b"\x07\x10")
     for how in (1, 2, 3, 5, 6, 7, 8, 248, 251, 252, 255):
-        yield f"the pairs, byte 1 is {how}", Request("M", how, 3, fmmus=bad)
-    yield "the pairs, under times", Request("M", c=9, times=3, room=2, fmmus=bad)
-    yield "the pairs beside a sheet that is refused", Request("M", room=2, sheet=SAMPLE[:3], fmmus=bad)
+        yield f"the pairs, byte 1 is {how}", asked_for._replace(write=how, room=3)
+    yield "the pairs, under times", asked_for._replace(c=9, times=3, room=2)
+    yield "the pairs beside a sheet that is refused", asked_for._replace(room=2, sheet=SAMPLE[:3])
 
 
-# ---- what a pass writes
+# ---- what a call writes
 
 
 def decided():
     """The first pair for a sync manager; its own number where there is none."""
     both = lined("r17 w9")
     for name in ("no pair", "one pair", "turned round", "turned round, then their own", "their own, then turned round"):
-        yield from asked(name, both, LISTS[name], ways=EITHER)
+        yield from asked(name, both, LISTS[name], ways=EVERY)
     for name, pairs in {
         "the first of two": [(5, 0), (6, 0), (7, 1), (8, 1)],
         "the first of two, the other way round": [(6, 0), (5, 0), (8, 1), (7, 1)],
@@ -143,18 +129,18 @@ def decided():
 def each_entry():
     """Each of the sixteen entries, chosen by each of the sixteen sync managers in turn."""
     for e in range(16):
-        k, write = (7 * e + 3) % 16, e % 2
-        data = lined("x " * k + ("w" if write else "r") + "24")
-        yield from asked(f"entry {e} for sync manager {k}", data, [(e, k)], area(), directions=[write])
+        k, letter = (7 * e + 3) % 16, "rw"[e % 2]
+        data = lined("x " * k + f"{letter}24")
+        yield from asked(f"entry {e} for sync manager {k}", data, [(e, k)], area(), CLEARING[e // 2 % 2 :][:1])
 
 
 def all_sixteen():
     """Sixteen sync managers, each on another entry than its own; and on a few entries, in runs."""
     odd = lined(" ".join("rw"[k % 2] + str(3 * k + 1) for k in range(16)))
-    yield from asked("all sixteen turned round", odd, TURNED, area(), EITHER)
+    yield from asked("all sixteen turned round", odd, TURNED, area(), EVERY)
     runs = lined(" ".join(("r" if k < 9 else "w") + str(8 * k + 1) for k in range(16)))
     shared = [(k // 3, k) for k in range(16)]
-    yield from asked("all sixteen, three on each entry", runs, shared[::-1], area(), EITHER)
+    yield from asked("all sixteen, three on each entry", runs, shared[::-1], area(), EVERY)
     yield from asked("all sixteen on one entry", lined("r9 " * 16), [(15, k) for k in range(16)], area(), EITHER)
 
 
@@ -165,20 +151,20 @@ def no_bits():
     """A sync manager of 0 bits writes its image and no entry; in the old mode its own entry too."""
     sheets = {"all of 0 bits": "r w", "the first of 0 bits": "r r9 w w9", "the second of 0 bits": "r9 r w9 w"}
     for name, text in sheets.items():
-        for told, pairs in (("no pair", []), ("a pair for each", [(4 + k, k) for k in range(4)])):
-            yield from asked(f"{name}, {told}", lined(text), pairs, ways=EITHER)
-        lent = dict(a=100, b=40, sheet=lined(text), channels=pattern(128))
-        for write in (0, 1):
-            title = f"by own numbers, {name}, a pair for each: {DIRECTIONS[write]}"
-            yield title, paired(write | OWN_NUMBER, [(4 + k, k) for k in range(4)], WORN, **lent)
+        each = [(4 + k, k) for k in range(4)]
+        for list_told, pairs in (("no pair", []), ("a pair for each", each)):
+            yield from asked(f"{name}, {list_told}", lined(text), pairs, ways=EVERY)
+        yield from ask_call.asked(f"by own numbers, {name}, a pair for each", lined(text), WORN, pairs=each)
+    for name, text in {"no inputs": "w9 w8", "no outputs": "r9 r8", "inputs of 0 bits": "r w9", "outputs of 0 bits": "r9 w"}.items():
+        yield from asked(name, lined(text), [(4, 0), (5, 1)])
     for name, table in {**MUTED, "multiplier 0 for both": [(INDEX, 0), (INDEX + 1, 0)]}.items():
         yield from asked(name, lined("r9 w9"), [(5, 0), (6, 1)], table=table)
-        yield from asked(f"{name}, no pair", lined("r9 w9"), table=table)
+        yield from asked(f"{name}, no pair", lined("r9 w9"), table=table, ways=EITHER)
     nowhere = [eeprom(2, 0, INDEX, 8), eeprom(1, 1, INDEX, 8), coe(0, INDEX, 8), coe(1, INDEX, 8)]
     pdos = {"of 0 bits": [eeprom(1, 0, INDEX, 0), eeprom(2, 1, INDEX, 0)], "that count nowhere": nowhere}
     for name, more in pdos.items():
         yield from asked(f"PDOs {name}", lined("r w", more=more), [(5, 0), (6, 1)])
-    for kind, rights in {"neither bit": 0, "the inputs' bit": 1, "the outputs' bit": 2}.items():
+    for kind, rights in KINDS.items():
         used = area(*[left(rights)] * 2)
         yield from asked(f"all of 0 bits, entries with {kind}", lined("r w"), fmmus=used, ways=EITHER)
 
@@ -219,10 +205,10 @@ APART = {
 def sharing():
     """The first makes the entry and the others add to it, end to end or not."""
     for name, (text, pairs) in SHARED.items():
-        yield from asked(f"shared, {name}", lined(text), pairs, directions=[0])
-        yield from asked(f"shared, {name}, directions exchanged", lined(turned(text)), pairs, directions=[1])
+        yield from asked(f"shared, {name}", lined(text), pairs, ways=[AFTER_INPUTS])
+        yield from asked(f"shared, {name}, directions exchanged", lined(turned(text)), pairs, ways=[GIVEN])
     for name, (text, starts, pairs) in APART.items():
-        yield from asked(f"shared, {name}", lined(text, starts), pairs, ways=EITHER, directions=[0])
+        yield from asked(f"shared, {name}", lined(text, starts), pairs, ways=EITHER)
 
 
 # ---- lists that aren't read
@@ -238,8 +224,8 @@ COE_SHEETS = {
 def unread():
     """A CoE sheet leaves the pairs unread, bad ones too; what is CoE is decided as in document 01."""
     for name, data in COE_SHEETS.items():
-        for told, pairs in BAD_LISTS.items():
-            yield from asked(f"{name}, {told}", data, pairs)
+        for list_told, pairs in BAD_LISTS.items():
+            yield from asked(f"{name}, {list_told}", data, pairs)
     pdos = [eeprom(2, 2, INDEX, 8), eeprom(1, 3, INDEX, 8), coe(2, INDEX, 16), coe(3, INDEX, 16)]
     near = {
         "CoE with send size 1": sheet(3, 0, 1, FOUR, (1, 2), pdos),
@@ -249,20 +235,19 @@ def unread():
         "no read mailbox": sheet(7, 128, 128, [FOUR[0], FOUR[0], *FOUR[2:]], (1, 2), pdos),
     }
     for name, data in near.items():
-        for told, pairs in (("pairs", [(7, 2), (8, 3)]), ("a bad pair", [(7, 2), (8, 3), (0, 16)])):
-            yield from asked(f"{name}, {told}", data, pairs)
+        for list_told, pairs in (("pairs", [(7, 2), (8, 3)]), ("a bad pair", [(7, 2), (8, 3), (0, 16)])):
+            yield from asked(f"{name}, {list_told}", data, pairs)
 
 
 def in_old_mode():
-    """By own numbers a list is lent and not read: what p and K answer without one."""
+    """By own numbers a list is lent and not read: what is answered without one."""
     bays = [*DOCUMENTS, *WIDTHS[:2], *(one for one in USED if "EEPROM" in one.name), LENGTHS[1]]
     for number, one in enumerate(bays):
-        told, pairs = list(BAD_LISTS.items())[number % len(BAD_LISTS)]
-        for name, q in either_way(one, one.channels, (0, 1)):
-            how = q.write | OWN_NUMBER | (KEEP if q.letter == "K" else 0)
-            yield f"by own numbers, {told}, {name}", q._replace(
-                letter="P", write=how, room=len(pairs), fmmus=front(pairs) + q.fmmus
-            )
+        list_told, pairs = list(BAD_LISTS.items())[number % len(BAD_LISTS)]
+        _, *calls = planned(one)
+        for name, q in calls:
+            unread = q._replace(room=len(pairs), fmmus=front(pairs) + q.fmmus)
+            yield f"by own numbers, {list_told}, {name}", unread
 
 
 # ---- 8 and 15
@@ -274,42 +259,40 @@ def eight():
     many |= {f"65,528 bytes and {last}": "r65528 " * 8 + f"r{8 * last}" for last in (7, 8)}
     for name, text in many.items():
         on_one = [(3, k) for k in range(16)]
-        yield from asked(f"{name} on one entry", lined(text), on_one, ways=EITHER, directions=[0])
-        yield from asked(f"{name} on one entry", lined(turned(text)), on_one, ways=EITHER, directions=[1])
-        yield from asked(f"{name} on their own", lined(text), fmmus=area(), directions=[0])
+        yield from asked(f"{name} of inputs on one entry", lined(text), on_one, ways=EITHER)
+        yield from asked(f"{name} of outputs on one entry", lined(turned(text)), on_one, ways=EITHER)
+        yield from asked(f"{name} on their own", lined(text), fmmus=area(), ways=[AFTER_INPUTS])
     nine = lined("r65528 " * 9)
-    yield from asked("nine, the last on another", nine, [(3, k) for k in range(8)], directions=[0])
-    yield from asked("nine, the first on another", nine, [(3, k) for k in range(1, 9)], directions=[0])
+    yield from asked("nine, the last on another", nine, [(3, k) for k in range(8)])
+    yield from asked("nine, the first on another", nine, [(3, k) for k in range(1, 9)])
     for before in (7, 8):
         old = area(entry(77, before, 0x2222), first=3)
-        yield from asked(f"65,528 bytes on {before}", lined("r65528 " * 8), [(3, k) for k in range(8)], old, EITHER, [0])
+        yield from asked(f"65,528 bytes on {before}", lined("r65528 " * 8), [(3, k) for k in range(8)], old, EITHER)
     one = lined("r8 w8")
-    for write in (0, 1):
+    for write, side in SIDES:
         full = area(entry(77, 65_535, 0x2222, own(write)), first=9)
-        yield from asked("1 byte on a full entry", one, [(9, write)], full, EITHER, [write])
-        yield from asked("1 byte on its own beside a full entry", one, [], full, EITHER, [write])
+        yield from asked(f"1 byte of {side} on a full entry", one, [(9, write)], full, EITHER)
+        yield from asked(f"1 byte of {side} on its own beside a full entry", one, [], full, EITHER)
 
 
 def fifteen():
     """A wanted entry is the one that is chosen, and one of 0 bits wants none."""
     both = lined("r8 w8")
-    for write in (0, 1):
-        kinds = {"the other bit": other(write), "its own bit": own(write), "neither bit": 0, "both bits": BOTH}
-        for kind, rights in kinds.items():
+    for write, side in SIDES:
+        for kind, rights in KINDS.items():
             for e, pairs in ((9, [(9, write)]), (write, [(9, write)]), (9, [(write, write), (9, write)])):
-                name = f"entry {e} with {kind}, {pairs[0][0]} chosen"
-                yield from asked(name, both, pairs, area(left(rights), first=e), EITHER, [write])
-        theirs = area(left(other(write)), first=9)
-        muted = [(INDEX + write, 0)]
-        yield from asked("the other bit, chosen at 0 bits", both, [(9, write)], theirs, directions=[write], table=muted)
-    two = lined("r8 r8 w8")
-    for e in (4, 5):
-        pairs = [(4, 0), (5, 1)]
-        yield from asked(f"two chosen, entry {e} with the other bit", two, pairs, area(left(2), first=e), EITHER, [0])
-    yield from asked("a shared entry with the other bit", two, [(4, 0), (4, 1)], area(left(2), first=4), EITHER, [0])
+                name = f"entry {e} with {kind}, {pairs[0][0]} chosen for {side}"
+                yield from asked(name, both, pairs, area(left(rights), first=e), EITHER)
+        nobodys, muted = area(left(0), first=9), [(INDEX + write, 0)]
+        yield from asked(f"neither bit, chosen for {side} at 0 bits", both, [(9, write)], nobodys, table=muted)
+    for write, two in enumerate((lined("r8 r8 w8"), lined("w8 w8 r8"))):
+        for e in (4, 5):
+            yield from asked(f"two chosen, entry {e} with neither bit", two, [(4, 0), (5, 1)], area(left(0), first=e), EITHER)
+        yield from asked("a shared entry with neither bit", two, [(4, 0), (4, 1)], area(left(0), first=4), EITHER)
+        yield from asked("a shared entry of the other direction", two, [(4, 0), (4, 1)], area(left(2 - write), first=4), EITHER)
 
 
-# ---- areas in use, passes one after another
+# ---- areas in use, calls one after another
 
 
 def used():
@@ -324,28 +307,27 @@ def used():
         "all disabled, every bit set": area(*[left(BOTH, on=0)] * 16),
     }
     for name, fmmus in areas.items():
-        yield from asked(f"two and two over {name}", data, pairs, fmmus, EITHER)
+        yield from asked(f"two and two over {name}", data, pairs, fmmus, EVERY)
         yield from asked(f"on their own over {name}", data, [], fmmus, EITHER)
 
 
 def in_turn():
-    """Passes over what the one before left: both directions, made again, by other pairs, by own numbers."""
+    """Calls over what the one before left: made again, by other pairs, by own numbers."""
     data, first, second = lined("r17 r9 w8 w16"), [(5, 0), (5, 1), (6, 2), (6, 3)], [(7, 1), (8, 2), (5, 3)]
     turns = {
-        "inputs, outputs, inputs": [(0, first), (1, first), (0, first)],
-        "outputs, inputs, outputs": [(1, first), (0, first), (1, first)],
-        "other pairs for the outputs": [(0, first), (1, second), (0, first)],
-        "other pairs the second time": [(0, first), (0, second), (1, second), (1, first)],
-        "by own numbers the second time": [(0, first), (1, first), (4, first), (5, first)],
-        "by pairs the second time": [(4, first), (5, first), (0, first), (1, first)],
+        "the same twice": [(BY_PAIRS, first), (BY_PAIRS, first)],
+        "other pairs the second time": [(BY_PAIRS, first), (BY_PAIRS, second), (BY_PAIRS, first)],
+        "by own numbers the second time": [(BY_PAIRS, first), (0, first)],
+        "by pairs the second time": [(0, first), (BY_PAIRS, first)],
     }
     for name, calls in turns.items():
-        for old in EITHER:
-            fmmus, channels, keep = area(), pattern(128), KEEP if old is OldEntries.KEEP else 0
-            for turn, (how, pairs) in enumerate(calls):
-                request = paired(how | keep, pairs, fmmus, a=100 + 20 * turn, sheet=data, channels=channels)
-                yield f"by pairs, {name}{LETTERS[old][1]}, turn {turn}", request
-                fmmus, channels = left_by(request)
+        for how in EVERY:
+            fmmus, channels = area(), pattern(128)
+            for turn, (mode, pairs) in enumerate(calls):
+                lent = dict(a=100 + 20 * turn, c=50 + 10 * turn, channels=channels)
+                request = call(how | mode, data, fmmus, pairs, **lent)
+                yield f"by pairs, {name}{told(how)}, turn {turn}", request
+                fmmus, channels, _ = left_by(request)
 
 
 # ---- the request's own limits
@@ -354,28 +336,28 @@ def in_turn():
 def limits():
     """Byte 1, and how many pairs are lent before the area."""
     data, pairs = lined("r17 r w8"), [(5, 0), (6, 2)]
+    whole = dict(a=9, c=20, channels=bytes(128))
     for how in (*range(8), 8, 248, 251, 252, 255):
-        yield f"by pairs, byte 1 is {how}", paired(how, pairs, WORN, sheet=data, channels=bytes(128))
-    whole = dict(sheet=data, channels=bytes(128))
+        yield f"pairs lent, byte 1 is {how}", call(how, data, WORN, pairs, **whole)
     for room in (0, 1, 2, 3, 300, 20_480):
-        yield f"by pairs, room {room}", Request("P", room=room, fmmus=front(pairs) + area(), **whole)
+        yield f"by pairs, room {room}", call(BY_PAIRS, data, area(), pairs, **whole)._replace(room=room)
     for count in (16, 127, 128, 129):
         many = [(4, 9)] * (count - 1) + [(5, 0)]
         fmmus = area()[: 512 - 2 * count]
-        yield f"by pairs, {count} pairs, the last decides", paired(0, many, fmmus, **whole)
-        yield f"by pairs, {count} pairs, the last above 15", paired(0, [*many[:-1], (5, 16)], fmmus, **whole)
-    yield "by pairs, 256 pairs and no area", paired(0, [(5, 0)] * 256, b"", **whole)
-    yield "by pairs, no pair and no area", paired(0, [], b"", **whole)
-    yield "by pairs, half a pair", Request("P", room=1, fmmus=b"\5", **whole)
+        yield f"by pairs, {count} pairs, the last decides", call(BY_PAIRS, data, fmmus, many, **whole)
+        yield f"by pairs, {count} pairs, the last above 15", call(BY_PAIRS, data, fmmus, [*many[:-1], (5, 16)], **whole)
+    yield "by pairs, 256 pairs and no area", call(BY_PAIRS, data, b"", [(5, 0)] * 256, **whole)
+    yield "by pairs, no pair and no area", call(BY_PAIRS, data, b"", **whole)
+    yield "by pairs, half a pair", call(BY_PAIRS, data, b"\5", **whole)._replace(room=1)
     for size in (0, 255, 257):
         yield from asked(f"an FMMU area of {size}", data, pairs, pattern(size))
     for size in (0, 127, 129):
         yield from asked(f"a sync manager area of {size}", data, pairs, channels=pattern(size))
-    yield "by pairs, under times", paired(1, pairs, area(), c=9, times=3, **whole)
-    for name, a in (("up to the last offset", LIMIT - 3), ("past the last offset", LIMIT - 2)):
-        yield from asked(name, data, [(5, 0)], ways=EITHER, directions=[0], a=a)
-    yield from asked("group at the offset", data, pairs, b=100)
-    yield from asked("group above the offset", data, pairs, b=101)
+    yield "by pairs, under times", call(BY_PAIRS, data, area(), pairs, times=3, **whole)
+    for name, a in (("up to the last offset", LIMIT - 4), ("past the last offset", LIMIT - 3)):
+        yield from asked(name, data, [(5, 0)], ways=EVERY, a=a)
+    yield from asked("group at the offset", data, pairs, b=100, c=100)
+    yield from asked("group above the offset", data, pairs, b=101, c=101)
 
 
 def ask():

@@ -1,10 +1,12 @@
 """Requests to translation and counting: both at every address in and around the ranges, and the limits of each."""
 
+from typing import NamedTuple
+
 from ask_pairs import APART, INDEX, SHARED, lined, turned
 from bays import IN, OUT, PAIR
 from build import FOUR, SAMPLE, STALE, area, coe, eeprom, entry, managers, on_coe, on_eeprom, sheet
 from pairs import FmmuMode
-from planning import OldEntries, Settings, configure_fmmus
+from planning import OldEntries, OutputStart, Settings, configure_fmmus
 from registers import LIMIT
 from stored import sample
 from stream import Request
@@ -19,85 +21,90 @@ AT_THE_END = on_eeprom(eeprom(1, 0, IN, 24), rows=managers((0xFFFE, 0x20, 1, 4))
 LARGE = on_eeprom(eeprom(1, 0, IN, 65_528), rows=managers((0x1000, 0x20, 1, 4)))
 
 
-def planned(sheet, passes, fmmus=area(), table=(), settings=Settings()):
-    """The FMMU area after the passes, each (direction, offset)."""
-    fmmus, channels = bytearray(fmmus), bytearray(128)
-    for write, offset in passes:
-        configure_fmmus(write, offset, settings, sheet, table, fmmus, channels)
-    return bytes(fmmus)
+class Plan(NamedTuple):
+    """What a call left: the FMMU area, and where each direction starts."""
+
+    fmmus: bytes
+    starts: tuple
 
 
-def both_sides(name, data, passes, fmmus, window, letters="ATC", table=()):
-    """Both directions over a window (first address, how many), counted from the offset of each pass."""
+def planned(data, inputs, outputs=None, fmmus=area(), table=(), settings=Settings()):
+    """A call from an input offset; without an output offset the outputs come straight after the inputs."""
+    start = OutputStart.AFTER_INPUTS if outputs is None else OutputStart.GIVEN
+    fmmus, channels, offsets = bytearray(fmmus), bytearray(128), [inputs, outputs or 0]
+    segments = configure_fmmus(offsets, settings._replace(outputs=start), data, table, fmmus, channels)
+    return Plan(bytes(fmmus), tuple(start for start, _ in segments))
+
+
+def both_sides(name, data, plan, window, letters="ATC", table=()):
+    """Both directions over a window (first address, how many), each counted from where it starts."""
     first, many = window
-    for write, offset in sorted(passes):
+    for write, offset in enumerate(plan.starts):
         counted = dict(a=offset, sheet=data, table=list(table))
-        parts = {"A": {**counted, "fmmus": fmmus}, "T": {"fmmus": fmmus}, "C": counted}
+        parts = {"A": {**counted, "fmmus": plan.fmmus}, "T": {"fmmus": plan.fmmus}, "C": counted}
         for letter in letters:
             title = f"{name}: {'outputs' if write else 'inputs'}"
             yield title, Request(letter, write, c=first, times=many, **parts[letter])
 
 
 def agreeing():
-    orders = {"inputs first": [(0, 0), (1, 5)], "outputs first": [(1, 100), (0, 102)], "apart": [(1, 3), (0, 20)]}
+    orders = {"inputs first": (0, None), "outputs first": (102, 100), "apart": (20, 3), "overlapping": (4, 4)}
     for name, data in (("the sample", SAMPLE), ("a gap", GAP)):
-        for order, passes in orders.items():
-            first = max(0, min(offset for _, offset in passes) - 3)
-            window = first, max(offset for _, offset in passes) + 10 - first
-            yield from both_sides(f"{name}, {order}", data, passes, planned(data, passes), window)
+        for order, offsets in orders.items():
+            plan = planned(data, *offsets)
+            first = max(0, min(plan.starts) - 3)
+            yield from both_sides(f"{name}, {order}", data, plan, (first, max(plan.starts) + 10 - first))
     for name, data in (("a gap, EEPROM", OWN), ("swapped", SWAPPED), ("empty between", EMPTY_BETWEEN)):
-        passes = [(0, 2), (1, 9)]
-        yield from both_sides(name, data, passes, planned(data, passes), (0, 16), "A")
+        yield from both_sides(name, data, planned(data, 2, 9), (0, 16), "A")
 
 
 def far():
-    """Addresses near 0 and near 2^32 for a pass that ends at the last offset."""
-    passes = [(0, LIMIT - 5), (1, 0)]
-    fmmus = planned(SAMPLE, passes)
+    """Addresses near 0 and near 2^32 for a direction that ends at the last offset."""
+    plan = planned(SAMPLE, LIMIT - 5, 0)
     for name, window in (("near 2^32", (LIMIT - 9, 20)), ("near 0", (0, 6))):
-        yield from both_sides(f"the sample, {name}", SAMPLE, passes, fmmus, window)
-    passes = [(0, 1)]
-    yield from both_sides("inputs at 0xfffe", AT_THE_END, passes, planned(AT_THE_END, passes), (0, 6))
-    passes = [(0, 10)]
-    yield from both_sides("8,191 bytes", LARGE, passes, planned(LARGE, passes), (0, 8_210), "A")
+        yield from both_sides(f"the sample, {name}", SAMPLE, plan, window)
+    yield from both_sides("up to 2^32", SAMPLE, planned(SAMPLE, LIMIT - 7), (LIMIT - 9, 20), "A")
+    yield from both_sides("inputs at 0xfffe", AT_THE_END, planned(AT_THE_END, 1), (0, 6))
+    yield from both_sides("8,191 bytes", LARGE, planned(LARGE, 10), (0, 8_210), "A")
 
 
 def tables():
-    table, passes = [(IN, 2), (IN, 9), (OUT, 0)], [(0, 4), (1, 30)]
-    fmmus = planned(SAMPLE, passes, table=table)
-    yield from both_sides("the pass's table", SAMPLE, passes, fmmus, (0, 40), "AC", table)
-    yield from both_sides("another table", SAMPLE, passes, fmmus, (0, 40), "A")
-    yield "another start offset", Request("A", a=5, times=16, sheet=SAMPLE, table=table, fmmus=fmmus)
+    table = [(IN, 2), (IN, 9), (OUT, 0)]
+    plan = planned(SAMPLE, 4, 30, table=table)
+    yield from both_sides("the call's table", SAMPLE, plan, (0, 40), "AC", table)
+    yield from both_sides("another table", SAMPLE, plan, (0, 40), "A")
+    yield "another start offset", Request("A", a=5, times=16, sheet=SAMPLE, table=table, fmmus=plan.fmmus)
 
 
 def stale():
-    """Last spring's fault, which is keeping; the same passes in the default, and on a fresh area."""
-    passes = [(0, 5), (1, 10)]
+    """Last spring's fault, which is keeping; the same call in the default, and on a fresh area."""
     for name, fmmus, old in (
         ("a stale entry, keeping", STALE, OldEntries.KEEP),
         ("a stale entry", STALE, OldEntries.CLEAR),
         ("a fresh area", area(), OldEntries.CLEAR),
     ):
-        yield from both_sides(name, SAMPLE, passes, planned(SAMPLE, passes, fmmus, settings=Settings(old=old)), (0, 15), "ATC")
+        yield from both_sides(name, SAMPLE, planned(SAMPLE, 5, fmmus=fmmus, settings=Settings(old=old)), (0, 15), "ATC")
 
 
-def old_areas(own):
-    """Areas in which entries with these rights were left; none of them is in the way of a pass that clears them."""
-    odd = entry(0, 4, 0x1180, own, bits=(1, 7, 0), reserved=True)
-    yield "old entries everywhere", area(*[entry(8 * k, 8, 0x3000, own) for k in range(16)])
-    yield "an old entry of odd bits", area(odd, odd)
-    yield "old and disabled entries", area(entry(0, 9, 0x3000, own), entry(2, 4, 0x4000, own), entry(0, 9, 0x5000, 3, 0))
-    yield "another job's entries", area(entry(0, 9, 0x3000, own), entry(0, 40, 0x4000, 3 - own), first=3)
+def old_areas():
+    """Areas in which entries of both directions were left; none of them is in the way of a call that clears them."""
+    for own in (1, 2):
+        odd = entry(0, 4, 0x1180, own, bits=(1, 7, 0), reserved=True)
+        other = entry(2, 4, 0x4000, 3 - own)
+        yield f"old entries everywhere, {own}", area(*[entry(8 * k, 8, 0x3000, own) for k in range(16)])
+        yield f"old entries of odd bits, {own}", area(odd, odd)
+        yield f"old and disabled entries, {own}", area(entry(0, 9, 0x3000, own), other, entry(0, 9, 0x5000, 3, 0))
+        yield f"another job's entries, {own}", area(entry(0, 9, 0x3000, own), entry(0, 40, 0x4000, 3 - own), first=3)
+    yield "old entries in turn", area(*[entry(8 * k, 8, 0x3000, 1 + k % 2) for k in range(16)])
 
 
 def used():
-    """In the default both sides agree for the pass's direction, whatever stood in the area; keeping, they needn't."""
-    for write in (0, 1):
-        for name, fmmus in old_areas(2 if write else 1):
-            for path, data in (("the sample", SAMPLE), ("a gap, EEPROM", OWN), ("empty between", EMPTY_BETWEEN)):
-                for told, old in (("", OldEntries.CLEAR), (", keeping", OldEntries.KEEP)):
-                    after = planned(data, [(write, 3)], fmmus, settings=Settings(old=old))
-                    yield from both_sides(f"{path} over {name}{told}", data, [(write, 3)], after, (0, 40), "A")
+    """In the default both sides agree for both directions, whatever stood in the area; keeping, they needn't."""
+    for name, fmmus in old_areas():
+        for path, data in (("the sample", SAMPLE), ("a gap, EEPROM", OWN), ("empty between", EMPTY_BETWEEN)):
+            for told, old in (("", OldEntries.CLEAR), (", keeping", OldEntries.KEEP)):
+                plan = planned(data, 3, fmmus=fmmus, settings=Settings(old=old))
+                yield from both_sides(f"{path} over {name}{told}", data, plan, (0, 40), "A")
 
 
 def by_pairs(pairs, old=OldEntries.CLEAR):
@@ -111,77 +118,74 @@ TOGETHER = {
     "one of no direction between, elsewhere": ("r17 x8 r9 w8", [0x1000, 0x2000, 0x1003], [(1, 0), (1, 2)]),
     "an empty one between, elsewhere": ("r17 r r9 w8", [0x1000, 0x2000, 0x1003], [(5, 0), (5, 2)]),
 }
-ORDERS = [(0, 3), (1, 20)], [(1, 2), (0, 9)]
+ORDERS = (3, None), (9, 2)
 
 
 def sharing():
-    """By pairs: sync managers that share an entry agree exactly if they lie end to end, in either order of the passes."""
+    """By pairs: sync managers that share an entry agree exactly if they lie end to end, in either order of the ranges."""
     lying = {name: (text, [], pairs) for name, (text, pairs) in SHARED.items()} | TOGETHER
     for number, (name, (text, starts, pairs)) in enumerate(lying.items()):
-        data, passes = lined(text, starts), ORDERS[number % 2]
-        after = planned(data, passes, settings=by_pairs(pairs))
-        yield from both_sides(f"shared, {name}", data, passes, after, (0, 32), "A" if name in SHARED else "ATC")
+        data = lined(text, starts)
+        plan = planned(data, *ORDERS[number % 2], settings=by_pairs(pairs))
+        yield from both_sides(f"shared, {name}", data, plan, (0, 32), "A" if name in SHARED else "ATC")
     for name, (text, starts, pairs) in APART.items():
-        data, passes = lined(text, starts), ORDERS[0]
-        after = planned(data, passes, settings=by_pairs(pairs))
-        yield from both_sides(f"shared, {name}", data, passes, after, (0, 32), "ATC")
-        own = planned(data, passes, settings=by_pairs([(9, 0), (5, 1)]))
-        yield from both_sides(f"{name}, each on its own", data, passes, own, (0, 32), "A")
+        data = lined(text, starts)
+        plan = planned(data, 3, 20, settings=by_pairs(pairs))
+        yield from both_sides(f"shared, {name}", data, plan, (0, 32), "ATC")
+        own = planned(data, 3, 20, settings=by_pairs([(9, 0), (5, 1)]))
+        yield from both_sides(f"{name}, each on its own", data, own, (0, 32), "A")
 
 
 def sharing_far():
     """Sharing near the last offset and the last device address, and up to 65,535 bytes."""
     data, pairs = lined("r17 r9 w8", [0xFFFA]), [(5, 0), (5, 1)]
-    passes = [(0, LIMIT - 5), (1, 0)]
-    after = planned(data, passes, settings=by_pairs(pairs))
-    yield from both_sides("shared, near 2^32 and 0xffff", data, passes, after, (LIMIT - 9, 20))
+    plan = planned(data, LIMIT - 5, 0, settings=by_pairs(pairs))
+    yield from both_sides("shared, near 2^32 and 0xffff", data, plan, (LIMIT - 9, 20))
     for start in (0xFFFB, 0xFFFC, 0xFFFD, 0xFFFE):
-        data, passes = lined("r17 r9", [start]), [(0, 1)]
-        after = planned(data, passes, settings=by_pairs(pairs))
-        yield from both_sides(f"shared, from {start:#x}", data, passes, after, (0, 8))
-    data, passes = lined("r65528 " * 8 + "r56", [0]), [(0, 1)]
-    after = planned(data, passes, settings=by_pairs([(5, k) for k in range(9)]))
+        data = lined("r17 r9", [start])
+        yield from both_sides(f"shared, from {start:#x}", data, planned(data, 1, settings=by_pairs(pairs)), (0, 8))
+    data = lined("r65528 " * 8 + "r56", [0])
+    plan = planned(data, 1, settings=by_pairs([(5, k) for k in range(9)]))
     for window in ((0, 4), (8_190, 4), (65_526, 16)):
-        yield from both_sides(f"65,535 bytes on one entry, {window[0]:,}", data, passes, after, window)
+        yield from both_sides(f"65,535 bytes on one entry, {window[0]:,}", data, plan, window)
 
 
 def sharing_again():
     """By pairs over areas in use: in the default both sides agree, whatever stood there."""
     pairs = [(5, 0), (5, 1)]
-    for write, text in enumerate(("r17 r9 w8", turned("r17 r9 w8"))):
-        for name, fmmus in old_areas(2 if write else 1):
-            for told, old in (("", OldEntries.CLEAR), (", keeping", OldEntries.KEEP)):
-                after = planned(lined(text), [(write, 3)], fmmus, settings=by_pairs(pairs, old))
-                yield from both_sides(f"shared over {name}{told}", lined(text), [(write, 3)], after, (0, 40), "A")
+    for number, (name, fmmus) in enumerate(old_areas()):
+        text = "r17 r9 w8" if number % 2 else turned("r17 r9 w8")
+        for told, old in (("", OldEntries.CLEAR), (", keeping", OldEntries.KEEP)):
+            plan = planned(lined(text), 3, fmmus=fmmus, settings=by_pairs(pairs, old))
+            yield from both_sides(f"shared over {name}{told}", lined(text), plan, (0, 40), "A")
 
 
 def sharing_by_table():
     """A table can part what lies end to end, or join what doesn't; both sides take the same one."""
-    text, pairs, passes = "r8 r8 r8 w8", [(5, 0), (5, 1), (5, 2)], [(0, 3), (1, 9)]
+    text, pairs, offsets = "r8 r8 r8 w8", [(5, 0), (5, 1), (5, 2)], (3, 9)
     tables = {"no record": [], **{f"{k} muted": [(INDEX + k, 0)] for k in range(3)}, "1 doubled": [(INDEX + 1, 2)]}
     for told, starts in (("end to end", []), ("the middle one elsewhere", [0x1000, 0x2000, 0x1001])):
         for name, table in tables.items():
             data = lined(text, starts)
-            after = planned(data, passes, table=table, settings=by_pairs(pairs))
-            yield from both_sides(f"shared, {told}, {name}", data, passes, after, (0, 16), "A", table)
-    after = planned(lined(text), passes, settings=by_pairs(pairs))
-    yield from both_sides("shared, counted with another table", lined(text), passes, after, (0, 16), "A", [(INDEX + 1, 0)])
+            plan = planned(data, *offsets, table=table, settings=by_pairs(pairs))
+            yield from both_sides(f"shared, {told}, {name}", data, plan, (0, 16), "A", table)
+    plan = planned(lined(text), *offsets, settings=by_pairs(pairs))
+    yield from both_sides("shared, counted with another table", lined(text), plan, (0, 16), "A", [(INDEX + 1, 0)])
 
 
 def other_pairs():
-    """Keeping, an output pass by other pairs, or another table, adds to the inputs' entry; counting takes no pairs."""
-    data, passes = lined("r17 r9 w8"), [(0, 3), (1, 8)]
+    """Keeping, a second call by other pairs adds to what the first one made; counting takes no pairs."""
+    data = lined("r17 r9 w8")
+    first = planned(data, 3, settings=by_pairs([(5, 0), (5, 1)]))
     ways = {"other pairs": by_pairs([(7, 2)]), "other pairs, keeping": by_pairs([(5, 2), (6, 0)], OldEntries.KEEP)}
     for name, settings in ways.items():
-        inputs = planned(data, passes[:1], settings=by_pairs([(5, 0), (5, 1)]))
-        after = planned(data, passes[1:], inputs, settings=settings)
-        yield from both_sides(f"the outputs by {name}", data, passes, after, (0, 16), "A")
-    one, after, settings = lined("r17 w8"), area(), by_pairs([(5, 0), (5, 1)], OldEntries.KEEP)
-    muted = [(INDEX + 1, 0)], [(INDEX, 0)]  # each pass mutes the other direction, so that they don't meet in either
-    for write, offset in passes:
-        after = planned(one, [(write, offset)], after, muted[write], settings)
-    for write, offset in passes:
-        yield from both_sides("another table, keeping", one, [(write, offset)], after, (0, 16), "A", muted[write])
+        plan = planned(data, 3, fmmus=first.fmmus, settings=settings)
+        yield from both_sides(f"a second call by {name}", data, plan, (0, 16), "A")
+    one, pairs = lined("r17 w8"), [(5, 0), (5, 1)]
+    inputs = planned(one, 3, 8, table=[(INDEX + 1, 0)], settings=by_pairs(pairs))
+    both = planned(one, 3, 8, inputs.fmmus, [(INDEX, 0)], by_pairs(pairs, OldEntries.KEEP))
+    for name, table in (("the first call's table", [(INDEX + 1, 0)]), ("the second call's table", [(INDEX, 0)])):
+        yield from both_sides(f"another table, keeping, {name}", one, both, (0, 16), "A", table)
     for write in (0, 1):
         bad = Request("C", write, room=1, a=3, times=16, sheet=data, fmmus=bytes([16, 255]))
         yield f"counting, a bad pair in a part that it doesn't take, {write}", bad

@@ -21,7 +21,7 @@ from ask_sheets import longest as longest_sheet
 from build import MARK, SAMPLE, SAMPLE_DATA, area, category, coe, device, eeprom, entry, managers, on_coe, on_eeprom
 from build import pdo_record, tx_category
 from portions import KEPT
-from stream import BadRequest, Request, requests
+from stream import AFTER_INPUTS, BY_PAIRS, KEEP, BadRequest, Request, requests
 
 ROOT = Path(__file__).resolve().parent.parent
 PAGE = (ROOT / "docs" / "PROBE.md").read_text()
@@ -97,7 +97,7 @@ def parts():
     yield between("all at their most", longest("R"), "refused 1")
     past = {"room": ROOM + 1, "sheet": bytes(SHEET + 1), "fmmus": bytes(FMMUS + 1), "channels": bytes(CHANNELS + 1)}
     past["table"] = last[:1] + last
-    for letter in "spKPMBrtHwvDEz":
+    for letter in "spMBrtHwvDEz":
         for part, value in past.items():
             yield refused(f"{letter}, {part} past its limit", Request(letter, **zeros(letter) | {part: value}).bytes() + GOOD)
 
@@ -123,11 +123,14 @@ def repetitions():
     program = model.one_answer(Request("L", sheet=SAMPLE)).split("\n")
     yield between("lockerplan under times", Request("L", c=7, times=3, sheet=SAMPLE), "7: " + program[0], *program[1:])
     yield between("again under times", Request("B", a=1, c=7, times=3, sheet=SAMPLE), "7: 0 5 5 7")
+    call = Request("p", a=3, c=7, times=3, sheet=SAMPLE, fmmus=bytes(256), channels=bytes(128))
+    yield between("a call under times is made once", call, f"7: {model.one_answer(call)}")
+    yield between("a call under times, at the last value", call._replace(c=LAST), f"{LAST}: refused 9 3 {LAST} {'00' * 256} {'00' * 128}")
     yield between("no such letter under times", Request("z", c=7, times=3, sheet=SAMPLE), "7: no such entry point")
 
 
 def refusals():
-    """What follows a refusal, and where the passes of a plan start."""
+    """What follows a refusal, and where the directions of a plan start."""
     bits = area(entry(0, 1, 0, bits=(1, 7, 0)))
     yield between("translate refuses", Request("T", fmmus=bits), "refused 11")
     yield between("count refuses", Request("C", sheet=SAMPLE[:-1], table=[(1, 2)]), "refused 2")
@@ -137,13 +140,15 @@ def refusals():
     wide = [coe(2, 0x1600 + k, *[255] * 255) for k in range(2)]
     yield between("only the outputs are refused", Request("B", a=2, sheet=on_coe(*wide)), "refused 6")
     seven = on_coe(coe(3, 0x1A00, 1), *wide, usages=(1,))
-    yield between("the first pass refused is named", Request("B", a=2, sheet=seven), "refused 7")
-    yield between("lockerplan refuses", Request("L", sheet=seven), "refused 7")
+    yield between("6 in the outputs comes before 7 in the inputs", Request("B", a=2, sheet=seven), "refused 6")
+    yield between("lockerplan refuses", Request("L", sheet=seven), "refused 6")
     yield between("any other direction", Request("C", write=255, sheet=SAMPLE), "2 0 4352")
-    used = dict(sheet=SAMPLE[:-1], a=7, fmmus=area(entry(0, 1, 0)), channels=bytes(128))
-    for letter in "pK":
-        as_it_came = f"refused 2 7 {used['fmmus'].hex()} {used['channels'].hex()}"
-        yield between(f"a pass refuses, {letter}", Request(letter, **used), as_it_came)
+    used = dict(sheet=SAMPLE[:-1], a=7, c=9, fmmus=area(entry(0, 1, 0)), channels=bytes(128))
+    for how in range(8):
+        as_it_came = f"refused 2 7 9 {used['fmmus'].hex()} {used['channels'].hex()}"
+        yield between(f"a call refuses, byte 1 is {how}", Request("p", how, **used), as_it_came)
+    for letter in "KP":
+        yield between(f"no single pass, {letter}", Request(letter, **used), "no such entry point")
     strange = Request("z", room=1, sheet=SAMPLE, table=[(1, 2)], fmmus=bytes(3), channels=bytes(5))
     yield between("no such letter, with parts", strange, "no such entry point")
 
@@ -256,10 +261,10 @@ def of_dumps():
 
 
 def lists():
-    """How many pairs M is lent, and of its byte 1 the mode alone."""
+    """How many pairs M is lent, and of its byte 1 only 4 counts."""
     own = " ".join(map(str, range(16)))  # each number's own
     first = f"2{own[1:]}"  # 2 for sync manager 0
-    asked, three = Request("M", 3, ROOM, LAST, LAST), bytes([2, 0, 9, 0, 16, 0])
+    asked, three = Request("M", BY_PAIRS, ROOM, LAST, LAST), bytes([2, 0, 9, 0, 16, 0])
     yield between("no pair", asked, f"{own} 0")
     yield between("half a pair", asked._replace(fmmus=b"\xff"), f"{own} 0")
     last = bytes([0, 0] * (FMMUS // 2 - 1) + [7, 15])
@@ -268,7 +273,7 @@ def lists():
     for room, line in enumerate((f"{own} 0", f"{first} 0", f"{first} 0", f"{first} 1", f"{first} 1")):
         yield between(f"room {room} of three pairs", asked._replace(room=room, fmmus=three), line)
     unread = " ".join("0" * 17)
-    for how, line in ((4, unread), (7, unread), (251, f"{first} 1"), (255, unread)):
+    for how, line in ((0, unread), (3, unread), (7, f"{first} 1"), (251, unread), (255, f"{first} 1")):
         yield between(f"pairs, byte 1 is {how}", asked._replace(write=how, fmmus=three), line)
     yield between("pairs under times", asked._replace(c=7, times=3), f"7: {own} 0")
 
@@ -276,27 +281,37 @@ def lists():
 ONE_IN = on_eeprom(eeprom(1, 0, 0x1A00, 8), rows=managers((0x1180, 0x20, 1, 4)))
 
 
-def by_pairs():
-    """What P is lent and how it is told; plans of B by pairs."""
-    asked = Request("P", a=7, sheet=ONE_IN, channels=bytes(128))
+def by_call():
+    """What p is lent and how it is told: the pairs, keeping, and where the outputs start."""
+    asked = Request("p", a=7, b=5, c=9, sheet=ONE_IN, channels=bytes(128))
     channels, before = "8011010020000100".ljust(256, "0"), bytes(128).hex()
     old = area(entry(0, 4, 0x1000), first=9)
-    chosen = [(0, [], 0), (0, [2, 0], 2), (0, [2, 0, 3, 0], 2), (2, [2, 0], 2), (248, [2, 0], 2)]
-    for how, pairs, e in (*chosen, (4, [2, 0], 0), (4, [16, 0], 0), (6, [2, 0], 0), (252, [2, 0], 0)):
-        after = bytearray(old if how & 2 else area())
-        after[16 * e : 16 * e + 16] = entry(7, 1, 0x1180)
-        request = asked._replace(write=how, room=len(pairs) // 2, fmmus=bytes(pairs) + old)
-        yield between(f"a pass by {pairs}, byte 1 is {how}", request, f"ok 7 8 8 {after.hex()} {channels}")
-    bad = asked._replace(room=1, fmmus=b"\x10\0" + old)
-    yield between("a bad pair", bad, f"refused 18 7 {old.hex()} {before}")
-    yield between("a bad pair in front of no area", bad._replace(fmmus=b"\x10\0"), f"refused 1 7 - {before}")
-    yield between("the area taken for pairs", bad._replace(room=ROOM), f"refused 1 7 - {before}")
-    yield between("half a pair, and no area", bad._replace(room=1, fmmus=b"\7"), f"refused 1 7 07 {before}")
-    yield between("a pass by pairs under times", bad._replace(c=7, times=3), f"7: refused 18 7 {old.hex()} {before}")
-    plan = Request("B", 1, 1, 2, sheet=ONE_IN, fmmus=b"\x10\0")
+    chosen = {(): 0, (2, 0): 2, (2, 0, 3, 0): 2}
+    for how in (*range(8), 248, 255):
+        for pairs, e in chosen.items():
+            after = bytearray(old if how & KEEP else area())
+            place = e if how & BY_PAIRS else 0
+            after[16 * place : 16 * place + 16] = entry(7, 1, 0x1180)
+            outputs = 8 if how & AFTER_INPUTS else 9
+            request = asked._replace(write=how, room=len(pairs) // 2, fmmus=bytes(pairs) + old)
+            line = f"ok 2 3 {outputs - 5} {outputs - 5} 8 {outputs} {after.hex()} {channels}"
+            yield between(f"a call with {pairs}, byte 1 is {how}", request, line)
+    bad = asked._replace(write=BY_PAIRS, room=1, fmmus=b"\x10\0" + old)
+    yield between("a bad pair", bad, f"refused 18 7 9 {old.hex()} {before}")
+    yield between("a bad pair that isn't read", bad._replace(write=AFTER_INPUTS, sheet=b""), f"refused 2 7 9 {old.hex()} {before}")
+    yield between("a bad pair in front of no area", bad._replace(fmmus=b"\x10\0"), f"refused 1 7 9 - {before}")
+    yield between("the area taken for pairs", bad._replace(room=ROOM), f"refused 1 7 9 - {before}")
+    yield between("half a pair, and no area", bad._replace(room=1, fmmus=b"\7"), f"refused 1 7 9 07 {before}")
+    yield between("a call by pairs under times", bad._replace(times=3), f"9: refused 18 7 9 {old.hex()} {before}")
+
+
+def plans():
+    """Plans of B by pairs: of its byte 1 only 4 counts."""
+    plan = Request("B", BY_PAIRS, 1, 2, sheet=ONE_IN, fmmus=b"\x10\0")
     for name, request, line in (
         ("a bad pair", plan, "refused 18"), ("no turns", plan._replace(a=0), "none"),
-        ("not asked for", plan._replace(write=0), "0 1 1 1"), ("none lent", plan._replace(room=0), "0 1 1 1"),
+        ("not asked for", plan._replace(write=0), "0 1 1 1"), ("byte 1 is 251", plan._replace(write=251), "0 1 1 1"),
+        ("byte 1 is 255", plan._replace(write=255), "refused 18"), ("none lent", plan._replace(room=0), "0 1 1 1"),
         ("CoE", plan._replace(sheet=SAMPLE), "0 5 5 7"), ("refused before", plan._replace(sheet=b""), "refused 2"),
     ):
         yield between(f"a plan by pairs, {name}", request, line)
@@ -305,7 +320,7 @@ def by_pairs():
 def streams():
     """Each stream with its name and the lines that answer it."""
     of_sheets = calls, in_portions, written_again, by_fields, of_dumps
-    groups = (cut_short, parts, records, repetitions, refusals, *of_sheets, lists, by_pairs)
+    groups = (cut_short, parts, records, repetitions, refusals, *of_sheets, lists, by_call, plans)
     for group in groups:
         yield from group()
 

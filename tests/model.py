@@ -13,10 +13,11 @@ import portions
 import registers as reg
 import writer
 from pairs import FmmuMode
-from planning import OldEntries, Settings
+from planning import OldEntries, OutputStart, Settings
 from registers import LIMIT, Refused
 from sheet import COE, COMPLETE_ACCESS, MAILBOX, read_sheet
-from stream import BadRequest, calls, channel_record, device_record, fmmu_record, requests
+from stream import AFTER_INPUTS, BY_PAIRS, KEEP, BadRequest
+from stream import calls, channel_record, device_record, fmmu_record, requests
 
 
 def listed(values):
@@ -82,27 +83,29 @@ def mailbox_answer(q):
     return f"{answer} {shown(channels)}"
 
 
-def pass_answer(q, settings):
-    fmmus, channels = bytearray(q.fmmus), bytearray(q.channels)
+def settings_of(q):
+    """How the call is made, by byte 1; the pairs stand before the area."""
+    return Settings(
+        q.b,
+        OldEntries.KEEP if q.write & KEEP else OldEntries.CLEAR,
+        mode_of(q),
+        q.lent()[0],
+        OutputStart.AFTER_INPUTS if q.write & AFTER_INPUTS else OutputStart.GIVEN,
+    )
+
+
+def call_answer(q):
+    offsets, fmmus, channels = [q.a, q.c], bytearray(q.lent()[1]), bytearray(q.channels)
     try:
-        answer = "ok " + listed(planning.configure_fmmus(q.write, q.a, settings, q.sheet, q.table, fmmus, channels))
+        inputs, outputs = planning.configure_fmmus(offsets, settings_of(q), q.sheet, q.table, fmmus, channels)
+        answer = "ok " + listed([*inputs, *outputs, *offsets])
     except Refused as refused:
-        answer = f"refused {refused.args[0]} {q.a}"
+        answer = f"refused {listed([*refused.args, *offsets])}"
     return f"{answer} {shown(fmmus)} {shown(channels)}"
 
 
-# what byte 1 of the letters P and M is a sum of
-WRITE, KEEP, OWN_NUMBER = 1, 2, 4
-
-
 def mode_of(q):
-    return FmmuMode.OWN_NUMBER if q.write & OWN_NUMBER else FmmuMode.PAIRED
-
-
-def paired_answer(q):
-    listed_pairs, fmmus = q.lent()
-    old = OldEntries.KEEP if q.write & KEEP else OldEntries.CLEAR
-    return pass_answer(q._replace(write=q.write & WRITE, fmmus=fmmus), Settings(q.b, old, mode_of(q), listed_pairs))
+    return FmmuMode.PAIRED if q.write & BY_PAIRS else FmmuMode.OWN_NUMBER
 
 
 def mappings_answer(q):
@@ -140,8 +143,7 @@ def again_answer(q):
     """The same plan over and over answers as one does."""
     if q.a == 0:
         return "none"
-    settings = Settings(mode=FmmuMode.PAIRED, pairs=q.lent()[0]) if q.write else Settings()
-    inputs, outputs, _, _ = planning.plan(q.sheet, q.table, settings)
+    inputs, outputs, _, _ = planning.plan(q.sheet, q.table, Settings(mode=mode_of(q), pairs=q.lent()[0]))
     return listed([*inputs, *outputs])
 
 
@@ -287,9 +289,7 @@ ANSWERS = {
     "e": lambda q: byte_answer(reg.ENABLE, (q.c % 65_536).to_bytes(2, "little")),
     "d": lambda q: device_text(read_sheet(q.sheet)),
     "m": mailbox_answer,
-    "p": lambda q: pass_answer(q, Settings(q.b)),
-    "K": lambda q: pass_answer(q, Settings(q.b, OldEntries.KEEP)),
-    "P": paired_answer,
+    "p": call_answer,
     "M": mappings_answer,
     "T": lambda q: or_none(planning.translate(q.write, q.fmmus, q.c)),
     "C": count_answer,
@@ -312,13 +312,16 @@ def one_answer(q):
         return f"refused {refused.args[0]}"
 
 
+ONCE = "p"  # takes c, and is called once whatever `times` is
+
+
 def answers(q):
     """The lines of a request's answer; over several values of c only where the answer changes."""
     if q.times < 2:
         yield one_answer(q)
         return
-    before = None
-    for c in range(q.c, min(q.c + q.times, LIMIT + 1)):
+    before, times = None, 1 if q.letter in ONCE else q.times
+    for c in range(q.c, min(q.c + times, LIMIT + 1)):
         answer = one_answer(q._replace(c=c))
         if answer != before:
             yield f"{c}: {answer}"

@@ -432,7 +432,7 @@ def real_runs():
         return
     for path, _ in samples():
         ran = subprocess.run([ROOT / "plan", "--explain", path], capture_output=True, text=True)
-        out, number = path.with_suffix(".out").read_text(), path.stem.replace("refused-", "rule ")
+        out, number = path.with_suffix(".out").read_text(), path.stem.removeprefix("both-").replace("refused-", "rule ")
         words = number in ran.stdout if "rule" in number else "rule" not in ran.stdout
         wanted = 1 if "rule" in number else 0, True, True
         yield f"samples/{path.name}, by the proved program", same((ran.returncode, ran.stdout.startswith(out), words), wanted)

@@ -1,8 +1,9 @@
-"""Document 01's passes, translation and counting, with document 02's clean start (3/13) and pairs (6/13), and what
-`lockerplan` prints.
+"""Document 01's mailbox pass, document 02's one call for inputs and outputs (7/13) with its clean start (3/13) and pairs
+(6/13), translation and counting, and what `lockerplan` prints.
 
 Worked out from documents 01 and 02 alone: nothing here is read from the code that it is held against. An area is a
-bytearray that is lent; a pass that is refused leaves it alone. A table is a list of (PDO index, multiplier).
+bytearray that is lent, the two offsets are a list that is lent; a call that is refused leaves them alone. A table is a list
+of (PDO index, multiplier).
 """
 
 from enum import Enum
@@ -10,7 +11,7 @@ from typing import NamedTuple
 
 from pairs import FmmuMode, above_last, entry_for, meet, parted
 from registers import CHANNEL, CONTROL, FMMU, LIMIT, MOST_BITS, Fmmu, Refused
-from registers import demand, fields, image, read_channel, read_fmmu, segment_text, size_of
+from registers import demand, demand_in_order, fields, image, read_channel, read_fmmu, segment_text, size_of
 from sheet import COMPLETE_ACCESS, DATA_READ, DATA_WRITE, MAILBOX, MAILBOX_READ, MAILBOX_WRITE, read_sheet
 
 LAST_ADDRESS = 65_535
@@ -18,14 +19,21 @@ MOST_LENGTH = 65_535
 
 
 class OldEntries(Enum):
-    """What a data pass does with the entries that it finds enabled: the default, and what is asked for by its name."""
+    """What the call does with the entries that it finds enabled: the default, and what is asked for by its name."""
 
-    CLEAR = "first sets to zero each one that carries its direction bit alone"
+    CLEAR = "first sets to zero each one that carries one direction bit alone"
     KEEP = "works as document 01 says"
 
 
+class OutputStart(Enum):
+    """Where the outputs start."""
+
+    GIVEN = "at the lent output offset"
+    AFTER_INPUTS = "straight after the inputs: the lent output offset isn't read"
+
+
 class Settings(NamedTuple):
-    """How a data pass is made: its group's start, what becomes of old entries, and how EEPROM finds entries.
+    """How the call is made: the group's start, what becomes of old entries, how EEPROM finds entries, where outputs start.
 
     The list of pairs is lent in either mode.
     """
@@ -34,6 +42,7 @@ class Settings(NamedTuple):
     old: OldEntries = OldEntries.CLEAR
     mode: FmmuMode = FmmuMode.OWN_NUMBER
     pairs: tuple = ()
+    outputs: OutputStart = OutputStart.AFTER_INPUTS
 
 
 class Way(NamedTuple):
@@ -81,7 +90,7 @@ def configure_mailboxes(data, channels):
     return recorded[MAILBOX_READ], recorded[MAILBOX_WRITE], int(sheet.coe()), sheet.flag(COMPLETE_ACCESS)
 
 
-# ---- the data passes
+# ---- what a direction wants
 
 
 def multiplier(table, index):
@@ -99,7 +108,7 @@ def wanted_bits(sheet, table, write):
     return bits
 
 
-def entries_used(sheet, bits, write, settings=Settings()):
+def entries_used(sheet, bits, write, settings):
     """The entry of each sync manager that uses one; None where there is none to use."""
     if not sheet.coe() and settings.mode is FmmuMode.OWN_NUMBER:
         return {k: k for k in bits}
@@ -110,21 +119,47 @@ def entries_used(sheet, bits, write, settings=Settings()):
     return {k: first for k in bits if bits[k] > 0}
 
 
-def bad_pairs(sheet, table, settings):
+class Direction(NamedTuple):
+    """One direction of a sheet, from its start offset on: the bits of its sync managers, and the entries that they use."""
+
+    write: bool
+    start: int
+    bits: dict
+    used: dict
+
+    def end(self):
+        return self.start + sum(map(size_of, self.bits.values()))
+
+    def too_wide(self):
+        return any(bits > MOST_BITS for bits in self.bits.values())
+
+    def no_entry(self):
+        return None in self.used.values()
+
+    def past_the_last(self):
+        return self.end() > LIMIT
+
+
+def direction(write, start, sheet, table, settings=Settings()):
+    bits = wanted_bits(sheet, table, write)
+    return Direction(write, start, bits, entries_used(sheet, bits, write, settings))
+
+
+# ---- inputs and outputs in one call
+
+
+def directions(offsets, settings, sheet, table):
+    """The inputs and the outputs, those from the lent output offset or straight after the inputs."""
+    inputs = direction(False, offsets[0], sheet, table, settings)
+    start = offsets[1] if settings.outputs is OutputStart.GIVEN else inputs.end()
+    return inputs, direction(True, start, sheet, table, settings)
+
+
+def bad_pairs(inputs, outputs, sheet, settings):
     """18, over both directions of the sheet; where the pairs aren't read it isn't given."""
     if sheet.coe() or settings.mode is FmmuMode.OWN_NUMBER:
         return False
-    inputs, outputs = (entries_used(sheet, wanted_bits(sheet, table, write), write, settings) for write in (False, True))
-    return above_last(settings.pairs) or meet(inputs, outputs) or parted(inputs) or parted(outputs)
-
-
-def pass_rules(bits, used, offset):
-    """6, 7 and 9: the numbers that a data pass and counting share."""
-    return {
-        6: any(count > MOST_BITS for count in bits.values()),
-        7: None in used.values(),
-        9: offset + sum(map(size_of, bits.values())) > LIMIT,
-    }
+    return above_last(settings.pairs) or meet(inputs.used, outputs.used) or parted(inputs.used) or parted(outputs.used)
 
 
 def bits_alone(write):
@@ -132,20 +167,23 @@ def bits_alone(write):
     return (0, 1) if write else (1, 0)
 
 
-def cleared(fmmus, write):
-    """The area with each enabled entry that carries the direction bit alone set to zero, all sixteen bytes."""
+def cleared(fmmus):
+    """The area with the old entries of both directions, enabled with one bit alone, set to zero, all sixteen bytes."""
     clean = bytearray(fmmus)
     for e, entry in enumerate(entries_of(fmmus)):
-        if entry.enable and (entry.read, entry.write) == bits_alone(write):
+        if entry.enable and (entry.read, entry.write) in (bits_alone(False), bits_alone(True)):
             clean[16 * e : 16 * e + 16] = bytes(16)
     return clean
 
 
-def in_the_way(fmmus, used, write):
-    """15: an enabled entry with both bits, or a wanted entry still enabled after the clearing."""
-    both = any(entry.enable and entry.read and entry.write for entry in entries_of(fmmus))
-    clean = cleared(fmmus, write)
-    return both or any(entry_at(clean, e).enable for e in used.values() if e is not None)
+def both_bits(fmmus):
+    return any(entry.enable and entry.read and entry.write for entry in entries_of(fmmus))
+
+
+def still_enabled(fmmus, used):
+    """Whether a wanted entry is enabled after the clearing."""
+    clean = cleared(fmmus)
+    return any(entry_at(clean, e).enable for e in used.values())
 
 
 def length_before(fmmus, e, old):
@@ -154,14 +192,25 @@ def length_before(fmmus, e, old):
     return entry.length if old is OldEntries.KEEP and entry.enable else 0
 
 
-def grown(fmmus, bits, used, old):
-    """The exact length that each entry in use would have."""
+def too_long(fmmus, one, old):
+    """Whether an entry's exact length would exceed 65,535."""
     lengths = {}
-    for k, e in used.items():
-        if e is not None:
-            lengths.setdefault(e, length_before(fmmus, e, old))
-            lengths[e] += size_of(bits[k])
-    return lengths
+    for k, e in one.used.items():
+        lengths.setdefault(e, length_before(fmmus, e, old))
+        lengths[e] += size_of(one.bits[k])
+    return any(length > MOST_LENGTH for length in lengths.values())
+
+
+def call_rules(both, offsets, settings, sheet, fmmus):
+    """The refusals behind 5 in their order, each asked of either direction; 10 looks at each given offset."""
+    old, given = settings.old, offsets if settings.outputs is OutputStart.GIVEN else offsets[:1]
+    yield 18, bad_pairs(*both, sheet, settings)
+    yield 6, any(one.too_wide() for one in both)
+    yield 7, any(one.no_entry() for one in both)
+    yield 8, any(too_long(fmmus, one, old) for one in both)
+    yield 9, any(one.past_the_last() for one in both)
+    yield 10, any(offset < settings.group for offset in given)
+    yield 15, old is OldEntries.CLEAR and (both_bits(fmmus) or any(still_enabled(fmmus, one.used) for one in both))
 
 
 def write_entry(fmmus, e, offset, size, start, write):
@@ -174,33 +223,32 @@ def write_entry(fmmus, e, offset, size, start, write):
     fmmus[16 * e : 16 * e + 16] = image(FMMU, new, 16)
 
 
-def configure_fmmus(write, offset, settings, data, table, fmmus, channels):
-    """The segment's start and end, less the group start, and the next offset.
+def write_direction(one, sheet, fmmus, channels):
+    """Each wanted sync manager in rising number: its image, and its entry where it uses one."""
+    at = one.start
+    for k, bits in one.bits.items():
+        size, manager = size_of(bits), sheet.managers[k]
+        write_manager(channels, k, manager, size)
+        if k in one.used:
+            write_entry(fmmus, one.used[k], at, size, manager.start, one.write)
+        at += size
 
-    By default the pass first clears the old entries of its direction, then plans as if those were never there. 18 has its
-    place after 5.
+
+def configure_fmmus(offsets, settings, data, table, fmmus, channels):
+    """The segments of the inputs and the outputs, each (start, end) less the group start; moves each lent offset to its end.
+
+    By default the old entries of both directions are cleared, then both are planned as if those were never there.
     """
-    group, old = settings.group, settings.old
     demand({1: len(fmmus) != 256 or len(channels) != 128})
     sheet = read_sheet(data)
-    demand({18: bad_pairs(sheet, table, settings)})
-    bits = wanted_bits(sheet, table, write)
-    used = entries_used(sheet, bits, write, settings)
-    rules = pass_rules(bits, used, offset)
-    rules[8] = any(length > MOST_LENGTH for length in grown(fmmus, bits, used, old).values())
-    rules[10] = offset < group
-    rules[15] = old is OldEntries.CLEAR and in_the_way(fmmus, used, write)
-    demand(rules)
-    if old is OldEntries.CLEAR:
-        fmmus[:] = cleared(fmmus, write)
-    at = offset
-    for k in bits:
-        size = size_of(bits[k])
-        write_manager(channels, k, sheet.managers[k], size)
-        if k in used:
-            write_entry(fmmus, used[k], at, size, sheet.managers[k].start, write)
-        at += size
-    return offset - group, at - group, at
+    both = directions(offsets, settings, sheet, table)
+    demand_in_order(call_rules(both, offsets, settings, sheet, fmmus))
+    if settings.old is OldEntries.CLEAR:
+        fmmus[:] = cleared(fmmus)
+    for one in both:
+        write_direction(one, sheet, fmmus, channels)
+    offsets[:] = [one.end() for one in both]
+    return [(one.start - settings.group, one.end() - settings.group) for one in both]
 
 
 # ---- both sides
@@ -222,13 +270,13 @@ def translate(write, fmmus, address):
 
 
 def count(write, offset, data, table, address):
-    """The sync manager, its byte and the device address (or None); None outside the pass's range."""
+    """The sync manager, its byte and the device address (or None); None outside the direction's range."""
     sheet = read_sheet(data)
-    bits = wanted_bits(sheet, table, write)
-    demand(pass_rules(bits, entries_used(sheet, bits, write), offset))
+    one = direction(write, offset, sheet, table)
+    demand({6: one.too_wide(), 7: one.no_entry(), 9: one.past_the_last()})
     at = offset
-    for k in bits:
-        size = size_of(bits[k])
+    for k, bits in one.bits.items():
+        size = size_of(bits)
         if at <= address < at + size:
             return k, address - at, in_reach(sheet.managers[k].start + address - at)
         at += size
@@ -239,13 +287,11 @@ def count(write, offset, data, table, address):
 
 
 def plan(data, table=(), settings=Settings()):
-    """Mailbox, input and output pass over zero areas: the two segments and both areas."""
+    """The mailbox pass and the call over zero areas, from offset 0: the two segments and both areas."""
     fmmus, channels = bytearray(256), bytearray(128)
     configure_mailboxes(data, channels)
-    start, end, offset = configure_fmmus(False, 0, settings, data, table, fmmus, channels)
-    inputs = start, end
-    start, end, _ = configure_fmmus(True, offset, settings, data, table, fmmus, channels)
-    return inputs, (start, end), fmmus, channels
+    inputs, outputs = configure_fmmus([0, 0], settings, data, table, fmmus, channels)
+    return inputs, outputs, fmmus, channels
 
 
 def lockerplan(data):

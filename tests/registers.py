@@ -13,11 +13,16 @@ class Refused(Exception):
     """A call refused; its argument is the number."""
 
 
+def demand_in_order(rules):
+    """Takes each number and whether it holds for the whole call; refuses with the first that holds and asks no further."""
+    for number, holds in rules:
+        if holds:
+            raise Refused(number)
+
+
 def demand(rules):
-    """Takes {number: whether it holds} for the whole call and refuses with the lowest that holds."""
-    holding = [number for number, holds in rules.items() if holds]
-    if holding:
-        raise Refused(min(holding))
+    """The same for {number: whether it holds}."""
+    demand_in_order(rules.items())
 
 
 # ---- units, offsets and segments

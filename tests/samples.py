@@ -36,7 +36,7 @@ def wrong_outputs():
     if sample("bay") != SAMPLE:
         yield "samples/bay.hex isn't document 01's sample"
     for path, command, answer in answers():
-        out, stem = path.with_suffix(".out"), path.stem.removeprefix("dump-")
+        out, stem = path.with_suffix(".out"), path.stem.removeprefix("dump-").removeprefix("both-")
         refused = stem.replace("-", " ") + "\n"  # refused-2.hex must be refused with 2
         if answer != refused and (answer.startswith("refused") or stem.startswith("refused")):
             yield f"samples/{path.name} isn't refused as its name says"

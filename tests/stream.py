@@ -12,6 +12,8 @@ CHANNEL_RECORD = [2, 2] + [1] * 17
 MANAGER = [2, 1, 1, 1]  # start address, control, enable, usage
 DEVICE_RECORD = [1, 1, 1, 2, 2, 8, 8, 8, 1] + MANAGER * 16 + [1] * 16
 
+AFTER_INPUTS, KEEP, BY_PAIRS = 1, 2, 4  # what byte 1 of the letters p, M and B is a sum of
+
 
 class BadRequest(Exception):
     """A request that is cut short or longer than it may be."""
