@@ -15,7 +15,10 @@ import tempfile
 from pathlib import Path
 
 RATTLE, C, RUST = "Rattle", "C", "Rust"
-EACH_PASS, MORE, CHECKED = "C, reading in each pass", "C at -O3", "Rust, overflow checks on"
+EACH_PASS, EACH_CALL = "C, reading in each pass", "C, reading in each call"
+MORE, CHECKED = "C at -O3", "Rust, overflow checks on"
+# of what byte 1 of the probe's letters p and B is a sum
+AFTER_INPUTS, BY_PAIRS = 1, 4
 
 HERE = Path(__file__).resolve().parent
 ROOT = HERE.parent
@@ -155,7 +158,7 @@ def probed(data, paired=False):
     # one byte past the longest sheet is refused as any longer one is
     sheet = rest[:16_387]
     counts = len(sheet), records, len(pairs), 0
-    head = b"B" + bytes([paired]) + number + data[0:4] + bytes(12) + b"".join(count.to_bytes(2, "big") for count in counts)
+    head = b"B" + bytes([BY_PAIRS * paired]) + number + data[0:4] + bytes(12) + b"".join(count.to_bytes(2, "big") for count in counts)
     return head + sheet + table + pairs
 
 
@@ -195,21 +198,19 @@ def c_used():
 
 
 def c_paired():
-    """The C program whose plans go by pairs; each pass reads the sheet."""
-    return c_program("paired", "-DPAIRED", "-DREAD_IN_EACH_PASS")
+    """The C program whose plans go by pairs; the mailbox pass and the call read the sheet, each for itself."""
+    return c_program("paired", "-DPAIRED", "-DREADINGS=2")
 
 
-def c_passes(*flags):
-    """The C program that makes data passes, by own numbers unless a flag says otherwise; it takes the probe's requests."""
-    return c_program("passes" + "".join(flags), "-DPASSES", *flags)
+def c_calls(*flags):
+    """The C program that makes calls, by own numbers unless a flag says otherwise; it takes the probe's requests."""
+    return c_program("calls" + "".join(flags), "-DCALLS", *flags)
 
 
 def probe_answer(text):
     """What the probe answers where C says this: both segments, or the refusal."""
-    *_, last = lines = text.splitlines()
-    if last.startswith("refused"):
-        return " ".join(last.split()[:2]) + "\n"
-    return " ".join(" ".join(line.split()[1:3]) for line in lines[1:]) + "\n"
+    words = text.splitlines()[-1].split()
+    return " ".join(words[:2] if words[0] == "refused" else words[1:5]) + "\n"
 
 
 def programs(rattle=None):
@@ -220,7 +221,8 @@ def programs(rattle=None):
     built = {
         RATTLE: rattle or rattle_program(),
         C: c_program("plan"),
-        EACH_PASS: c_program("plan-each-pass", "-DREAD_IN_EACH_PASS"),
+        EACH_PASS: c_program("plan-each-pass", "-DREADINGS=3"),
+        EACH_CALL: c_program("plan-each-call", "-DREADINGS=2"),
         MORE: c_program("plan-more", "-O3"),
         RUST: rust_program("rust", checks=False),
         CHECKED: rust_program("rust-checked", checks=True),
@@ -229,7 +231,7 @@ def programs(rattle=None):
 
 
 def same(right, text):
-    """Equal; or the crate fails, which has no number, in the pass that is refused; or the probe says the same in short."""
+    """Equal; or the crate fails, which has no number, in a pass of the call that is refused; or the probe says the same in short."""
     failed = re.sub(r"refused (6|7|8|9|10) .*\n\Z", "fails\n", right)
     return text in (right, failed, probe_answer(right))
 

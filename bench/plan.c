@@ -1,14 +1,17 @@
 /* A planner in plain C, written from documents 01 and 02: the yardstick that bench/count holds the others to.
-   Input and answer are those of README.md. Where READ_IN_EACH_PASS is defined, each pass reads the sheet itself, as entry
-   points do that take a sheet; otherwise a plan reads it once. Where PORTION isn't 0, nothing is planned: the sheet is taken into
-   room in portions of so many bytes (document 02, 1/13), and read at the end. Where WRITE isn't 0, nothing is planned either: the
-   sheet is read once, and its device data is written as a sheet over and over (document 02, 2/13). A data pass is the default's: it
-   clears old entries first (document 02, 3/13). Where USED isn't 0, each plan starts from an FMMU area that stands in the input.
-   Where PAIRED isn't 0, the EEPROM path finds its entries by a list of pairs (document 02, 6/13) that stands in the input. Where PASSES
-   isn't 0, nothing is planned: data passes are made one by one, as the probe is asked for them. */
+   Input and answer are those of README.md. A plan reads the sheet READINGS times: once, or for the mailboxes and for the call, as entry
+   points do that take a sheet, or for the mailboxes, the inputs and the outputs. Where PORTION isn't 0, nothing is planned: the sheet is
+   taken into room in portions of so many bytes (document 02, 1/13), and read at the end. Where WRITE isn't 0, nothing is planned either:
+   the sheet is read once, and its device data is written as a sheet over and over (document 02, 2/13). Inputs and outputs are planned by
+   one call (7/13), which is the default's: it clears the old entries of both first (3/13). Where USED isn't 0, each plan starts from an
+   FMMU area that stands in the input. Where PAIRED isn't 0, the EEPROM path finds its entries by a list of pairs (6/13) that stands in the
+   input. Where CALLS isn't 0, nothing is planned: calls are made one by one, as the probe is asked for them. */
 #include "device.h"
 #include <string.h>
 
+#ifndef READINGS
+#define READINGS 1
+#endif
 #ifndef PORTION
 #define PORTION 0
 #endif
@@ -21,8 +24,8 @@
 #ifndef PAIRED
 #define PAIRED 0
 #endif
-#ifndef PASSES
-#define PASSES 0
+#ifndef CALLS
+#define CALLS 0
 #endif
 
 enum {
@@ -33,6 +36,8 @@ enum {
     MOST_LENGTH = 65535,
 };
 enum { READ_BIT = 1, WRITE_BIT = 2, BOTH_BITS = 3 };
+/* places of what each direction has of its own */
+enum { TO_READ = 0, TO_WRITE = 1, DIRECTIONS = 2 };
 
 struct manager {
     uint16_t start;
@@ -74,7 +79,7 @@ struct pairs {
 };
 
 struct input {
-    uint8_t bytes[4 + 2 + 3 * MOST_RECORDS + 16 * ENTRIES * USED + (2 + 2 * MOST_PAIRS) * (PAIRED || PASSES) + 2 + MOST_FOLLOWING + 1];
+    uint8_t bytes[4 + 2 + 3 * MOST_RECORDS + 16 * ENTRIES * USED + (2 + 2 * MOST_PAIRS) * (PAIRED || CALLS) + 2 + MOST_FOLLOWING + 1];
     struct record table[MOST_RECORDS];
     unsigned records;
     const uint8_t *fmmus;
@@ -101,6 +106,18 @@ struct config {
 
 struct segment {
     uint32_t start, end;
+};
+
+/* What a call is lent beside the sheet and the areas, and how it is made. */
+struct lent {
+    const struct record *table;
+    unsigned records;
+    const struct pairs *pairs;
+};
+
+struct settings {
+    uint32_t group;
+    bool after_inputs; /* where the outputs start; else at their own offset */
 };
 
 /* ---- the sheet */
@@ -206,7 +223,7 @@ static unsigned entry_length(const uint8_t *image)
     return image[4] | image[5] << 8;
 }
 
-/* An entry that is enabled was made in this pass, and grows; any other is made. */
+/* An entry that is enabled was made in this call, and grows; any other is made. */
 static void write_entry(uint8_t *image, uint32_t offset, unsigned size, uint16_t start, bool write)
 {
     if (entry_enabled(image)) {
@@ -224,9 +241,9 @@ static void write_entry(uint8_t *image, uint32_t offset, unsigned size, uint16_t
     image[13] = image[14] = image[15] = 0;
 }
 
-/* The enabled entries that carry the direction bit alone, a bit for each; and whether an entry is in the pass's way: one enabled
+/* The enabled entries that carry one direction's bit alone, a bit for each; and whether an entry is in the call's way: one enabled
    with both bits, or a wanted one enabled otherwise. */
-static unsigned old_entries(const uint8_t *fmmus, unsigned wanted, bool write, bool *in_the_way)
+static unsigned old_entries(const uint8_t *fmmus, unsigned wanted, bool *in_the_way)
 {
     unsigned old = 0;
     for (unsigned k = 0; k < ENTRIES; k++) {
@@ -234,7 +251,7 @@ static unsigned old_entries(const uint8_t *fmmus, unsigned wanted, bool write, b
         if (!entry_enabled(image))
             continue;
         unsigned bits = image[11] & BOTH_BITS;
-        if (bits == (write ? WRITE_BIT : READ_BIT))
+        if (bits == READ_BIT || bits == WRITE_BIT)
             old |= 1u << k;
         else
             *in_the_way |= bits == BOTH_BITS || (wanted >> k & 1);
@@ -242,7 +259,7 @@ static unsigned old_entries(const uint8_t *fmmus, unsigned wanted, bool write, b
     return old;
 }
 
-/* ---- the passes */
+/* ---- the mailboxes */
 
 static struct config mailbox_pass(const struct device *device, uint8_t *channels)
 {
@@ -263,6 +280,8 @@ static struct config mailbox_pass(const struct device *device, uint8_t *channels
     config.complete_access = device->flags & COMPLETE_ACCESS;
     return config;
 }
+
+/* ---- inputs and outputs */
 
 /* At most 65,535: 255 mappings of 255 bits, or one number of 16. */
 static unsigned pdo_bits(const struct pdo *pdo)
@@ -299,12 +318,12 @@ static bool choose_entries(const struct pairs *pairs, uint8_t *entries)
     return true;
 }
 
-/* The entries of the sync managers with bits, a bit for each; and whether one is left for another and used again. */
-static unsigned used_entries(const uint8_t *entries, const uint32_t *bits, unsigned n, bool *again)
+/* The entries of a usage's sync managers with bits, a bit for each; and whether one is left for another and used again. */
+static unsigned used_entries(const struct device *device, uint8_t usage, const uint32_t *bits, const uint8_t *entries, bool *again)
 {
     unsigned used = 0, last = 0;
-    for (unsigned k = 0; k < n; k++) {
-        if (bits[k] == 0)
+    for (unsigned k = 0; k < device->n; k++) {
+        if (device->managers[k].usage != usage || bits[k] == 0)
             continue;
         unsigned entry = 1u << entries[k];
         *again |= entry != last && used & entry;
@@ -314,54 +333,66 @@ static unsigned used_entries(const uint8_t *entries, const uint32_t *bits, unsig
     return used;
 }
 
-/* Chooses the entries by the pairs. False where they can't be planned by, by the bits of the pass's direction and of the other. */
-static bool by_pairs(const struct pairs *pairs, const uint32_t *bits, const uint32_t *others, unsigned n, uint8_t *entries)
+/* Chooses the entries by the pairs. False where they can't be planned by. */
+static bool by_pairs(const struct device *device, const struct pairs *pairs, const uint32_t *bits, uint8_t *entries)
 {
     if (!choose_entries(pairs, entries))
         return false;
     bool again = false;
-    unsigned used = used_entries(entries, bits, n, &again);
-    return !(used & used_entries(entries, others, n, &again)) && !again;
+    unsigned used = used_entries(device, DATA_READ, bits, entries, &again);
+    return !(used & used_entries(device, DATA_WRITE, bits, entries, &again)) && !again;
 }
 
-/* Makes a data pass, or answers the number of its refusal with nothing written. */
-static int data_pass(const struct device *device, bool write, uint32_t *offset, uint32_t group, const struct record *table,
-                     unsigned records, const struct pairs *pairs, struct areas *areas, struct segment *segment)
+/* Adds up the exact bits of the sync managers with process data, over the PDOs of the kind that counts for each. A sum stays below
+   2^32: 255 PDOs of 65,535 bits, each 255 times. */
+static void sum_bits(const struct device *device, const struct lent *lent, uint32_t *bits)
 {
-    const uint8_t usage = write ? DATA_WRITE : DATA_READ;
-    const uint8_t kind = device->coe ? COE_PDO : write ? EEPROM_WRITE : EEPROM_READ;
-    const uint8_t other_usage = write ? DATA_READ : DATA_WRITE, other_kind = write ? EEPROM_READ : EEPROM_WRITE;
-
-    /* the exact bits of a sync manager stay below 2^32: 255 PDOs of 65,535 bits, each 255 times */
-    uint32_t bits[MANAGERS] = {0}, others[MANAGERS] = {0};
+    const uint8_t kind_read = device->coe ? COE_PDO : EEPROM_READ, kind_write = device->coe ? COE_PDO : EEPROM_WRITE;
     for (unsigned k = 0; k < device->p; k++) {
         const struct pdo *pdo = &device->pdos[k];
-        if (pdo->kind == kind && pdo->manager < device->n && device->managers[pdo->manager].usage == usage)
-            bits[pdo->manager] += pdo_bits(pdo) * multiplier(table, records, pdo->index);
-        else if (PAIRED && pdo->kind == other_kind && pdo->manager < device->n && device->managers[pdo->manager].usage == other_usage)
-            others[pdo->manager] += pdo_bits(pdo) * multiplier(table, records, pdo->index);
+        if (pdo->manager >= device->n)
+            continue;
+        const uint8_t usage = device->managers[pdo->manager].usage;
+        if (usage == DATA_READ ? pdo->kind == kind_read : usage == DATA_WRITE && pdo->kind == kind_write)
+            bits[pdo->manager] += pdo_bits(pdo) * multiplier(lent->table, lent->records, pdo->index);
     }
+}
+
+/* The first entry with a usage; as many as there are where none has it. */
+static unsigned first_entry(const struct device *device, uint8_t usage)
+{
+    unsigned entry = 0;
+    while (entry < device->f && device->usages[entry] != usage)
+        entry++;
+    return entry;
+}
+
+/* Plans inputs and outputs and moves each offset to its direction's end; or answers the number of the refusal, with nothing written. It is a
+   call: the compiler may not fit it to the offsets and the settings of its one caller. */
+static __attribute__((noipa)) int configure(const struct device *device, const struct lent *lent, const struct settings *settings,
+                                            struct areas *areas, uint32_t *offsets, struct segment *segments)
+{
+    uint32_t bits[MANAGERS] = {0};
+    sum_bits(device, lent, bits);
     uint8_t entries[MANAGERS];
-    if (PAIRED && !device->coe && !by_pairs(pairs, bits, others, device->n, entries))
+    if (PAIRED && !device->coe && !by_pairs(device, lent->pairs, bits, entries))
         return 18;
 
-    bool too_many = false, some = false;
-    uint64_t end = *offset;
-    unsigned sizes[MANAGERS] = {0};
+    bool too_many = false;
+    unsigned sizes[MANAGERS] = {0}, totals[DIRECTIONS] = {0};
     for (unsigned k = 0; k < device->n; k++) {
         too_many |= bits[k] > MOST_BITS;
-        some |= bits[k] > 0;
         sizes[k] = (bits[k] + 7) / 8;
-        end += sizes[k];
+        totals[device->managers[k].usage == DATA_WRITE] += sizes[k];
     }
     if (too_many)
         return 6;
 
-    unsigned first = 0;
+    unsigned first[DIRECTIONS] = {0};
     if (device->coe) {
-        while (first < device->f && device->usages[first] != (write ? OUTPUTS : INPUTS))
-            first++;
-        if (some && first == device->f)
+        first[TO_READ] = first_entry(device, INPUTS);
+        first[TO_WRITE] = first_entry(device, OUTPUTS);
+        if ((totals[TO_READ] && first[TO_READ] == device->f) || (totals[TO_WRITE] && first[TO_WRITE] == device->f))
             return 7;
     }
 
@@ -369,38 +400,43 @@ static int data_pass(const struct device *device, bool write, uint32_t *offset, 
     unsigned wanted = 0;
     bool too_long = false;
     for (unsigned k = 0; k < device->n; k++) {
-        if (device->managers[k].usage != usage || ((device->coe || PAIRED) && bits[k] == 0))
+        const uint8_t usage = device->managers[k].usage;
+        if (usage < DATA_WRITE || ((device->coe || PAIRED) && sizes[k] == 0))
             continue;
-        unsigned entry = device->coe ? first : PAIRED ? entries[k] : k;
+        unsigned entry = device->coe ? first[usage == DATA_WRITE] : PAIRED ? entries[k] : k;
         grown[entry] += sizes[k];
         wanted |= 1u << entry;
         too_long |= grown[entry] > MOST_LENGTH;
     }
     if (too_long)
         return 8;
-    if (end > UINT32_MAX)
+    const uint64_t middle = (uint64_t)offsets[TO_READ] + totals[TO_READ];
+    const uint64_t start = settings->after_inputs ? middle : offsets[TO_WRITE];
+    if (middle > UINT32_MAX || start + totals[TO_WRITE] > UINT32_MAX)
         return 9;
-    if (*offset < group)
+    if (offsets[TO_READ] < settings->group || start < settings->group)
         return 10;
     bool in_the_way = false;
-    unsigned old = old_entries(areas->fmmus, wanted, write, &in_the_way);
+    unsigned old = old_entries(areas->fmmus, wanted, &in_the_way);
     if (in_the_way)
         return 15;
 
     for (unsigned k = 0; old >> k; k++)
         if (old >> k & 1)
             memset(areas->fmmus + 16 * k, 0, 16);
-    segment->start = *offset - group;
+    offsets[TO_WRITE] = (uint32_t)start;
+    for (unsigned d = 0; d < DIRECTIONS; d++)
+        segments[d] = (struct segment){offsets[d] - settings->group, offsets[d] + totals[d] - settings->group};
     for (unsigned k = 0; k < device->n; k++) {
         const struct manager *manager = &device->managers[k];
-        if (manager->usage != usage)
+        if (manager->usage < DATA_WRITE)
             continue;
+        const bool write = manager->usage == DATA_WRITE;
         write_channel(areas->channels + 8 * k, manager, sizes[k]);
-        if (!(device->coe || PAIRED) || bits[k] > 0)
-            write_entry(areas->fmmus + 16 * (device->coe ? first : PAIRED ? entries[k] : k), *offset, sizes[k], manager->start, write);
-        *offset += sizes[k];
+        if (!(device->coe || PAIRED) || sizes[k] > 0)
+            write_entry(areas->fmmus + 16 * (device->coe ? first[write] : PAIRED ? entries[k] : k), offsets[write], sizes[k], manager->start, write);
+        offsets[write] += sizes[k];
     }
-    segment->end = *offset - group;
     return 0;
 }
 
@@ -428,12 +464,13 @@ static void say_mailboxes(int number, const struct config *config, const struct 
     putchar('\n');
 }
 
-static void say_pass(int number, const struct segment *segment, uint32_t next, const struct areas *areas)
+static void say_call(int number, const struct segment *segments, const uint32_t *offsets, const struct areas *areas)
 {
     if (number)
-        printf("refused %d %u", number, next);
+        printf("refused %d", number);
     else
-        printf("ok %u %u %u", segment->start, segment->end, next);
+        printf("ok %u %u %u %u", segments[TO_READ].start, segments[TO_READ].end, segments[TO_WRITE].start, segments[TO_WRITE].end);
+    printf(" %u %u", offsets[TO_READ], offsets[TO_WRITE]);
     say_bytes(areas->fmmus, sizeof areas->fmmus);
     say_bytes(areas->channels, sizeof areas->channels);
     putchar('\n');
@@ -444,15 +481,6 @@ static void say_pass(int number, const struct segment *segment, uint32_t next, c
 static struct input input;
 static struct device device;
 static struct areas areas;
-
-static int read_again(void)
-{
-#ifdef READ_IN_EACH_PASS
-    return read_sheet(input.sheet, input.length, &device);
-#else
-    return 0;
-#endif
-}
 
 /* One plan over areas of zeros, or over the FMMU area of the input; the last one is said. */
 static __attribute__((noinline)) void plan(bool last)
@@ -466,15 +494,17 @@ static __attribute__((noinline)) void plan(bool last)
         config = mailbox_pass(&device, areas.channels);
     if (last)
         say_mailboxes(number, &config, &areas);
-    uint32_t offset = 0;
-    for (int write = 0; write < 2 && !number; write++) {
-        struct segment segment = {0};
-        number = read_again();
-        if (!number)
-            number = data_pass(&device, write, &offset, 0, input.table, input.records, &input.pairs, &areas, &segment);
-        if (last)
-            say_pass(number, &segment, offset, &areas);
-    }
+    for (int more = 1; more < READINGS && !number; more++)
+        number = read_sheet(input.sheet, input.length, &device);
+    if (number)
+        return;
+    const struct lent lent = {input.table, input.records, &input.pairs};
+    const struct settings settings = {.group = 0, .after_inputs = true};
+    uint32_t offsets[DIRECTIONS] = {0};
+    struct segment segments[DIRECTIONS];
+    number = configure(&device, &lent, &settings, &areas, offsets, segments);
+    if (last)
+        say_call(number, segments, offsets, &areas);
 }
 
 /* ---- the sheet in portions */
@@ -652,13 +682,18 @@ static bool split_pairs(void)
     return true;
 }
 
+static uint32_t quad(const uint8_t *at)
+{
+    return (uint32_t)pair(at) << 16 | pair(at + 2);
+}
+
 /* How often to plan, from the head of the input; the table, the pairs and the sheet are set. */
 static bool read_input(uint32_t *times)
 {
     size_t length = fread(input.bytes, 1, sizeof input.bytes, stdin);
     if (length < 6)
         return false;
-    *times = (uint32_t)pair(input.bytes) << 16 | pair(input.bytes + 2);
+    *times = quad(input.bytes);
     input.records = pair(input.bytes + 4);
     if (input.records > MOST_RECORDS || length - 6 < 3 * input.records + sizeof areas.fmmus * USED)
         return false;
@@ -669,32 +704,35 @@ static bool read_input(uint32_t *times)
     return PAIRED ? split_pairs() : true;
 }
 
-/* ---- data passes, as the probe is asked for them */
+/* ---- calls, as the probe is asked for them */
 
-/* Answers a request of the letter P (docs/PROBE.md), whose head was read. False unless it is for a pass in the default, by pairs or by
+enum { AFTER_INPUTS = 1, BY_PAIRS = 4 }; /* of what byte 1 is a sum */
+
+/* Answers a request of the letter p (docs/PROBE.md), whose head was read. False unless it is for a call in the default, by pairs or by
    own numbers as this program is built, over whole areas. */
 static bool answer(const uint8_t *head)
 {
     input.length = pair(head + 20);
     input.records = pair(head + 22);
     input.pairs.count = pair(head + 2);
-    size_t lent = input.length + 3 * input.records + 2 * input.pairs.count;
-    if (head[0] != 'P' || head[1] >> 1 != (PAIRED ? 0 : 2) || input.records > MOST_RECORDS || input.pairs.count > MOST_PAIRS)
+    size_t length = input.length + 3 * input.records + 2 * input.pairs.count;
+    if (head[0] != 'p' || (head[1] & ~AFTER_INPUTS) != (PAIRED ? BY_PAIRS : 0) || input.records > MOST_RECORDS || input.pairs.count > MOST_PAIRS)
         return false;
     if (pair(head + 24) != 2 * input.pairs.count + sizeof areas.fmmus || pair(head + 26) != sizeof areas.channels)
         return false;
-    if (lent > sizeof input.bytes || fread(input.bytes, 1, lent, stdin) < lent || !fread(&areas, sizeof areas, 1, stdin))
+    if (length > sizeof input.bytes || fread(input.bytes, 1, length, stdin) < length || !fread(&areas, sizeof areas, 1, stdin))
         return false;
     read_table(input.bytes + input.length);
     read_pairs(input.bytes + input.length + 3 * input.records);
 
-    const uint32_t group = (uint32_t)pair(head + 8) << 16 | pair(head + 10);
-    uint32_t offset = (uint32_t)pair(head + 4) << 16 | pair(head + 6);
-    struct segment segment = {0};
+    const struct lent lent = {input.table, input.records, &input.pairs};
+    const struct settings settings = {quad(head + 8), head[1] & AFTER_INPUTS};
+    uint32_t offsets[DIRECTIONS] = {quad(head + 4), quad(head + 12)};
+    struct segment segments[DIRECTIONS];
     int number = read_sheet(input.bytes, input.length, &device);
     if (!number)
-        number = data_pass(&device, head[1] & 1, &offset, group, input.table, input.records, &input.pairs, &areas, &segment);
-    say_pass(number, &segment, offset, &areas);
+        number = configure(&device, &lent, &settings, &areas, offsets, segments);
+    say_call(number, segments, offsets, &areas);
     return true;
 }
 
@@ -707,13 +745,13 @@ static int answer_all(void)
         ;
     if (length == 0)
         return 0;
-    fprintf(stderr, "plan: a request is cut short, or isn't for such a pass\n");
+    fprintf(stderr, "plan: a request is cut short, or isn't for such a call\n");
     return 2;
 }
 
 int main(void)
 {
-    if (PASSES)
+    if (CALLS)
         return answer_all();
     uint32_t times;
     if (!read_input(&times)) {

@@ -5,16 +5,16 @@ import struct
 from collections import namedtuple
 
 HEAD = struct.Struct(">BBHIIIIHHHH")
-Request = namedtuple("Request", "letter direction room a b c times sheet table fmmus channels raw")
+Request = namedtuple("Request", "letter how room a b c times sheet table fmmus channels raw")
 LINE_OF_RUN = re.compile(r"(\d+): (.*)")
 
 
 def requests(file):
     while head := file.read(HEAD.size):
-        letter, direction, room, a, b, c, times, sheet, table, fmmus, channels = HEAD.unpack(head)
+        letter, how, room, a, b, c, times, sheet, table, fmmus, channels = HEAD.unpack(head)
         parts = [file.read(length) for length in (sheet, 3 * table, fmmus, channels)]
         records = [(parts[1][k] << 8 | parts[1][k + 1], parts[1][k + 2]) for k in range(0, len(parts[1]), 3)]
-        yield Request(chr(letter), direction, room, a, b, c, times, parts[0], records, parts[2], parts[3], head + b"".join(parts))
+        yield Request(chr(letter), how, room, a, b, c, times, parts[0], records, parts[2], parts[3], head + b"".join(parts))
 
 
 class Answers:

@@ -1,7 +1,8 @@
-"""Wrong texts: each is the crate's text with a mistake made in it, which the comparison has to find.
+"""Wrong texts and wrong calls: in each a mistake is made, which the comparison has to find.
 
-A mistake is one edit or a few: the file, the line's number, a word that stands once in that line, and what is put in its place.
-The text's files are those recorded in TEXT.sha256, so that the numbers hold.
+A mistake is one edit or a few: the file, the line's number, a word that stands once in that line, and what is put in its place. The
+text's files are those recorded in TEXT.sha256, so that the numbers hold. The call for inputs and outputs isn't in the text: it is the
+oracle's, made of the text's two passes. In its files no line is numbered, and a word stands once in the whole file.
 """
 
 import shutil
@@ -10,6 +11,10 @@ PDI = "src/pdi.rs.txt"
 CHANNEL = "src/sync_manager_channel.rs.txt"
 FMMU = "src/fmmu.rs.txt"
 PASSES = "src/subdevice/configuration.rs.txt"
+# the oracle's own
+CALL = "src/call.rs"
+OLD = "src/old.rs"
+OWN = [CALL, OLD]
 
 NO_GROUP = ("group_start_address", "0u32")
 GROUP_WRAPS = (" - group_start_address as usize", ".wrapping_sub(group_start_address as usize)")
@@ -64,14 +69,66 @@ TEXTS = [
 ]
 
 
-def made(text, edits, folder):
-    """A copy of the text's files with the edits made, in a new folder: cargo builds again where the folder's name is new."""
-    shutil.copytree(text / "src", folder / "src", copy_function=shutil.copyfile)
+# a call's mistakes are the same in both orders, or one order alone is looked at
+ONE_ORDER = (CALL, None, "one != two", "one != two && false")
+# a pass that fails is as if it mapped nothing
+OR_NOTHING = ".unwrap_or(Planned { segment: PdiSegment { bytes: 0..0 }, next: 0 })"
+INPUTS = "self.pass(MasterRead, self.inputs, areas)"
+OUTPUTS = "self.pass(MasterWrite, self.outputs_from(Some(&inputs))?, areas)"
+# the inputs where they come first
+THEN_OUTPUTS = ";\n        let outputs"
+BETWEEN = "{ let again = self.begun(&areas.borrow()); *areas.borrow_mut() = again; "
+OLD_ONE = "[READ, WRITE].contains(&access(entry))"
+
+
+def answering(change):
+    """What a call answers is changed."""
+    return CALL, None, "Some(made) => Outcome::Made(made)", f"Some(mut made) => {{ {change}; Outcome::Made(made) }}"
+
+
+CALLS = [
+    # where each direction begins, and what is left of the offsets
+    ("the outputs start where the inputs start", [(CALL, None, "inputs.map(|planned| planned.next)", "inputs.map(|_| self.inputs)")]),
+    ("the outputs' given offset isn't read", [(CALL, None, "self.after_inputs {", "self.after_inputs || true {")]),
+    ("straight after the inputs the lent offset is read", [(CALL, None, "self.after_inputs {", "self.after_inputs && false {")]),
+    ("the outputs' offset is left where it was", [answering("made.outputs.next = self.outputs")]),
+    ("the inputs' offset is left where it was", [answering("made.inputs.next = self.inputs")]),
+    ("the segments stand for each other", [answering("std::mem::swap(&mut made.inputs.segment, &mut made.outputs.segment)")]),
+    ("the outputs have no group start", [(CALL, None, "group: self.group", "group: if matches!(direction, MasterRead) { self.group } else { 0 }")]),
+    ("the outputs have no table", [(CALL, None, "table: self.table", "table: if matches!(direction, MasterRead) { self.table } else { &[] }")]),
+    # both or neither
+    ("outputs are written although the inputs are refused", [ONE_ORDER, (CALL, None, f"{INPUTS}?{THEN_OUTPUTS}", f"{INPUTS}{OR_NOTHING}{THEN_OUTPUTS}")]),
+    ("inputs are written although the outputs are refused", [ONE_ORDER, (CALL, None, f"{OUTPUTS}?", f"{OUTPUTS}{OR_NOTHING}")]),
+    # what is cleared, and when
+    ("old entries are cleared between the two", [ONE_ORDER, (CALL, None, f"{OUTPUTS}?", f"{BETWEEN}{OUTPUTS} }}?")]),
+    ("the inputs' old entries alone are cleared", [(OLD, None, OLD_ONE, "access(entry) == READ")]),
+    ("the outputs' old entries alone are cleared", [(OLD, None, OLD_ONE, "access(entry) == WRITE")]),
+    ("every enabled entry is cleared", [(OLD, None, OLD_ONE, "true")]),
+    ("a disabled entry is cleared", [(OLD, None, "enabled(entry) && [", "[")]),
+    ("an old entry is only disabled", [(OLD, None, "entry.fill(0)", "entry[12] = 0")]),
+    ("keeping clears", [(CALL, None, "self.keeping {", "self.keeping && false {")]),
+    ("the default keeps", [(CALL, None, "self.keeping {", "self.keeping || true {")]),
+]
+
+
+def edited(file, number, old, new):
+    """The edit made in a file: in one line of it, or where no line is numbered anywhere."""
+    lines = file.read_text().split("\n")
+    first, last = (number - 1, number) if number else (0, len(lines))
+    part = "\n".join(lines[first:last])
+    if part.count(old) != 1:
+        raise ValueError(f"{file.name}, line {number}: {old} does not stand there once")
+    file.write_text("\n".join([*lines[:first], part.replace(old, new), *lines[last:]]))
+
+
+def made(text, oracle, edits, folder):
+    """The text's folder and the oracle's, each a copy where one of its files is edited; cargo builds again where a name is new."""
+    if any(name in OWN for name, *_ in edits):
+        shutil.copytree(oracle, folder, ignore=shutil.ignore_patterns("target"), copy_function=shutil.copyfile)
+        oracle = folder
+    else:
+        shutil.copytree(text / "src", folder / "src", copy_function=shutil.copyfile)
+        text = folder
     for name, number, old, new in edits:
-        file = folder / name
-        lines = file.read_text().split("\n")
-        if lines[number - 1].count(old) != 1:
-            raise ValueError(f"{name}, line {number}: {old} does not stand there once")
-        lines[number - 1] = lines[number - 1].replace(old, new)
-        file.write_text("\n".join(lines))
-    return folder
+        edited(folder / name, number, old, new)
+    return text, oracle

@@ -4,8 +4,8 @@
     python3 tests/oracle.py
 
 Both files, tests/oracle.requests and tests/oracle.answers, are made by oracle/compare --store 400; the answers are the crate's
-alone. A data pass over a used area asks keeping (K), as the crate knows no other way; one in the default (p) is asked only where
-clearing changes nothing. Two lines agree if they are equal, or if the crate fails and the probe refuses with 6 to 10.
+alone. A call (p) is held to the crate's two passes: keeping over the area as it is, in the default over the area with the old entries of
+both directions zeroed, unless 15 may be answered. Two lines agree if they are equal, or if the crate fails and the probe refuses with 6 to 10.
 """
 
 import re

@@ -1,14 +1,14 @@
 //! Answers a request as the probe would, with `fails` where the text fails. What the text has no counterpart of is
-//! answered so, and never generated. The text keeps old entries and knows no other way, so `p` is answered as `K`: it is
-//! generated where that is right.
+//! answered so, and never generated. The call `p` is the text's two passes (`call.rs`); 15 has no counterpart, and the default is
+//! generated where it can't be answered.
 
+use crate::call::{Call, Outcome};
 use crate::fmmu::Fmmu;
 use crate::pdi::{PdiOffset, PdiSegment};
 use crate::register::Areas;
-use crate::request::Request;
-use crate::run::{Turn, caught, data_pass, mailbox_pass};
+use crate::request::{AFTER_INPUTS, KEEPING, Request};
+use crate::run::{caught, mailbox_pass};
 use crate::sheet::Sheet;
-use crate::subdevice::configuration::PdoDirection;
 use crate::subdevice::types::Mailbox;
 use crate::sync_manager_channel::{BufferState, Control, Direction, Enable, OperationMode, Status, SyncManagerChannel};
 use std::cell::RefCell;
@@ -46,7 +46,7 @@ pub fn one(request: &Request) -> String {
         b'f' => fmmu(&request.fmmus).map_or(no_counterpart(), |record| text(request.room, record)),
         b'y' => channel(&request.channels).map_or(no_counterpart(), |record| text(request.room, record)),
         b'm' => mailboxes(request),
-        b'p' | b'K' => data(request),
+        b'p' => call(request),
         _ => no_counterpart(),
     };
     answer.unwrap_or(FAILS.to_string())
@@ -161,19 +161,38 @@ fn mailboxes(request: &Request) -> Option<String> {
     Some(format!("ok {read} {write} {coe} {complete_access} {}", hex(&areas.borrow().channels)))
 }
 
-fn data(request: &Request) -> Option<String> {
-    let Some(sheet) = Sheet::read(&request.sheet).filter(Sheet::in_domain) else { return no_counterpart() };
-    let (Ok(fmmus), Ok(channels)) = (request.fmmus.as_slice().try_into(), request.channels.as_slice().try_into()) else {
-        return no_counterpart();
+/// What the call that is asked for comes to; nothing where the text has no counterpart of it.
+pub fn outcome(request: &Request) -> Option<Outcome> {
+    let sheet = Sheet::read(&request.sheet).filter(Sheet::in_domain)?;
+    let (fmmus, channels) = (request.fmmus.as_slice().try_into().ok()?, request.channels.as_slice().try_into().ok()?);
+    if request.how & !(AFTER_INPUTS | KEEPING) != 0 || request.room != 0 {
+        return None;
+    }
+    let call = Call {
+        sheet: &sheet,
+        table: &request.table,
+        inputs: request.a,
+        outputs: request.c,
+        group: request.b,
+        after_inputs: request.how & AFTER_INPUTS != 0,
+        keeping: request.how & KEEPING != 0,
     };
-    let areas = RefCell::new(Areas { fmmus, channels });
-    let (segment, next) = data_pass(&sheet, &turn(request), &areas)?;
-    let (start, end, areas) = (segment.bytes.start, segment.bytes.end, areas.borrow());
-    Some(format!("ok {start} {end} {} {} {}", next.start_address, hex(&areas.fmmus), hex(&areas.channels)))
+    Some(call.made(&Areas { fmmus, channels }))
 }
 
-/// The data pass that is asked for.
-pub fn turn(request: &Request) -> Turn<'_> {
-    let direction = if request.direction == 0 { PdoDirection::MasterRead } else { PdoDirection::MasterWrite };
-    Turn { table: &request.table, direction, offset: request.a, group: request.b }
+/// The line of a call.
+pub fn said(outcome: &Outcome) -> String {
+    let made = match outcome {
+        Outcome::Made(made) => made,
+        Outcome::Fails { .. } => return FAILS.to_string(),
+        Outcome::OrdersDiffer => return "the orders differ".to_string(),
+    };
+    let [inputs, outputs] = [&made.inputs, &made.outputs].map(|planned| planned.segment.bytes.clone());
+    let next = format!("{} {}", made.inputs.next, made.outputs.next);
+    let areas = format!("{} {}", hex(&made.areas.fmmus), hex(&made.areas.channels));
+    format!("ok {} {} {} {} {next} {areas}", inputs.start, inputs.end, outputs.start, outputs.end)
+}
+
+fn call(request: &Request) -> Option<String> {
+    outcome(request).map_or(no_counterpart(), |outcome| Some(said(&outcome)))
 }

@@ -1,22 +1,23 @@
-//! Writes requests with the oracle's answers: the leaves first, then plans. A data pass is asked keeping old entries, which is
-//! what the text does; where clearing changes nothing it is asked in the default too, and the text's answer is the same.
+//! Writes requests with the oracle's answers: the leaves first, then plans. Each call of a plan is asked keeping old entries, which is what the
+//! text does, and in the default unless that may be refused with 15; with its outputs at a given offset and straight after the inputs.
 
-use crate::answer::{self, one, turn};
+use crate::answer::{self, one, outcome, said};
+use crate::call::{Made, Outcome};
 use crate::chance::Chance;
 use crate::leaves;
 use crate::old;
-use crate::plans::{Pass, Plan};
+use crate::plans::{Plan, Step};
 use crate::register::Areas;
-use crate::request::Request;
-use crate::run::data_pass;
-use crate::sheet::Sheet;
-use std::cell::RefCell;
+use crate::request::{AFTER_INPUTS, KEEPING, Request};
 use std::io::{self, Write};
 
-/// Data passes in which the text failed, and those among them in which it had changed a register by then.
+/// Calls in which the text failed: in the inputs alone, in the outputs alone, in both where each is made by itself; and those among them
+/// in which it had changed a register by then.
 #[derive(Default)]
 struct Failures {
-    passes: u64,
+    inputs: u64,
+    outputs: u64,
+    both: u64,
     written: u64,
 }
 
@@ -36,67 +37,85 @@ pub fn all(seed: u64, plans: u64, requests: &mut impl Write, answers: &mut impl 
     }
     requests.flush()?;
     answers.flush()?;
-    println!("failed {} written {}", failures.passes, failures.written);
+    println!("inputs {} outputs {} both {} written {}", failures.inputs, failures.outputs, failures.both, failures.written);
     Ok(())
 }
 
-/// Makes a plan's passes, each over what the one before left. A failed pass leaves everything as it came, as document 01
-/// has it; what the text had written by then is only counted.
+/// Where a plan stands.
+struct State {
+    inputs: u32,
+    outputs: u32,
+    areas: Areas,
+}
+
+/// Makes a plan's steps, each over what the one before left. A failed call leaves everything as it came; what the text had written by
+/// then is only counted.
 fn follow(plan: &Plan, failures: &mut Failures, emit: &mut impl FnMut(&Request, &str) -> io::Result<()>) -> io::Result<()> {
-    let mut offset = plan.offset;
-    let mut areas = plan.areas.clone();
-    for pass in &plan.passes {
-        let request = ask(plan, *pass, offset, &areas);
-        let answer = one(&request);
-        for letter in letters(plan, *pass, &areas) {
-            emit(&Request { letter: *letter, ..request.clone() }, &answer)?;
-            if !answer.starts_with("ok ") {
-                failures.passes += 1;
-                failures.written += u64::from(writes(&plan.sheet, &request, &areas));
+    let mut state = State { inputs: plan.inputs, outputs: plan.outputs, areas: plan.areas.clone() };
+    for step in &plan.steps {
+        match step {
+            Step::Mailboxes => {
+                let (sheet, channels) = (plan.sheet.bytes(), state.areas.channels.to_vec());
+                let request = Request { letter: b'm', sheet, channels, ..Request::default() };
+                let answer = one(&request);
+                emit(&request, &answer)?;
+                if let Some(channels) = answer.strip_prefix("ok ").and_then(|words| words.split(' ').next_back()) {
+                    state.areas.channels = bytes(channels);
+                }
             }
-        }
-        let words: Vec<&str> = answer.split(' ').collect();
-        match words[..] {
-            ["ok", .., channels] if request.letter == b'm' => areas.channels = bytes(channels),
-            ["ok", _, _, next, fmmus, channels] => {
-                offset = next.parse().expect("an offset is a number");
-                areas = Areas { fmmus: bytes(fmmus), channels: bytes(channels) };
+            Step::Call(goes_on) => {
+                let mut next = None;
+                for how in ways(plan, &state.areas) {
+                    let request = ask(plan, how, &state);
+                    let outcome = outcome(&request).expect("a plan's calls have a counterpart");
+                    emit(&request, &said(&outcome))?;
+                    failures.count(&outcome);
+                    if let (true, Outcome::Made(made)) = (how == *goes_on, outcome) {
+                        next = Some(made);
+                    }
+                }
+                if let Some(Made { inputs, outputs, areas }) = next {
+                    state = State { inputs: inputs.next, outputs: outputs.next, areas };
+                }
             }
-            _ => {}
         }
     }
     Ok(())
 }
 
-/// The letters by which a pass is asked for.
-fn letters(plan: &Plan, pass: Pass, areas: &Areas) -> &'static [u8] {
-    match pass {
-        Pass::Mailbox => b"m",
-        _ if old::clearing_changes_nothing(&plan.sheet, matches!(pass, Pass::Output), &areas.fmmus) => b"Kp",
-        _ => b"K",
+impl Failures {
+    fn count(&mut self, outcome: &Outcome) {
+        if let Outcome::Fails { inputs, outputs, written } = outcome {
+            self.inputs += u64::from(*inputs && !outputs);
+            self.outputs += u64::from(*outputs && !inputs);
+            self.both += u64::from(*inputs && *outputs);
+            self.written += u64::from(*written);
+        }
     }
 }
 
-fn ask(plan: &Plan, pass: Pass, offset: u32, areas: &Areas) -> Request {
-    let mut request = Request { sheet: plan.sheet.bytes(), channels: areas.channels.to_vec(), ..Request::default() };
-    if let Pass::Mailbox = pass {
-        request.letter = b'm';
-        return request;
+/// The ways in which a call is asked for.
+fn ways(plan: &Plan, areas: &Areas) -> Vec<u8> {
+    let mut ways = vec![KEEPING, KEEPING | AFTER_INPUTS];
+    if old::nothing_in_the_way(&plan.sheet, &areas.fmmus) {
+        ways.extend([0, AFTER_INPUTS]);
     }
-    request.letter = b'K';
-    request.direction = u8::from(matches!(pass, Pass::Output));
-    request.a = offset;
-    request.b = plan.group;
-    request.table = plan.table.clone();
-    request.fmmus = areas.fmmus.to_vec();
-    request
+    ways
 }
 
-/// Whether the text changes a register in this pass.
-fn writes(sheet: &Sheet, request: &Request, before: &Areas) -> bool {
-    let areas = RefCell::new(before.clone());
-    data_pass(sheet, &turn(request), &areas);
-    *before != areas.into_inner()
+fn ask(plan: &Plan, how: u8, state: &State) -> Request {
+    Request {
+        letter: b'p',
+        how,
+        a: state.inputs,
+        b: plan.group,
+        c: state.outputs,
+        sheet: plan.sheet.bytes(),
+        table: plan.table.clone(),
+        fmmus: state.areas.fmmus.to_vec(),
+        channels: state.areas.channels.to_vec(),
+        ..Request::default()
+    }
 }
 
 fn bytes<const N: usize>(digits: &str) -> [u8; N] {

@@ -9,6 +9,7 @@ use std::io::{self, BufReader, BufWriter, Write};
 use std::process::ExitCode;
 
 mod answer;
+mod call;
 mod chance;
 mod generate;
 mod leaves;

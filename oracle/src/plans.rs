@@ -1,24 +1,26 @@
-//! Plans: a sheet, a table, areas as they came, where the pass begins, and in which order the passes are made. The ranges
-//! lean towards what is accepted, with each boundary of document 01 close by.
+//! Plans: a sheet, a table, areas as they came, where inputs and outputs begin, and in which order the mailbox pass and calls are made. The
+//! ranges lean towards what is accepted, with each boundary of document 01 close by.
 
 use crate::chance::Chance;
 use crate::register::Areas;
+use crate::request::{AFTER_INPUTS, KEEPING};
 use crate::sheet::{COE, EEPROM_READ, EEPROM_WRITE, Manager, Pdo, Sheet};
 
 pub struct Plan {
     pub sheet: Sheet,
     pub table: Vec<(u16, u8)>,
     pub areas: Areas,
-    pub offset: u32,
+    pub inputs: u32,
+    pub outputs: u32,
     pub group: u32,
-    pub passes: Vec<Pass>,
+    pub steps: Vec<Step>,
 }
 
+/// What is made: the mailbox pass, or a call, which is asked for in several ways; with what this one leaves the plan goes on.
 #[derive(Clone, Copy)]
-pub enum Pass {
-    Mailbox,
-    Input,
-    Output,
+pub enum Step {
+    Mailboxes,
+    Call(u8),
 }
 
 const MAILBOX_WRITE: u8 = 1;
@@ -29,6 +31,9 @@ const DATA_READ: u8 = 4;
 /// Two PDO indexes that no other PDO has, for bits that are counted out.
 const COUNTED: u16 = 0x2000;
 const REST: u16 = 0x2001;
+
+/// Which bits the entries of an area carry: 1 the inputs', 2 the outputs'.
+const ACCESS: [&[u8]; 5] = [&[1, 2], &[1, 2, 0], &[1, 0], &[2, 0], &[0]];
 
 impl Plan {
     /// A plan within the domain of equality; a sheet outside of it is thrown away.
@@ -58,31 +63,43 @@ impl Plan {
         if chance.one_in(2) {
             chance.fill(&mut areas.channels);
         }
-        let offset = match chance.below(8) {
-            0 | 1 => 0,
-            2 | 3 => chance.below(5_000),
-            4 | 5 => chance.quad(),
-            _ => u32::MAX - chance.pick(&[chance.below(4), chance.below(60)]),
-        };
-        let below = (chance.number() % (u64::from(offset) + 1)) as u32;
-        let beside = [offset.saturating_sub(1), offset.saturating_add(1)];
-        let group = chance.pick(&[0, 0, 0, below, below, below, below, offset, offset, offset, beside[0], beside[1]]);
-        Plan { sheet, table, areas, offset, group, passes: order(chance) }
+        let inputs = offset(chance);
+        let outputs = chance.pick(&[inputs, inputs.saturating_add(chance.below(5_000)), offset(chance), offset(chance)]);
+        let group = group(chance, inputs, outputs);
+        Plan { sheet, table, areas, inputs, outputs, group, steps: steps(chance) }
     }
 }
 
-/// Each order of the three passes, sometimes with one made again.
-fn order(chance: &Chance) -> Vec<Pass> {
-    use Pass::*;
-    let mut passes = vec![Mailbox, Input, Output];
-    for last in (1..3).rev() {
-        passes.swap(last, chance.below(last as u32 + 1) as usize);
+fn offset(chance: &Chance) -> u32 {
+    match chance.below(8) {
+        0 | 1 => 0,
+        2 | 3 => chance.below(5_000),
+        4 | 5 => chance.quad(),
+        _ => u32::MAX - chance.pick(&[chance.below(4), chance.below(60)]),
     }
-    if chance.one_in(3) {
-        let again = chance.pick(&[Mailbox, Input, Input, Output, Output]);
-        passes.insert(chance.below(4) as usize, again);
+}
+
+/// A group start: mostly at both offsets or below, else at one of them or beside it.
+fn group(chance: &Chance, inputs: u32, outputs: u32) -> u32 {
+    let first = inputs.min(outputs);
+    let below = (chance.number() % (u64::from(first) + 1)) as u32;
+    let one = chance.pick(&[inputs, outputs]);
+    let beside = [one.saturating_sub(1), one.saturating_add(1)];
+    chance.pick(&[0, 0, 0, below, below, below, below, first, first, one, beside[0], beside[1]])
+}
+
+/// The mailbox pass and a call, in either order, sometimes with one made again.
+fn steps(chance: &Chance) -> Vec<Step> {
+    let call = || Step::Call(chance.pick(&[0, AFTER_INPUTS, KEEPING, KEEPING | AFTER_INPUTS]));
+    let mut steps = vec![Step::Mailboxes, call()];
+    if chance.one_in(2) {
+        steps.swap(0, 1);
     }
-    passes
+    if chance.one_in(2) {
+        let again = chance.pick(&[Step::Mailboxes, call(), call(), call()]);
+        steps.insert(chance.below(3) as usize, again);
+    }
+    steps
 }
 
 /// The sheet's head and sync managers. Where CoE isn't wanted, one of its four needs is missing.
@@ -247,26 +264,24 @@ fn fill_nine(chance: &Chance, sheet: &mut Sheet, table: &mut Vec<(u16, u8)>) {
     table.insert(0, (COUNTED, 8));
 }
 
-/// The FMMU area as it came: clear, used by an earlier job, nearly full, or any bytes, reserved bits among them; or used in one
-/// direction alone, here and there, so that a pass of the other one has nothing to clear.
+/// The FMMU area as it came: clear; or any bytes, reserved bits among them, and lengths that are any or nearly full. In half of the used
+/// ones an entry that the default refuses is hardly ever missing; in the others enabled entries carry one direction's bit or none.
 fn entries(chance: &Chance, area: &mut [u8; 256]) {
-    let kind = chance.below(10);
-    if kind < 3 {
+    let kind = chance.below(12);
+    if kind < 2 {
         return;
     }
     chance.fill(area);
-    let bit = chance.pick(&[1, 2]);
+    let nearly_full = chance.one_in(5);
+    let bits = chance.pick(&ACCESS);
+    let seldom = chance.pick(&[2, 4, 12]);
     for entry in area.chunks_mut(16) {
-        let length = match kind {
-            3 | 4 => chance.pair(),
-            5 | 6 => chance.below(2_000) as u16,
-            7 => u16::MAX - chance.pick(&[chance.below(4), chance.below(60)]) as u16,
-            _ => chance.pair(),
-        };
+        let full = u16::MAX - chance.pick(&[chance.below(4), chance.below(60)]) as u16;
+        let length = if nearly_full { full } else { chance.pick(&[chance.pair(), chance.below(2_000) as u16]) };
         entry[4..6].copy_from_slice(&length.to_le_bytes());
-        if kind > 7 {
-            entry[11] = entry[11] & 0xfc | chance.pick(&[0, bit]);
-            entry[12] = entry[12] & 0xfe | u8::from(chance.one_in(4));
+        if kind > 6 {
+            entry[11] = entry[11] & 0xfc | chance.pick(bits);
+            entry[12] = entry[12] & 0xfe | u8::from(chance.one_in(seldom));
         }
     }
 }

@@ -2,10 +2,14 @@
 
 use std::io::{self, ErrorKind, Read, Write};
 
+pub const AFTER_INPUTS: u8 = 1;
+pub const KEEPING: u8 = 2;
+
 #[derive(Clone, Default)]
 pub struct Request {
     pub letter: u8,
-    pub direction: u8,
+    /// Byte 1: of the letter p how the call is made, a sum of the constants below.
+    pub how: u8,
     pub room: u16,
     pub a: u32,
     pub b: u32,
@@ -41,7 +45,7 @@ impl Request {
         };
         Ok(Some(Request {
             letter: head[0],
-            direction: head[1],
+            how: head[1],
             room: pair(&head, 2),
             a: quad(&head, 4),
             b: quad(&head, 8),
@@ -55,7 +59,7 @@ impl Request {
     }
 
     pub fn write(&self, to: &mut impl Write) -> io::Result<()> {
-        let mut bytes = vec![self.letter, self.direction];
+        let mut bytes = vec![self.letter, self.how];
         bytes.extend(self.room.to_be_bytes());
         for number in [self.a, self.b, self.c, self.times] {
             bytes.extend(number.to_be_bytes());

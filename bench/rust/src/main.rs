@@ -78,11 +78,13 @@ impl Bench {
             say_mailboxes(&handle.state.config, &self.areas.borrow());
         }
         let mut offset = PdiOffset { start_address: 0 };
+        let mut middle = offset;
         for direction in [PdoDirection::MasterRead, PdoDirection::MasterWrite] {
+            middle = offset;
             offset = settled(handle.configure_fmmus(offset, 0, direction)).ok_or(Ended::Fails)?;
-            if last {
-                say_pass(&handle.state.config, direction, offset, &self.areas.borrow());
-            }
+        }
+        if last {
+            say_call(&handle.state.config, [middle, offset], &self.areas.borrow());
         }
         Ok(())
     }
@@ -102,13 +104,12 @@ fn say_mailboxes(config: &SubDeviceConfig, areas: &Areas) {
     println!("ok {read} {write} {coe} {complete_access} {}", hex(&areas.channels));
 }
 
-fn say_pass(config: &SubDeviceConfig, direction: PdoDirection, next: PdiOffset, areas: &Areas) {
-    let segment = match direction {
-        PdoDirection::MasterRead => &config.io.input,
-        PdoDirection::MasterWrite => &config.io.output,
-    };
-    let (start, end) = (segment.bytes.start, segment.bytes.end);
-    println!("ok {start} {end} {} {} {}", next.start_address, hex(&areas.fmmus), hex(&areas.channels));
+/// Both passes, as one call says them.
+fn say_call(config: &SubDeviceConfig, next: [PdiOffset; 2], areas: &Areas) {
+    let [input, output] =
+        [&config.io.input, &config.io.output].map(|segment| format!("{} {}", segment.bytes.start, segment.bytes.end));
+    let [after_input, after_output] = next.map(|offset| offset.start_address);
+    println!("ok {input} {output} {after_input} {after_output} {} {}", hex(&areas.fmmus), hex(&areas.channels));
 }
 
 /// What README.md says of the input.
