@@ -37,7 +37,7 @@ use Rattle.agreement.proofs.Basics.{none-accepted, each-map, each-parts
 use Rattle.agreement.proofs.Straight.{Fresh, Apart}
 use Rattle.agreement.proofs.Clean.{both-old, cleared-twice}
 use Rattle.agreement.proofs.Run.{Placed, Start, clean-start, plan-leaves, other-before}
-use Rattle.agreement.proofs.Left.{Ours, fresh-or, LeftOf, left-at, SameBut, both-same}
+use Rattle.agreement.proofs.Left.{Ours, fresh-or, LeftOf, left-at, both-same}
 use Rattle.agreement.proofs.Images.{images-long, images-stay}
 use Rattle.agreement.proofs.Told.{answered, none-holds, channels-long, Told, told, sane-uses, apart-uses}
 

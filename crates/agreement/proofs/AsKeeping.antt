@@ -25,7 +25,6 @@ use Rattle.passes.specs.Old.{clearedOfBoth, inTheWay, bothBits, carriesBoth}
 use Rattle.passes.specs.Start.{ofEither, offsetOf, isGiven, endOf, Both, segmentsAlone, offsetsAfter}
 use Rattle.passes.specs.Entries.{planBoth, tooLong, usesOfBoth}
 use Rattle.passes.specs.Call.{usesFor, startsAt, wantedOfBoth, bothOf, call, entriesAfter, imagesAfter}
-use Rattle.passes.specs.Handed.{Short}
 use Rattle.passes.proofs.Cleared.{cleared-eight, sixteen-begun, Off, zeros-all-off, none-used, both-off, cleared-at}
 use Rattle.passes.proofs.Lengths.{short-area}
 use Rattle.agreement.specs.Clean.{zeroed, withOld, byDefault, byKeeping, Free, AsKeeping, PromiseAsKeeping, AsFromZeros}

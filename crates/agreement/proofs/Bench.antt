@@ -1,4 +1,5 @@
--- Bench cases P1 to P12: one test over the whole list, computed, and the law that makes it the rule at each row. The same of translation, counting, old entries and pairs.
+-- Bench cases P1 to P12: one test over the whole list, computed, and the law that makes it the rule at each row. The same of translation, counting, old entries,
+-- pairs, and the two directions of a call.
 -- Assumes nothing.
 use mathlib.Core.Path.{_≡_, refl, ap, ap₂}
 use mathlib.Core.Bool.{Bool, true, false, _&&_}
@@ -19,11 +20,12 @@ use Rattle.area.specs.Area.{chunks, flat}
 use Rattle.passes.specs.Pairs.{badPairs}
 use Rattle.passes.specs.Old.{cleared, inTheWay}
 use Rattle.passes.specs.Entries.{plan, tooLong}
-use Rattle.passes.specs.Pass.{someTooMany, noEntry, dataPass}
+use Rattle.passes.specs.Pass.{someTooMany, noEntry}
+use Rattle.passes.specs.Call.{call}
 use Rattle.translation.specs.Translate.{carries, odd, says, firstSaid, translate}
 use Rattle.counting.specs.Count.{spotIn, count}
 use Rattle.agreement.specs.Bench.{Row, benchCases}
-use Rattle.agreement.specs.Cases.{translationCases, countingCases, oldCases, pairCases}
+use Rattle.agreement.specs.Cases.{translationCases, countingCases, oldCases, pairCases, callCases}
 
 -- two answers are the same
 abbrev sameList : List ℕ → List ℕ → Bool
@@ -67,7 +69,7 @@ each-row (r ∷ rs) t = let s = both-of (sameAnswer (r .computed) (r .expected))
 pub bench-cases : Each (λ (r : Row). r .computed ≡ r .expected) benchCases
 unfolding controlAt unnamed controlByte fieldsOf imageOf listOf someBelow pdosFrom wrongLength kindFits pdosFit someManagerWrong someUsageWrong broken someUnnamed sheetData
     multiplierOf byCoe bitsOf piecesFrom piecesOf own given firstWith usesOf total totalOn sizeOf chunks flat plan someTooMany noEntry
-    cleared tooLong badPairs entryFor inTheWay dataPass statusAt statusByte enableAt enableLow enableHigh channel.channelOf channel.imageOf channelsAfter
+    cleared tooLong badPairs entryFor inTheWay call statusAt statusByte enableAt enableLow enableHigh channel.channelOf channel.imageOf channelsAfter
 bench-cases = each-row benchCases tt
 
 pub translation-cases : Each (λ (r : Row). r .computed ≡ r .expected) translationCases
@@ -81,10 +83,16 @@ counting-cases = each-row countingCases tt
 
 pub old-cases : Each (λ (r : Row). r .computed ≡ r .expected) oldCases
 unfolding controlAt unnamed fieldsOf imageOf listOf someBelow pdosFrom wrongLength kindFits pdosFit someManagerWrong someUsageWrong broken someUnnamed sheetData multiplierOf byCoe
-    bitsOf piecesFrom piecesOf own given firstWith usesOf total totalOn sizeOf chunks flat plan someTooMany noEntry cleared tooLong badPairs entryFor inTheWay dataPass
+    bitsOf piecesFrom piecesOf own given firstWith usesOf total totalOn sizeOf chunks flat plan someTooMany noEntry cleared tooLong badPairs entryFor inTheWay call
 old-cases = each-row oldCases tt
 
 pub pair-cases : Each (λ (r : Row). r .computed ≡ r .expected) pairCases
 unfolding controlAt unnamed fieldsOf imageOf listOf someBelow pdosFrom wrongLength kindFits pdosFit someManagerWrong someUsageWrong broken someUnnamed sheetData multiplierOf byCoe
-    bitsOf piecesFrom piecesOf own given firstWith usesOf total totalOn sizeOf chunks flat plan someTooMany noEntry cleared tooLong badPairs entryFor inTheWay dataPass
+    bitsOf piecesFrom piecesOf own given firstWith usesOf total totalOn sizeOf chunks flat plan someTooMany noEntry cleared tooLong badPairs entryFor inTheWay call
 pair-cases = each-row pairCases tt
+
+pub call-cases : Each (λ (r : Row). r .computed ≡ r .expected) callCases
+unfolding controlAt unnamed controlByte fieldsOf imageOf listOf someBelow pdosFrom wrongLength kindFits pdosFit someManagerWrong someUsageWrong broken someUnnamed sheetData
+    multiplierOf byCoe bitsOf piecesFrom piecesOf own given firstWith usesOf total totalOn sizeOf chunks flat plan someTooMany noEntry
+    cleared tooLong badPairs entryFor inTheWay call statusAt statusByte enableAt enableLow enableHigh channel.imageOf channelsAfter
+call-cases = each-row callCases tt

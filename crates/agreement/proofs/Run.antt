@@ -1,5 +1,5 @@
--- A pass over any list of uses whose entries stand together, from entries of no weight: translating names what laying the uses names, each at the
--- address at which its entry holds it. And a pass of the other direction, which nothing of this one can see.
+-- A direction laid, over any list of uses whose entries stand together, from entries of no weight: translating names what laying the uses names, each at the
+-- address at which its entry holds it. And the other direction laid beside it, which nothing of this one can see.
 -- Assumes nothing.
 use mathlib.Core.Path.{_≡_, refl, sym, _∙_, ap, subst}
 use mathlib.Core.Bool.{Bool, true, false}
@@ -44,7 +44,7 @@ Placed us area = Each (λ (v : Use). v .entry < length area) us
 pub placed-after : (r : PdoDirection) (q : ℕ) (u : Use) (us : List Use) (area : List (List ℕ)) → Placed us area → Placed us (after r q u area)
 placed-after r q u us area p = subst (λ (n : ℕ). Each (λ (v : Use). v .entry < n) us) (sym (length-set area (u .entry) (made r q u area))) p
 
--- where a pass stands: at the offset q, the last entry c going on at x, the uses `us` still to come
+-- where laying stands: at the offset q, the last entry c going on at x, the uses `us` still to come
 pub record Stage (r : PdoDirection) (q c x : ℕ) (us : List Use) (area : List (List ℕ)) : Type 0 where
   pub good : (k : ℕ) → Good r q (getD area k [])
   pub link : Fresh c us ⊎ (Next c us × Stand r q x (getD area c []))
@@ -153,7 +153,7 @@ module _ (r : PdoDirection) (q c x : ℕ) (u : Use) (us : List Use) (area : List
         addresses = t .addresses .1;
       }
 
--- below the offset a pass changes no answer
+-- below the offset laying changes no answer
 planned-below : (r : PdoDirection) (q c x : ℕ) (us : List Use) (area : List (List ℕ)) → Stage r q c x us area → (a : ℕ) → a < q
     → map (says r a) (plan r q us area) ≡ map (says r a) area
 unfolding plan
@@ -189,7 +189,7 @@ planned-good r q c x (u ∷ us) area t k =
     good-on r (q + u .size + total us) (q + (u .size + total us)) _ (omega arith)
     (planned-good r (q + u .size) (u .entry) (reach c x u + u .size) us (after r q u area) (next r q c x u us area t) k)
 
--- what a pass may begin with: no entry has weight for its direction, those that it uses are disabled
+-- what a direction may begin with: no entry has weight for it, those that it uses are disabled
 pub record Start (r : PdoDirection) (us : List Use) (area : List (List ℕ)) : Type 0 where
   pub sixteen : length area ≡ 16
   pub silents : (k : ℕ) → Silent r (getD area k [])
@@ -229,7 +229,7 @@ start-stage r q us area l t =
       addresses = l .addresses;
     }
 
--- the general law: through the entries that the pass leaves, what is said first is what laying the uses says where they are held
+-- the general law: through the entries that laying leaves, what is said first is what laying the uses says where they are held
 pub said : (r : PdoDirection) (q : ℕ) (us : List Use) (area : List (List ℕ)) → Lays q us → Start r us area → (a : ℕ)
     → firstSaid (map (says r a) (plan r q us area)) ≡ lay q (goOn 16 0 us) a
 said r q us area l t a = ⊎-elim under (λ f. planned-here r q 16 0 us area (start-stage r q us area l t) a (ltb-false a q f)) (either (ltb a q))
@@ -262,7 +262,7 @@ plan-leaves r q [] area k f = refl
 plan-leaves r q (u ∷ us) area k f =
     plan-leaves r (q + u .size) us (after r q u area) k (f .1) ∙ getD-set-other area (u .entry) k _ [] (λ z. f .0 (sym z))
 
--- the other direction's pass over entries of no weight: whatever looks alike on such entries looks as before
+-- the other direction laid over entries of no weight: whatever looks alike on such entries looks as before
 pub unseen : {B : Type 0} (r : PdoDirection) (f : List ℕ → B) → ((e e′ : List ℕ) → Silent r e → Silent r e′ → f e ≡ f e′)
     → (q : ℕ) (us : List Use) (area : List (List ℕ)) → Each (λ (v : Use). Silent r (getD area (v .entry) [])) us → Placed us area
     → map f (plan (other r) q us area) ≡ map f area

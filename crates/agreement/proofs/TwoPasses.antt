@@ -92,7 +92,8 @@ module _ (d : Data) (ws : List ℕ) where
   merged k m es (some a) (some b) (inl e) = absurd (never-none e)
   merged k m es (some a) (some b) (inr e) = absurd (never-none e)
 
-  image-merged : (r : PdoDirection) (k : ℕ) (m : SyncManager) (es : List (List ℕ)) → written k m (dataSize d ws (other r) k m) (written k m (dataSize d ws r k m) es) ≡ written k m (bothSize d ws k m) es
+  image-merged : (r : PdoDirection) (k : ℕ) (m : SyncManager) (es : List (List ℕ))
+      → written k m (dataSize d ws (other r) k m) (written k m (dataSize d ws r k m) es) ≡ written k m (bothSize d ws k m) es
   image-merged MasterRead k m es = merged k m es (dataSize d ws MasterRead k m) (dataSize d ws MasterWrite k m) (one-at-most k m) .0
   image-merged MasterWrite k m es = merged k m es (dataSize d ws MasterRead k m) (dataSize d ws MasterWrite k m) (one-at-most k m) .1
 
@@ -115,7 +116,8 @@ begun-short Clear fmmus bytes =
     }
 
 -- 8 of the call is 8 of keeping there
-begun-eight : (old : OldEntries) (us : List Use) (fmmus : List ℕ) → Bytes fmmus → inTheWay old us (entriesOf 16 fmmus) ≡ false → tooLong old us (entriesOf 16 fmmus) ≡ tooLong Keep us (beginning old (entriesOf 16 fmmus))
+begun-eight : (old : OldEntries) (us : List Use) (fmmus : List ℕ) → Bytes fmmus → inTheWay old us (entriesOf 16 fmmus) ≡ false
+    → tooLong old us (entriesOf 16 fmmus) ≡ tooLong Keep us (beginning old (entriesOf 16 fmmus))
 begun-eight Clear us fmmus bytes free = eight-same us fmmus bytes free
 begun-eight Keep us fmmus bytes free = refl
 
@@ -130,7 +132,8 @@ eight-flip old us vs es =
     same k = let a = total-both k us vs in let b = total-both k vs us in omega arith
 
 -- where no given offset is below the group start, neither direction's start is
-from-group : (how : OutputStart) (o : Offsets) (size : PdoDirection → ℕ) (group : ℕ) → ofEither (λ r. isGiven r how && ltb (offsetOf r o) group) ≡ false → (r : PdoDirection) → ltb (startOf how o size r) group ≡ false
+from-group : (how : OutputStart) (o : Offsets) (size : PdoDirection → ℕ) (group : ℕ) → ofEither (λ r. isGiven r how && ltb (offsetOf r o) group) ≡ false
+    → (r : PdoDirection) → ltb (startOf how o size r) group ≡ false
 from-group how o size group e MasterRead = of-neither (λ r. isGiven r how && ltb (offsetOf r o) group) e MasterRead
 from-group Given o size group e MasterWrite = of-neither (λ r. isGiven r Given && ltb (offsetOf r o) group) e MasterWrite
 from-group AfterInputs o size group e MasterWrite =

@@ -1,5 +1,5 @@
 -- Bench cases P1 to P12 (document 01), one list: each with the answer of the entry point's own definition and the answer that the document has.
--- Passes are made in the default; P8 asks for keeping (document 02, 3/13).
+-- Calls are made in the default, the outputs straight after the inputs; P8 asks for keeping (document 02, 3/13).
 -- Assumes nothing.
 use mathlib.Core.List.{List, [], _∷_, _++_}
 use Prim.Native.Nat.{ℕ, _/_, _%_}
@@ -12,15 +12,16 @@ use Rattle.channel_bytes.specs.Bytes.{modeNumber, controlByte, readControl}
 use Rattle.sync_manager_channel.specs.declared.SyncManagerChannel.{SyncManagerChannel}
 use Rattle.sync_manager_channel.specs.Image.{readChannel, imageOf}
 use Rattle.sheet.specs.Sheet.{sheetData}
-use Rattle.pdo.specs.declared.PdoDirection.the-variants.{MasterRead}
 use Rattle.pdo.specs.Bits.{multipliersOf}
 use Rattle.area.specs.Area.{entriesOf}
+use Rattle.passes.specs.declared.Offsets.{Offsets}
 use Rattle.passes.specs.declared.Settings.{Settings}
 use Rattle.passes.specs.declared.FmmuMode.the-variants.{OwnNumber}
+use Rattle.passes.specs.declared.OutputStart.the-variants.{AfterInputs}
 use Rattle.passes.specs.Use.{nothingChosen}
 use Rattle.passes.specs.Old.{clean, keeping}
-use Rattle.passes.specs.Pass.{dataPass, entriesAfter, channelAreaAfter}
-use Rattle.passes.specs.Entries.{Planned}
+use Rattle.passes.specs.Start.{offsets, Both}
+use Rattle.passes.specs.Call.{call, entriesAfter, imagesAfter}
 
 -- a case: its number, what is computed, what the document says; answers as lists of numbers
 pub record Row : Type 0 where
@@ -41,10 +42,14 @@ abbrev pub control : Outcome Control → Outcome (List ℕ)
 control (refused n) = refused n
 control (accepted c) = accepted (modeNumber (c .«operation_mode») ∷ controlByte c ∷ [])
 
--- a pass: its segment's start and end
-abbrev pub startAndEnd : Outcome Planned → Outcome (List ℕ)
-startAndEnd (refused n) = refused n
-startAndEnd (accepted p) = accepted (p .segment .start ∷ p .segment .end ∷ [])
+-- a call: where the inputs start and end, and where both do
+abbrev pub inputsAt : Outcome Both → Outcome (List ℕ)
+inputsAt (refused n) = refused n
+inputsAt (accepted b) = accepted (b .inputs .segment .start ∷ b .inputs .segment .end ∷ [])
+
+abbrev pub bothAt : Outcome Both → Outcome (List ℕ)
+bothAt (refused n) = refused n
+bothAt (accepted b) = accepted (b .inputs .segment .start ∷ b .inputs .segment .end ∷ b .outputs .segment .start ∷ b .outputs .segment .end ∷ [])
 
 -- no oversampling: 1 for each PDO of the sheet
 abbrev pub ones : List ℕ → List ℕ
@@ -62,33 +67,36 @@ zeros = replicate 256 0
 abbrev pub zeroChannels : List ℕ
 zeroChannels = replicate 128 0
 
--- the input pass over FMMU bytes, from an offset; in the default with group start 0; and that from offset 0
-abbrev pub inputBy : Settings → ℕ → List ℕ → List ℕ → Outcome Planned
-inputBy settings offset sheet area = dataPass sheet (ones sheet) nothingChosen MasterRead offset settings area zeroChannels
+-- the offsets that a call is lent
+abbrev pub lentAt : ℕ → ℕ → Offsets
+lentAt inputs outputs = offsets (record { «start_address» = inputs }) (record { «start_address» = outputs })
 
-abbrev pub inputFrom : ℕ → List ℕ → List ℕ → Outcome Planned
-inputFrom offset sheet area = inputBy (clean OwnNumber 0) offset sheet area
+-- a call with these settings from these offsets over FMMU bytes; in the default with group start 0, the inputs from an offset; and that from 0
+abbrev pub callBy : Settings → Offsets → List ℕ → List ℕ → Outcome Both
+callBy settings o sheet area = call sheet (ones sheet) nothingChosen o settings area zeroChannels
 
-abbrev pub inputPass : List ℕ → List ℕ → Outcome Planned
-inputPass sheet area = inputFrom 0 sheet area
+abbrev pub callFrom : ℕ → List ℕ → List ℕ → Outcome Both
+callFrom inputs sheet area = callBy (clean OwnNumber AfterInputs 0) (lentAt inputs 0) sheet area
+
+abbrev pub callOver : List ℕ → List ℕ → Outcome Both
+callOver sheet area = callFrom 0 sheet area
 
 -- the same, keeping old entries
-abbrev pub inputKept : List ℕ → List ℕ → Outcome Planned
-inputKept sheet area = inputBy (keeping OwnNumber 0) 0 sheet area
+abbrev pub callKept : List ℕ → List ℕ → Outcome Both
+callKept sheet area = callBy (keeping OwnNumber AfterInputs 0) (lentAt 0 0) sheet area
 
--- an accepted pass: entry k, of so many bytes, of the area that it leaves
-abbrev pub entryOf : ℕ → ℕ → List ℕ → Outcome Planned → Outcome (List ℕ)
+-- an accepted call: entry k, of so many bytes, of the area that it leaves
+abbrev pub entryOf : ℕ → ℕ → List ℕ → Outcome Both → Outcome (List ℕ)
 entryOf size k after (refused n) = refused n
-entryOf size k after (accepted p) = accepted (getD (entriesOf size after) k [])
+entryOf size k after (accepted b) = accepted (getD (entriesOf size after) k [])
 
 -- the FMMU entry k, and the image of the sync manager k
-abbrev pub inputEntry : ℕ → List ℕ → List ℕ → Outcome (List ℕ)
-inputEntry k sheet area =
-    entryOf 16 k (entriesAfter (inputPass sheet area) (sheetData sheet) (ones sheet) nothingChosen MasterRead 0 (clean OwnNumber 0) area) (inputPass sheet area)
+abbrev pub entryAfter : ℕ → List ℕ → List ℕ → Outcome (List ℕ)
+entryAfter k sheet area =
+    entryOf 16 k (entriesAfter (callOver sheet area) (sheetData sheet) (ones sheet) nothingChosen (lentAt 0 0) (clean OwnNumber AfterInputs 0) area) (callOver sheet area)
 
-abbrev pub inputImage : ℕ → List ℕ → Outcome (List ℕ)
-inputImage k sheet =
-    entryOf 8 k (channelAreaAfter (inputPass sheet zeros) (sheetData sheet) (ones sheet) MasterRead zeroChannels) (inputPass sheet zeros)
+abbrev pub imageAfter : ℕ → List ℕ → Outcome (List ℕ)
+imageAfter k sheet = entryOf 8 k (imagesAfter (callOver sheet zeros) (sheetData sheet) (ones sheet) zeroChannels) (callOver sheet zeros)
 
 -- the document's sheet: its inputs are 12 + 5 = 17 and 8 + 1 = 9 bits
 abbrev pub sampleSheet : List ℕ
@@ -115,32 +123,32 @@ noBitsSheet =
     (0x00 ∷ 0x13 ∷ 0x01 ∷ 0x03 ∷ 0x00 ∷ 0x80 ∷ 0x00 ∷ 0x80 ∷ 0x02 ∷ 0x00 ∷ 0x00 ∷ [])
     ++ (0x10 ∷ 0x80 ∷ 0x22 ∷ 0x01 ∷ 0x02 ∷ 0x11 ∷ 0x80 ∷ 0x20 ∷ 0x01 ∷ 0x04 ∷ [])
 
--- each case, by the step and by the pass where both have it; a control byte by itself, in an image, and by the pass that writes one
+-- each case, by the step and by the call where both have it; a control byte by itself, in an image, and by the call that writes one
 abbrev pub benchCases : List Row
 benchCases =
     row 1 (number (roundedUp 65528)) (accepted (8191 ∷ []))
     ∷ row 1 (number (incrementedByteAligned 0 65528)) (accepted (8191 ∷ []))
-    ∷ row 1 (startAndEnd (inputPass (bitsSheet 65528) zeros)) (accepted (0 ∷ 8191 ∷ []))
+    ∷ row 1 (inputsAt (callOver (bitsSheet 65528) zeros)) (accepted (0 ∷ 8191 ∷ []))
     ∷ row 2 (number (roundedUp 65529)) (refused 6)
     ∷ row 2 (number (incrementedByteAligned 0 65529)) (refused 6)
-    ∷ row 2 (startAndEnd (inputPass (bitsSheet 65529) zeros)) (refused 6)
+    ∷ row 2 (inputsAt (callOver (bitsSheet 65529) zeros)) (refused 6)
     ∷ row 3 (number (roundedUp 0)) (accepted (0 ∷ []))
     ∷ row 3 (number (incrementedByteAligned 0 0)) (accepted (0 ∷ []))
-    ∷ row 3 (startAndEnd (inputPass (bitsSheet 0) zeros)) (accepted (0 ∷ 0 ∷ []))
+    ∷ row 3 (inputsAt (callOver (bitsSheet 0) zeros)) (accepted (0 ∷ 0 ∷ []))
     ∷ row 4 (number (roundedUp 1)) (accepted (1 ∷ []))
     ∷ row 4 (number (incrementedByteAligned 0 1)) (accepted (1 ∷ []))
-    ∷ row 4 (startAndEnd (inputPass (bitsSheet 1) zeros)) (accepted (0 ∷ 1 ∷ []))
-    ∷ row 5 (startAndEnd (inputPass sampleSheet zeros)) (accepted (0 ∷ 5 ∷ []))
+    ∷ row 4 (inputsAt (callOver (bitsSheet 1) zeros)) (accepted (0 ∷ 1 ∷ []))
+    ∷ row 5 (inputsAt (callOver sampleSheet zeros)) (accepted (0 ∷ 5 ∷ []))
     ∷ row 6 (number (incremented 4294967294 1)) (accepted (4294967295 ∷ []))
-    ∷ row 6 (startAndEnd (inputFrom 4294967294 (bitsSheet 8) zeros)) (accepted (4294967294 ∷ 4294967295 ∷ []))
+    ∷ row 6 (inputsAt (callFrom 4294967294 (bitsSheet 8) zeros)) (accepted (4294967294 ∷ 4294967295 ∷ []))
     ∷ row 7 (number (incremented 4294967294 2)) (refused 9)
-    ∷ row 7 (startAndEnd (inputFrom 4294967294 (bitsSheet 16) zeros)) (refused 9)
-    ∷ row 8 (startAndEnd (inputKept (bitsSheet 8) fullEntry)) (refused 8)
-    ∷ row 9 (startAndEnd (inputPass noBitsSheet zeros)) (accepted (0 ∷ 0 ∷ []))
-    ∷ row 10 (inputEntry 0 (bitsSheet 0) zeros) (accepted (0 ∷ 0 ∷ 0 ∷ 0 ∷ 0 ∷ 0 ∷ 0 ∷ 7 ∷ 0x80 ∷ 0x11 ∷ 0 ∷ 1 ∷ 1 ∷ 0 ∷ 0 ∷ 0 ∷ []))
+    ∷ row 7 (inputsAt (callFrom 4294967294 (bitsSheet 16) zeros)) (refused 9)
+    ∷ row 8 (inputsAt (callKept (bitsSheet 8) fullEntry)) (refused 8)
+    ∷ row 9 (inputsAt (callOver noBitsSheet zeros)) (accepted (0 ∷ 0 ∷ []))
+    ∷ row 10 (entryAfter 0 (bitsSheet 0) zeros) (accepted (0 ∷ 0 ∷ 0 ∷ 0 ∷ 0 ∷ 0 ∷ 0 ∷ 7 ∷ 0x80 ∷ 0x11 ∷ 0 ∷ 1 ∷ 1 ∷ 0 ∷ 0 ∷ 0 ∷ []))
     ∷ row 11 (control (readControl 0x23)) (refused 5)
-    ∷ row 11 (startAndEnd (inputPass (set (bitsSheet 8) 13 0x23) zeros)) (refused 5)
+    ∷ row 11 (inputsAt (callOver (set (bitsSheet 8) 13 0x23) zeros)) (refused 5)
     ∷ row 12 (control (readControl 0xa2)) (accepted (2 ∷ 0x22 ∷ []))
     ∷ row 12 (rewritten (readChannel (0x80 ∷ 0x11 ∷ 1 ∷ 0 ∷ 0xa2 ∷ 0 ∷ 1 ∷ 0 ∷ []))) (accepted (0x80 ∷ 0x11 ∷ 1 ∷ 0 ∷ 0x22 ∷ 0 ∷ 1 ∷ 0 ∷ []))
-    ∷ row 12 (inputImage 0 (set (bitsSheet 8) 13 0xa2)) (accepted (0x80 ∷ 0x11 ∷ 1 ∷ 0 ∷ 0x22 ∷ 0 ∷ 1 ∷ 0 ∷ []))
+    ∷ row 12 (imageAfter 0 (set (bitsSheet 8) 13 0xa2)) (accepted (0x80 ∷ 0x11 ∷ 1 ∷ 0 ∷ 0x22 ∷ 0 ∷ 1 ∷ 0 ∷ []))
     ∷ []

@@ -5,7 +5,7 @@ use mathlib.Core.Path.{_≡_}
 use mathlib.Core.Bool.{Bool, true}
 use mathlib.Core.List.{List, []}
 use mathlib.Core.Logic.{_↔_}
-use Prim.Native.Nat.{ℕ, _<_, _≤_}
+use Prim.Native.Nat.{ℕ, _≤_, _<_}
 use lib.ListN.{length}
 use Rattle.wire.specs.Image.{Bytes}
 use Rattle.wire.specs.Lists.{Each}
@@ -13,7 +13,7 @@ use Rattle.wire.specs.Outcome.{Outcome, accepted, decide}
 use Rattle.sheet.specs.Sheet.{sheetData}
 use Rattle.pdo.specs.declared.PdoDirection.{PdoDirection}
 use Rattle.pdo.specs.Bits.{Piece, byCoe, piecesOf}
-use Rattle.passes.specs.declared.OldEntries.the-variants.{Keep}
+use Rattle.passes.specs.declared.OldEntries.{OldEntries}
 use Rattle.passes.specs.declared.FmmuMode.{FmmuMode}
 use Rattle.passes.specs.declared.FmmuMode.the-variants.{OwnNumber, Paired}
 use Rattle.passes.specs.declared.Chosen.{Chosen}
@@ -23,7 +23,7 @@ use Rattle.passes.specs.Use.{Use, chosenOf}
 use Rattle.passes.specs.Pairs.{sharedByBoth, oneBetween, badBy}
 use Rattle.passes.specs.Start.{Both}
 use Rattle.passes.specs.Call.{refusalsIf, bothOf, call, entriesAfter}
-use Rattle.agreement.specs.Agreement.{EveryDisabled, Needs, Lent, weights, choice, EndToEnd, laidBy, Agree}
+use Rattle.agreement.specs.Agreement.{EveryDisabled, Lent, weights, choice, EndToEnd, laidBy, Agree}
 
 -- settings of which the mode is another
 abbrev pub inMode : FmmuMode → Settings → Settings
@@ -48,7 +48,7 @@ EmptyList =
     × ((x : Outcome Both)
     → entriesAfter x (sheetData sheet) ws (chosenOf []) o (inMode Paired settings) fmmus ≡ entriesAfter x (sheetData sheet) ws (chosenOf []) o (inMode OwnNumber settings) fmmus)
 
--- a call that gives 18 on another condition, and is accepted
+-- a call that gives 18 on another condition; and that it is accepted
 abbrev pub callIf : Bool → List ℕ → Lent → List ℕ → Outcome Both
 callIf bad sheet l area =
     decide (refusalsIf bad sheet (weights sheet l) (choice l) (l .offsets) (l .settings) area (l .channels))
@@ -63,21 +63,23 @@ pub record AcceptedIf (bad : Bool) (sheet : List ℕ) (l : Lent) (area after : L
 abbrev pub badFor : (List Use → List Use → ℕ → Bool) → List ℕ → Lent → Bool
 badFor bad sheet l = badBy bad (l .settings .mode) (choice l) (sheetData sheet) (weights sheet l)
 
--- demand 3 of a call that doesn't ask whether an entry is left and used again: false (`between-needed`)
-abbrev pub WithoutBetween : Type 0
-WithoutBetween =
+-- demand 3 of a call that doesn't ask whether an entry is left and used again: false, by default and keeping (`between-needed`)
+abbrev pub WithoutBetween : OldEntries → Type 0
+WithoutBetween old =
     (sheet : List ℕ) (l : Lent) (area after : List ℕ)
     → Bytes sheet
+    → l .settings .old ≡ old
     → AcceptedIf (badFor sharedByBoth sheet l) sheet l area after
-    → Needs (l .settings .old) area
+    → EveryDisabled area
     → (r : PdoDirection)
     → Agree sheet r l after ↔ EndToEnd (laidBy sheet r l)
 
--- demand 3 of a call that doesn't ask whether an entry is of both directions: false, by default too (`both-needed`)
-abbrev pub WithoutBoth : Type 0
-WithoutBoth =
+-- demand 3 of a call that doesn't ask whether an entry is of both directions: false, by default and keeping (`both-needed`)
+abbrev pub WithoutBoth : OldEntries → Type 0
+WithoutBoth old =
     (sheet : List ℕ) (l : Lent) (area after : List ℕ)
     → Bytes sheet
+    → l .settings .old ≡ old
     → AcceptedIf (badFor oneBetween sheet l) sheet l area after
     → EveryDisabled area
     → (r : PdoDirection)

@@ -26,10 +26,11 @@ use Rattle.pdo.specs.Bits.{Piece, pathKind, bitsOf, piecesFrom, piecesOf}
 use Rattle.passes.specs.Use.{Use, own, total, sizeOf}
 use Rattle.passes.specs.Pass.{wantedRefusals}
 use Rattle.passes.specs.Handed.{sizesOf, piecesBy}
-use Rattle.passes.proofs.Pieces.{withPiece, bytes-back, uses-same, exact-at, size-handed}
-use Rattle.wanted.specs.declared.Wanted.{Wanted}
-use Rattle.wanted.specs.Wanted.{Wants}
-use Rattle.wanted.proofs.Answered.{wanted-refused, wanted-accepted}
+use Rattle.passes.proofs.Pieces.{withPiece, bytes-back, uses-same, exact-at}
+use Rattle.wanted.specs.declared.Sizes.{Sizes}
+use Rattle.wanted.specs.Wanted.{Sized}
+use Rattle.wanted.proofs.Asking.{size-alone}
+use Rattle.wanted.proofs.Answered.{sized-refused, sized-accepted}
 use Rattle.translation.specs.declared.Reached.{Reached}
 use Rattle.translation.specs.Translate.{within, named, reachedOf}
 use Rattle.counting.specs.declared.Counted.{Counted}
@@ -150,7 +151,7 @@ module _ (d : Data) (ws : List ℕ) (r : PdoDirection) (few : length (d .manager
   unfolding piecesOf
   own-is =
       uses-same true (λ k. k) (λ k. k) (usageOf r) (λ k. 8 * sizeAt (sizesOf d ws r) k) (λ k. bitsOf (pathKind d r) k (d .pdos) ws) (d .managers)
-      (λ j l e. bytes-back (sizeAt (sizesOf d ws r) j) ∙ size-handed d ws r j (omega arith) ∙ ap bytesOf (exact-at d ws r j l e)) (λ j l e. refl)
+      (λ j l e. bytes-back (sizeAt (sizesOf d ws r) j) ∙ size-alone d ws r j (omega arith) ∙ ap bytesOf (exact-at d ws r j l e)) (λ j l e. refl)
 
   handed-ends : (offset : ℕ) → offset + total (own (piecesBy (usageOf r) (sizesOf d ws r) (d .managers))) ≡ offset + sizeOf d ws r
   unfolding sizeOf
@@ -160,32 +161,32 @@ module _ (d : Data) (ws : List ℕ) (r : PdoDirection) (few : length (d .manager
   handed-finds offset a = spots-are offset a _ ∙ ap (λ (us : List Use). spotsOf offset us a) own-is ∙ sym (spots-are offset a (piecesOf d ws r))
 
 -- each way through the call
-module _ (sheet ws : List ℕ) (r : PdoDirection) (offset a : ℕ) (x : Wanted) (h : Wants sheet ws r x) where
+module _ (sheet ws : List ℕ) (r : PdoDirection) (offset a : ℕ) (x : Sizes) (h : Sized sheet ws r x) where
   abbrev d : Data
   d = sheetData sheet
 
   pub unwanted-counts : (n : ℕ) → x .answer ≡ answer.Refused n → refused n ≡ count r a sheet ws offset
   unfolding count
   unwanted-counts n e =
-      stopped {A = Unit {0}} (sheetRefusals sheet ++ wantedRefusals d ws r) tt n (decide (when 9 (pastEnd (offset + sizeOf d ws r)) ∷ []) (spotIn offset (piecesOf d ws r) a))
-      (wanted-refused sheet ws r x h n e)
+      stopped (sheetRefusals sheet ++ wantedRefusals d ws r) (sizesOf d ws r) n (decide (when 9 (pastEnd (offset + sizeOf d ws r)) ∷ []) (spotIn offset (piecesOf d ws r) a))
+      (sized-refused sheet ws r x h n e)
 
   module _ (e : x .answer ≡ answer.Accepted) {usage end : ℕ} {found : Counted} (u : usage ≡ usageOf r)
-      (lays : LaysOut (piecesBy usage (x .sizes) (managersIn sheet)) offset a end found) where
+      (lays : LaysOut (piecesBy usage (x .list) (managersIn sheet)) offset a end found) where
     lays-all : LaysOut (piecesBy (usageOf r) (sizesOf d ws r) (d .managers)) offset a end found
     lays-all =
-        let w = wanted-accepted sheet ws r x h e in
-        subst (λ (ps : List Piece). LaysOut ps offset a end found) (λ i. piecesBy (u i) (w .2 i .sizes) (w .0 .few i)) lays
+        let w = sized-accepted sheet ws r x h e in
+        subst (λ (ps : List Piece). LaysOut ps offset a end found) (λ i. piecesBy (u i) (w .2 i) (w .0 .few i)) lays
 
     few : length (d .managers) ≤ 16
-    few = let w = wanted-accepted sheet ws r x h e .0 .managers in omega (arith, manager-count sheet)
+    few = let w = sized-accepted sheet ws r x h e .0 .managers in omega (arith, manager-count sheet)
 
     rest : count r a sheet ws offset ≡ decide (when 9 (pastEnd end) ∷ []) (spotIn offset (piecesOf d ws r) a)
     unfolding count
     rest =
-        let w = wanted-accepted sheet ws r x h e in
+        let w = sized-accepted sheet ws r x h e in
         let t : offset + sizeOf d ws r ≡ end = sym (lays-all .ends ∙ handed-ends d ws r few offset) in
-        passed {A = Unit {0}} (sheetRefusals sheet ++ wantedRefusals d ws r) tt tt (decide (when 9 (pastEnd (offset + sizeOf d ws r)) ∷ []) (spotIn offset (piecesOf d ws r) a)) (w .1)
+        passed (sheetRefusals sheet ++ wantedRefusals d ws r) (sizesOf d ws r) (sizesOf d ws r) (decide (when 9 (pastEnd (offset + sizeOf d ws r)) ∷ []) (spotIn offset (piecesOf d ws r) a)) (w .1)
         ∙ ap (λ (y : ℕ). decide (when 9 (pastEnd y) ∷ []) (spotIn offset (piecesOf d ws r) a)) t
 
     pub nine-counts : (n : ℕ) → refused n ≡ offsetAt end → refused n ≡ count r a sheet ws offset

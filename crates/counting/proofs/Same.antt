@@ -18,5 +18,5 @@ unfolding count
 count-same sheet ws vs r a offset same =
     λ i.
     decide
-    (sheetRefusals sheet ++ (wanted-same sheet ws vs r same i ++ (when 9 (pastEnd (offset + size-same sheet ws vs r same i)) ∷ [])))
-    (spotIn offset (pieces-same sheet ws vs r same i) a)
+    (sheetRefusals sheet ++ (wanted-same sheet ws vs same r i ++ (when 9 (pastEnd (offset + size-same sheet ws vs same r i)) ∷ [])))
+    (spotIn offset (pieces-same sheet ws vs same r i) a)

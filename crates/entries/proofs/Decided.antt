@@ -1,81 +1,47 @@
--- The refusals that look at the entries and the offset, decided one after the other; and what is written where none holds.
+-- The refusals that look at the entries and the offsets, decided one after the other; and what is written where none holds.
 -- Assumes nothing.
 use mathlib.Core.Path.{_≡_, refl, sym, _∙_, ap, subst}
-use mathlib.Core.Bool.{Bool, true, false, cond, not, _||_, false≢true}
+use mathlib.Core.Bool.{Bool, true, false, cond, not, _&&_, false≢true}
 use mathlib.Core.List.{List, [], _∷_}
-use Prim.Native.Nat.{ℕ, _+_, _-_, _≤_}
+use Prim.Native.Nat.{ℕ, _≤_}
 use native.Mathlib.Omega.{arith}
 use lib.ListN.{length}
 use lib.Dec.{ltb}
-use borrow.Author.Tests.{ltb-false, le-ltb, eq-eqb, ne-eqb}
+use borrow.Author.Tests.{eq-eqb, ne-eqb}
 use Rattle.wire.specs.Outcome.{Outcome, refused, accepted, Refusal, when, first, decide}
 use Rattle.wire.proofs.Order.{never, passed, passed-answer, stopped}
-use Rattle.pdi.specs.Offset.{pastEnd, offsetAt}
-use Rattle.pdi.specs.Segment.{segment, belowGroup, lessGroup}
-use Rattle.pdi.specs.declared.PdiOffset.{PdiOffset}
-use Rattle.pdi.specs.declared.PdiSegment.{PdiSegment}
+use Rattle.pdi.specs.Offset.{pastEnd}
 use Rattle.area.specs.Area.{areaOf, entriesOf, flat, notEntries}
 use Rattle.area.proofs.Flat.{area-whole}
 use Rattle.pdo.specs.declared.PdoDirection.{PdoDirection}
+use Rattle.pdo.specs.declared.PdoDirection.the-variants.{MasterRead, MasterWrite}
 use Rattle.passes.specs.declared.Configured.{Configured}
 use Rattle.passes.specs.declared.Configured.the-variants.{Mapped, Refused}
+use Rattle.passes.specs.declared.Mapping.{Mapping}
+use Rattle.passes.specs.declared.Offsets.{Offsets}
 use Rattle.passes.specs.declared.OldEntries.the-variants.{Keep}
 use Rattle.passes.specs.declared.Settings.{Settings}
-use Rattle.passes.specs.Use.{Use, total}
+use Rattle.passes.specs.Use.{Use}
 use Rattle.passes.specs.Old.{beginning, inTheWay}
-use Rattle.passes.specs.Entries.{plan, tooLong, Planned, configuredOf, entriesOutcome, entryArea, WritesEntries}
-use Rattle.entries.specs.declared.Laid.{Laid}
-use Rattle.entries.specs.declared.Laid.the-variants as lay
-use Rattle.entries.specs.Lay.{Short, Run, laidAll, laidOf, segmentTo, thenInTheWay}
+use Rattle.passes.specs.Handed.{Short}
+use Rattle.passes.specs.Start.{ofEither, offsetOf, isGiven, outputsFrom, startOf, endOf, Both, bothPlanned, plannedOf, configuredOf}
+use Rattle.passes.specs.Entries.{tooLong, usesOfBoth, entryRefusals, totals, entriesOutcome, planBoth, entryArea, WritesEntries}
+use Rattle.entries.specs.declared.Ends.{Ends}
+use Rattle.entries.specs.declared.Ends.the-variants as ends
+use Rattle.entries.specs.Lay.{Runs, laidBoth, endsOf, standingTo, thenInTheWay}
 use Rattle.entries.specs.Ready.{zeroEntries, Readies}
 use Rattle.entries.proofs.Blocked.{too-long-ready}
 
--- the offset alone decides whether a segment that starts there is below the group start
-start-decides : (offset end group : ℕ) → offset ≤ end → belowGroup (segment offset end) group ≡ ltb offset group
-start-decides offset end group h = go (ltb offset group) refl
-  where
-    go : (b : Bool) → ltb offset group ≡ b → b || ltb end group ≡ b
-    go true e = refl
-    go false e = let g = ltb-false offset group e in le-ltb end group (omega arith)
-
--- 9, then 10, or the segment
-module _ (offset group end : ℕ) where
-  abbrev nine : List Refusal
-  nine = when 9 (pastEnd end) ∷ []
-
-  abbrev ten : ℕ → List Refusal
-  ten next = when 10 (belowGroup (segment offset next) group) ∷ []
-
-  abbrev there : ℕ → Planned
-  there next = record { segment = segment (offset - group) (next - group); next = next }
-
-  pub end-refused : (n : ℕ) → refused n ≡ offsetAt end → refused n ≡ segmentTo offset group end
-  end-refused n e = stopped nine end n (decide (ten end) (there end)) e
-
-  module _ (next : ℕ) (moved : accepted next ≡ offsetAt end) where
-    reached : decide (ten next) (there next) ≡ segmentTo offset group end
-    reached =
-        ap (λ (x : ℕ). decide (ten x) (there x)) (passed-answer nine end next moved) ∙ sym (passed nine end next (decide (ten end) (there end)) moved)
-
-    pub group-refused : (n : ℕ) → refused n ≡ lessGroup (segment offset next) group → refused n ≡ segmentTo offset group end
-    group-refused n e = stopped (ten next) (segment (offset - group) (next - group)) n (accepted (there next)) e ∙ reached
-
-    pub segment-reached : (s : PdiSegment) → accepted s ≡ lessGroup (segment offset next) group → accepted (record { segment = s; next = next }) ≡ segmentTo offset group end
-    segment-reached s e =
-        ap (λ (x : PdiSegment). accepted (record { segment = x; next = next })) (passed-answer (ten next) (segment (offset - group) (next - group)) s e)
-        ∙ sym (passed (ten next) (segment (offset - group) (next - group)) s (accepted (there next)) e)
-        ∙ reached
-
 -- 15 after what else was found
-pub then-free : (b : Bool) → not b ≡ true → (o : Outcome Planned) → o ≡ thenInTheWay b o
+pub then-free : (b : Bool) → not b ≡ true → (o : Outcome Both) → o ≡ thenInTheWay b o
 then-free b e (refused n) = refl
 then-free true e (accepted p) = absurd (false≢true e)
 then-free false e (accepted p) = refl
 
-pub then-mapped : (b : Bool) {answer : Configured} {s : PdiSegment} {next : PdiOffset} → not b ≡ false → answer ≡ Mapped s next → refused 15 ≡ thenInTheWay b (configuredOf answer)
-then-mapped b {answer} {s} {next} e a = go b e ∙ ap (λ (x : Configured). thenInTheWay b (configuredOf x)) (sym a)
+pub then-mapped : (b : Bool) {answer : Configured} {i o : Mapping} → not b ≡ false → answer ≡ Mapped i o → refused 15 ≡ thenInTheWay b (configuredOf answer)
+then-mapped b {answer} {i} {o} e a = go b e ∙ ap (λ (x : Configured). thenInTheWay b (configuredOf x)) (sym a)
   where
-    go : (b : Bool) → not b ≡ false → refused 15 ≡ thenInTheWay b (configuredOf (Mapped s next))
+    go : (b : Bool) → not b ≡ false → refused 15 ≡ thenInTheWay b (configuredOf (Mapped i o))
     go true e = refl
     go false e = absurd (false≢true (sym e))
 
@@ -83,110 +49,130 @@ pub then-refused : (b : Bool) {answer : Configured} {n : ℕ} → answer ≡ Ref
 then-refused b a = ap (λ (x : Configured). thenInTheWay b (configuredOf x)) (sym a)
 
 -- an answer that is accepted then: nothing was in the way
-nothing-blocked : (b : Bool) (o : Outcome Planned) (p : Planned) → accepted p ≡ thenInTheWay b o → b ≡ false
+nothing-blocked : (b : Bool) (o : Outcome Both) (p : Both) → accepted p ≡ thenInTheWay b o → b ≡ false
 nothing-blocked b (refused n) p e = absurd (never (sym e))
 nothing-blocked true (accepted q) p e = absurd (never (sym e))
 nothing-blocked false (accepted q) p e = refl
 
-module _ (us : List Use) (area : List ℕ) (r : PdoDirection) (offset : ℕ) (settings : Settings) where
-  abbrev outcome : Outcome Planned
-  outcome = entriesOutcome us r offset settings area
+module _ (uses : PdoDirection → List Use) (area : List ℕ) (o : Offsets) (settings : Settings) where
+  abbrev outcome : Outcome Both
+  outcome = entriesOutcome uses o settings area
 
   abbrev eight : List Refusal
-  eight = when 8 (tooLong (settings .old) us (entriesOf 16 area)) ∷ []
+  eight = when 8 (tooLong (settings .old) (usesOfBoth uses) (entriesOf 16 area)) ∷ []
 
-  abbrev there-to : ℕ → Planned
-  there-to end = record { segment = segment (offset - settings .group) (end - settings .group); next = end }
+  abbrev fifteen : Bool
+  fifteen = inTheWay (settings .old) (usesOfBoth uses) (entriesOf 16 area)
+
+  -- where both end
+  abbrev run : List (List ℕ) → Runs
+  run start =
+      record {
+        middle = endOf (settings .outputs) o (totals uses) MasterRead;
+        end = endOf (settings .outputs) o (totals uses) MasterWrite;
+        entries = planBoth (startOf (settings .outputs) o (totals uses)) uses start;
+      }
 
   -- 9, 10, 15
-  abbrev last : ℕ → Outcome Planned
-  last end = decide (when 9 (pastEnd end) ∷ when 10 (ltb offset (settings .group)) ∷ when 15 (inTheWay (settings .old) r us (entriesOf 16 area)) ∷ []) (there-to end)
+  abbrev last : Runs → Outcome Both
+  last x = thenInTheWay fifteen (standingTo (x .middle) (x .end) (settings .outputs) o (settings .group))
 
-  refuses : (n : ℕ) → outcome ≡ refused n → WritesEntries us r offset settings area (Refused n) area
-  refuses n e = record { says = sym e; holds = ap (λ (o : Outcome Planned). entryArea o r offset (settings .old) us area) (sym e) }
+  abbrev whole : Outcome Both
+  whole = decide (entryRefusals uses (totals uses) o settings (entriesOf 16 area)) (bothPlanned (settings .outputs) o (settings .group) (totals uses))
 
-  abbrev by-length : Bool → Outcome Planned
-  by-length right = cond (not right) (refused 1) (first eight (last (offset + total us)))
+  -- 15 is asked of what 9 and 10 leave
+  in-turn : (start : List (List ℕ)) → first eight (last (run start)) ≡ whole
+  in-turn start =
+      ap (first eight)
+      (go (ofEither (λ r. pastEnd (endOf (settings .outputs) o (totals uses) r))) (ofEither (λ r. isGiven r (settings .outputs) && ltb (offsetOf r o) (settings .group))) fifteen
+      (bothPlanned (settings .outputs) o (settings .group) (totals uses)))
+    where
+      go : (a b c : Bool) (p : Both) → thenInTheWay c (decide (when 9 a ∷ when 10 b ∷ []) p) ≡ decide (when 9 a ∷ when 10 b ∷ when 15 c ∷ []) p
+      go true b c p = refl
+      go false true c p = refl
+      go false false c p = refl
+
+  refuses : (n : ℕ) → outcome ≡ refused n → WritesEntries uses o settings area (Refused n) area
+  refuses n e = record { says = sym e; holds = ap (λ (x : Outcome Both). entryArea x (startOf (settings .outputs) o (totals uses)) (settings .old) uses area) (sym e) }
+
+  abbrev by-length : Bool → Outcome Both
+  by-length right = cond (not right) (refused 1) whole
 
   -- 1
-  pub wrong-area-refused : (length area ≡ 256 → ⊥) → WritesEntries us r offset settings area (Refused 1) area
+  pub wrong-area-refused : (length area ≡ 256 → ⊥) → WritesEntries uses o settings area (Refused 1) area
   wrong-area-refused h = refuses 1 (ap by-length (ne-eqb (length area) 256 h))
 
-  module _ (whole : length area ≡ 256) {before : List (List ℕ)} (loaded : before ≡ entriesOf 16 (areaOf 256 area)) (short : Short before) {start : List (List ℕ)} {blocked : Bool}
-      (made : Readies (settings .old) r us before start blocked) where
-    decided : outcome ≡ first eight (last (offset + total us))
-    decided = ap by-length (eq-eqb (length area) 256 whole)
+  module _ (right : length area ≡ 256) {before : List (List ℕ)} (loaded : before ≡ entriesOf 16 (areaOf 256 area)) (short : Short before) {start : List (List ℕ)} {blocked : Bool}
+      (made : Readies (settings .old) (usesOfBoth uses) before start blocked) where
+    decided : first eight (last (run start)) ≡ outcome
+    decided = in-turn start ∙ sym (ap by-length (eq-eqb (length area) 256 right))
 
     is-loaded : before ≡ entriesOf 16 area
-    is-loaded = loaded ∙ ap (entriesOf 16) (area-whole 256 area whole)
+    is-loaded = loaded ∙ ap (entriesOf 16) (area-whole 256 area right)
 
-    in-the-way : blocked ≡ inTheWay (settings .old) r us (entriesOf 16 area)
-    in-the-way = made .says ∙ ap (inTheWay (settings .old) r us) is-loaded
+    in-the-way : blocked ≡ fifteen
+    in-the-way = made .says ∙ ap (inTheWay (settings .old) (usesOfBoth uses)) is-loaded
 
-    abbrev run : Run
-    run = record { end = offset + total us; entries = plan r offset us start }
-
-    -- 8 of what is laid on is 8 of the pass
-    from : {o : Outcome Run} → o ≡ laidAll r offset us start → o ≡ decide eight run
-    from q =
-        let long = ap (tooLong Keep us) (made .holds) ∙ too-long-ready (settings .old) r us before short ∙ ap (tooLong (settings .old) us) is-loaded in
-        q ∙ ap (λ (b : Bool). cond b (refused 8) (accepted run)) long
-
-    -- where nothing is in the way, what is laid on is what the pass begins with
-    begins : blocked ≡ false → start ≡ beginning (settings .old) r (entriesOf 16 area)
+    -- where nothing is in the way, what is laid on is what the call begins with
+    begins : blocked ≡ false → start ≡ beginning (settings .old) (entriesOf 16 area)
     begins f =
         made .holds
-        ∙ ap (λ (w : Bool). cond w zeroEntries (beginning (settings .old) r before)) (sym (made .says) ∙ f)
-        ∙ ap (beginning (settings .old) r) is-loaded
+        ∙ ap (λ (w : Bool). cond w zeroEntries (beginning (settings .old) before)) (sym (made .says) ∙ f)
+        ∙ ap (beginning (settings .old)) is-loaded
 
-    -- 8
-    pub too-long-refused :
-        (said : Laid) (after : List (List ℕ)) (n : ℕ) → laidOf said after ≡ laidAll r offset us start → said ≡ lay.Refused n → WritesEntries us r offset settings area (Refused n) area
-    too-long-refused said after n q is = refuses n (decided ∙ sym (stopped eight run n (last (offset + total us)) (from (sym (ap (λ (x : Laid). laidOf x after) is) ∙ q))))
+    module _ (said : Ends) (after : List (List ℕ)) (laid : endsOf said after ≡ laidBoth (settings .outputs) o uses start) where
+      -- 8 of what is laid on is 8 of the call
+      from : endsOf said after ≡ decide eight (run start)
+      from =
+          let long = ap (tooLong Keep (usesOfBoth uses)) (made .holds) ∙ too-long-ready (settings .old) (usesOfBoth uses) before short
+          ∙ ap (tooLong (settings .old) (usesOfBoth uses)) is-loaded in
+          laid ∙ ap (λ (b : Bool). cond b (refused 8) (accepted (run start))) long
 
-    module _ (said : Laid) (after : List (List ℕ)) (end : ℕ) (ends : laidOf said after ≡ laidAll r offset us start) (said-end : said ≡ lay.End end) where
-      laid : accepted (record { end = end; entries = after }) ≡ laidAll r offset us start
-      laid = sym (ap (λ (x : Laid). laidOf x after) said-end) ∙ ends
+      -- 8
+      pub too-long-refused : (n : ℕ) → said ≡ ends.Refused n → WritesEntries uses o settings area (Refused n) area
+      too-long-refused n is = refuses n (sym (stopped eight (run start) n (last (run start)) (sym (ap (λ (x : Ends). endsOf x after) is) ∙ from) ∙ decided))
 
-      is : _≡_ {A = Run} (record { end = end; entries = after }) run
-      is = passed-answer eight run (record { end = end; entries = after }) (from laid)
+      module _ {middle end : ℕ} (said-ends : said ≡ ends.At middle end) where
+        abbrev there : Runs
+        there = record { middle = middle; end = end; entries = after }
 
-      -- 15 is asked of what 9 and 10 leave
-      in-turn : (nine ten fifteen : Bool) → thenInTheWay fifteen (cond nine (refused 9) (cond ten (refused 10) (accepted (there-to end))))
-          ≡ cond nine (refused 9) (cond ten (refused 10) (cond fifteen (refused 15) (accepted (there-to end))))
-      in-turn true ten fifteen = refl
-      in-turn false true fifteen = refl
-      in-turn false false fifteen = refl
+        told : accepted there ≡ decide eight (run start)
+        told = sym (ap (λ (x : Ends). endsOf x after) said-ends) ∙ from
 
-      module _ (middle answer : Configured) (q : configuredOf middle ≡ segmentTo offset (settings .group) end) (t : configuredOf answer ≡ thenInTheWay blocked (configuredOf middle)) where
-        goes-on : configuredOf answer ≡ outcome
-        goes-on =
-            let e : end ≡ offset + total us = ap (λ (x : Run). x .end) is in
-            t
-            ∙ (λ i. thenInTheWay (in-the-way i) (q i))
-            ∙ in-turn (pastEnd end) (belowGroup (segment offset end) (settings .group)) (inTheWay (settings .old) r us (entriesOf 16 area))
-            ∙ ap (λ (b : Bool). first (when 9 (pastEnd end) ∷ when 10 b ∷ when 15 (inTheWay (settings .old) r us (entriesOf 16 area)) ∷ []) (accepted (there-to end)))
-            (start-decides offset end (settings .group) (omega arith))
-            ∙ ap last e
-            ∙ sym (decided ∙ passed eight run (record { end = end; entries = after }) (last (offset + total us)) (from laid))
+        is : there ≡ run start
+        is = passed-answer eight (run start) there told
 
-        -- 9, 10 and 15
-        pub end-refuses : (n : ℕ) → answer ≡ Refused n → WritesEntries us r offset settings area answer area
-        end-refuses n a =
-            subst (λ (x : Configured). WritesEntries us r offset settings area x area) (sym a) (refuses n (sym goes-on ∙ ap configuredOf a))
+        -- each direction ends after its start
+        pub ends-after : (offsetOf MasterRead o ≤ middle) × (outputsFrom (settings .outputs) (offsetOf MasterWrite o) middle ≤ end)
+        ends-after =
+            subst (λ (x : Runs). (offsetOf MasterRead o ≤ x .middle) × (outputsFrom (settings .outputs) (offsetOf MasterWrite o) (x .middle) ≤ x .end)) (sym is)
+            (omega arith, omega arith)
 
-        -- none
-        pub entries-written :
-            (s : PdiSegment) (next : PdiOffset) (exit : List ℕ) → answer ≡ Mapped s next → exit ≡ cond (notEntries area) area (flat after)
-            → WritesEntries us r offset settings area answer exit
-        entries-written s next exit a x =
-            let p : accepted (record { segment = s; next = next .«start_address» }) ≡ thenInTheWay blocked (configuredOf middle) = sym (ap configuredOf a) ∙ t in
-            record {
-              says = goes-on;
-              holds =
-                  x
-                  ∙ ap (λ (b : Bool). cond (not b) area (flat after)) (eq-eqb (length area) 256 whole)
-                  ∙ ap (λ (y : Run). flat (y .entries)) is
-                  ∙ ap (λ (es : List (List ℕ)). flat (plan r offset us es)) (begins (nothing-blocked blocked (configuredOf middle) _ p))
-                  ∙ ap (λ (y : Outcome Planned). entryArea y r offset (settings .old) us area) (sym (ap configuredOf a) ∙ goes-on);
-            }
+        module _ (stood answer : Configured) (q : configuredOf stood ≡ standingTo middle end (settings .outputs) o (settings .group))
+            (t : configuredOf answer ≡ thenInTheWay blocked (configuredOf stood)) where
+          goes-on : configuredOf answer ≡ outcome
+          goes-on =
+              t
+              ∙ (λ i. thenInTheWay (in-the-way i) (q i))
+              ∙ ap last is
+              ∙ sym (passed eight (run start) there (last (run start)) told)
+              ∙ decided
+
+          -- 9, 10 and 15
+          pub end-refuses : (n : ℕ) → answer ≡ Refused n → WritesEntries uses o settings area answer area
+          end-refuses n a = subst (λ (x : Configured). WritesEntries uses o settings area x area) (sym a) (refuses n (sym goes-on ∙ ap configuredOf a))
+
+          -- none
+          pub entries-written :
+              (m n : Mapping) (exit : List ℕ) → answer ≡ Mapped m n → exit ≡ cond (notEntries area) area (flat after) → WritesEntries uses o settings area answer exit
+          entries-written m n exit a x =
+              let p : accepted (record { inputs = plannedOf m; outputs = plannedOf n }) ≡ thenInTheWay blocked (configuredOf stood) = sym (ap configuredOf a) ∙ t in
+              record {
+                says = goes-on;
+                holds =
+                    x
+                    ∙ ap (λ (b : Bool). cond (not b) area (flat after)) (eq-eqb (length area) 256 right)
+                    ∙ ap (λ (y : Runs). flat (y .entries)) is
+                    ∙ ap (λ (es : List (List ℕ)). flat (planBoth (startOf (settings .outputs) o (totals uses)) uses es)) (begins (nothing-blocked blocked (configuredOf stood) _ p))
+                    ∙ ap (λ (y : Outcome Both). entryArea y (startOf (settings .outputs) o (totals uses)) (settings .old) uses area) (sym (ap configuredOf a) ∙ goes-on);
+              }

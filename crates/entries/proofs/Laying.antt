@@ -10,8 +10,9 @@ use Rattle.wire.proofs.Order.{never, passed-answer}
 use Rattle.pdo.specs.declared.PdoDirection.{PdoDirection}
 use Rattle.passes.specs.Use.{Use, total}
 use Rattle.passes.specs.Entries.{withUse, plan}
-use Rattle.entries.specs.Lay.{noRoom, laidOne, Short, Run, laidAll}
-use Rattle.entries.proofs.Lengths.{too-long-none, too-long-first, short-after, too-long-rest}
+use Rattle.passes.specs.Handed.{noRoom, Short}
+use Rattle.passes.proofs.Lengths.{too-long-none, too-long-first, short-after, too-long-rest}
+use Rattle.entries.specs.Lay.{laidOne, Run, laidAll}
 use Rattle.entries.proofs.Entry.{start-wraps}
 
 -- what one use decides

@@ -1,14 +1,16 @@
 // The FMMU entries of a call: `write_fmmu_config` of configuration.rs, over a whole area.
 ghost use mathlib.Core.Path.{_≡_};
+ghost use mathlib.Core.Bool.{_||_};
 ghost use Prim.Native.Nat.{_+_, _<_, _≤_};
 ghost use lib.ListN.{length};
 ghost use Rattle.pdo.specs.Direction.{isRead};
+ghost use Rattle.pdo.specs.declared.PdoDirection.the-variants.{MasterWrite};
 ghost use Rattle.sheet.specs.Sheet.{managersIn, answerOf};
-ghost use Rattle.passes.specs.Handed.{usesBy, usesByBoth};
-ghost use Rattle.passes.specs.Start.{outputsFrom, configuredOf};
+ghost use Rattle.passes.specs.Handed.{usesBy, usesByBoth, Short};
+ghost use Rattle.passes.specs.Start.{outputsFrom, plannedOf, configuredOf};
 ghost use Rattle.passes.specs.Entries as Entries;
 ghost use Rattle.passes.specs.Entries.{WritesEntries};
-ghost use Rattle.entries.specs.Lay.{takesEntry, entryTaken, useAt, laidOne, Short, laidAll, laidOf, segmentTo, thenInTheWay};
+ghost use Rattle.entries.specs.Lay.{takesEntry, entryTaken, useAt, laidOne, Lays, laidAfter, laidBoth, endsOf, standing, standingTo, thenInTheWay};
 
 mod ready;
 
@@ -20,9 +22,8 @@ use passes::OutputStart;
 use passes::Route;
 use passes::Settings;
 use pdi::ByteLen;
-use pdi::Moved;
 use pdi::PdiOffset;
-use pdi::Placed;
+use pdi::PdiSegment;
 use pdo::PdoDirection;
 use sheet::Answer;
 
@@ -129,7 +130,7 @@ fn lay(
     direction: PdoDirection,
 ) -> Laid
     requires { ⌜ Short (now entries) × (start < 0x2_0000_0000) ⌝ }
-    ensures { λ r. ⌜ laidOf r (now (entries .exit)) ≡ laidAll direction start (usesBy route sizes direction (managersIn (now (sheet .entry)))) (now (entries .entry)) ⌝ }
+    ensures { λ r. ⌜ Lays direction start (usesBy route sizes direction (managersIn (now (sheet .entry)))) (now (entries .entry)) r (now (entries .exit)) ⌝ }
 {
     let usage = direction.filter_terms().usage;
     let n = grammar::manager_count(sheet);
@@ -184,7 +185,10 @@ fn lay_outputs(
     route: Route,
     start: u64,
     middle: u64,
-) -> Ends {
+) -> Ends
+    requires { ⌜ Short (now entries) × (start < 0x2_0000_0000) ⌝ }
+    ensures { λ r. ⌜ endsOf r (now (entries .exit)) ≡ laidAfter middle start (usesBy route sizes MasterWrite (managersIn (now (sheet .entry)))) (now (entries .entry)) ⌝ }
+{
     match lay(
         entries,
         sheet,
@@ -207,7 +211,10 @@ fn lay_both(
     outputs: Route,
     offsets: Offsets,
     how: OutputStart,
-) -> Ends {
+) -> Ends
+    requires { ⌜ Short (now entries) ⌝ }
+    ensures { λ r. ⌜ endsOf r (now (entries .exit)) ≡ laidBoth how offsets (usesByBoth inputs outputs sizes (managersIn (now (sheet .entry)))) (now (entries .entry)) ⌝ }
+{
     let from = offsets.inputs.start_address as u64;
     match lay(
         entries,
@@ -225,50 +232,58 @@ fn lay_both(
     }
 }
 
-// Both ranges, counted from the group start; or 10.
-fn placed(
-    inputs: PdiOffset,
-    next: PdiOffset,
-    outputs: PdiOffset,
-    last: PdiOffset,
-    group: u32,
-) -> Configured {
-    match inputs.up_to(next).less(group) {
-        Placed::Segment(one) => match outputs.up_to(last).less(group) {
-            Placed::Segment(two) => Configured::Mapped(
-                Mapping { segment: one, next },
-                Mapping {
-                    segment: two,
-                    next: last,
-                },
-            ),
-            Placed::Refused(number) => Configured::Refused(number),
+// One or the other.
+fn either(inputs: bool, outputs: bool) -> bool
+    ensures { λ r. ⌜ r ≡ inputs || outputs ⌝ }
+{
+    if inputs {
+        return true;
+    }
+    outputs
+}
+
+// Where a direction stands, counted from the group start, and the offset after it.
+fn between(start: u64, end: u64, group: u64) -> Mapping
+    requires { ⌜ (group ≤ start) × (start ≤ end) × (end ≤ 0xffff_ffff) ⌝ }
+    ensures { λ r. ⌜ plannedOf r ≡ standing start end group ⌝ }
+{
+    Mapping {
+        segment: PdiSegment {
+            start: (start - group) as u32,
+            end: (end - group) as u32,
         },
-        Placed::Refused(number) => Configured::Refused(number),
+        next: PdiOffset {
+            start_address: end as u32,
+        },
     }
 }
 
 // Where inputs and outputs stand that end there: 9 of either, then 10 of either.
-fn segments_to(middle: u64, end: u64, offsets: Offsets, settings: Settings) -> Configured {
-    let inputs = offsets.inputs;
-    match PdiOffset::at(middle) {
-        Moved::To(next) => match PdiOffset::at(end) {
-            Moved::To(last) => {
-                let how = settings.outputs;
-                let start = outputs_from(how, offsets.outputs.start_address as u64, middle);
-                let outputs = PdiOffset {
-                    start_address: start as u32,
-                };
-                placed(inputs, next, outputs, last, settings.group)
-            }
-            Moved::Refused(number) => Configured::Refused(number),
-        },
-        Moved::Refused(number) => Configured::Refused(number),
+fn segments_to(middle: u64, end: u64, offsets: Offsets, settings: Settings) -> Configured
+    requires { ⌜ (offsets .inputs .«start_address» ≤ middle) × (outputsFrom (settings .outputs) (offsets .outputs .«start_address») middle ≤ end) ⌝ }
+    ensures { λ r. ⌜ configuredOf r ≡ standingTo middle end (settings .outputs) offsets (settings .group) ⌝ }
+{
+    let group = settings.group as u64;
+    let inputs = offsets.inputs.start_address as u64;
+    let given = offsets.outputs.start_address as u64;
+    let how = settings.outputs;
+    let outputs = outputs_from(how, given, middle);
+    let past = either(0xffff_ffff < middle, 0xffff_ffff < end);
+    // straight after the inputs, the outputs are below the group start only where those are
+    let below = either(inputs < group, outputs < group);
+    if past {
+        return Configured::Refused(9);
     }
+    if below {
+        return Configured::Refused(10);
+    }
+    Configured::Mapped(between(inputs, middle, group), between(outputs, end, group))
 }
 
 // 15, unless something before it was found.
-fn unless_in_the_way(answer: Configured, blocked: bool) -> Configured {
+fn unless_in_the_way(answer: Configured, blocked: bool) -> Configured
+    ensures { λ r. ⌜ configuredOf r ≡ thenInTheWay blocked (configuredOf answer) ⌝ }
+{
     if !blocked {
         return answer;
     }

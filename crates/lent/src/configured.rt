@@ -41,13 +41,16 @@ fn by_value(
         offsets,
         settings,
     ) {
-        Configured::Mapped(one, two) => Done {
-            answer: Segments::Both(one.segment, two.segment),
-            next: Offsets {
-                inputs: one.next,
-                outputs: two.next,
-            },
-        },
+        Configured::Mapped(one, two) => {
+            let first = one.segment;
+            let second = two.segment;
+            let inputs = one.next;
+            let outputs = two.next;
+            Done {
+                answer: Segments::Both(first, second),
+                next: Offsets { inputs, outputs },
+            }
+        }
         Configured::Refused(number) => Done {
             answer: Segments::Refused(number),
             next: offsets,

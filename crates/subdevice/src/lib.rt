@@ -33,11 +33,9 @@ pub fn configure(
     let sizes = wanted.sizes;
     let inputs = wanted.inputs;
     let outputs = wanted.outputs;
-    match entries::write_entries(fmmus, sheet, sizes, inputs, outputs, offsets, settings) {
-        Configured::Mapped(one, two) => {
-            channels::write_channels(channels, sheet, sizes);
-            Configured::Mapped(one, two)
-        }
-        Configured::Refused(number) => Configured::Refused(number),
+    let done = entries::write_entries(fmmus, sheet, sizes, inputs, outputs, offsets, settings);
+    if let Configured::Mapped(_, _) = done {
+        channels::write_channels(channels, sheet, sizes);
     }
+    done
 }

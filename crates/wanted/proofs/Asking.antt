@@ -1,7 +1,7 @@
 -- 6 and 7 by number: what is asked of the wanted sync managers of a direction, or of both, is asked of the exact bits by number.
 -- Assumes nothing.
 use mathlib.Core.Path.{_≡_, refl, sym, _∙_, ap}
-use mathlib.Core.Bool.{Bool, true, false, cond, _&&_, _||_, or-false, or-assoc, and-comm, false≢true}
+use mathlib.Core.Bool.{Bool, true, false, cond, _&&_, _||_, or-false, or-assoc, and-comm}
 use mathlib.Core.List.{List, [], _∷_, _++_, append-nil}
 use Prim.Native.Nat.{ℕ, zero, suc, _+_, _-_, _≤_, _<_}
 use native.Mathlib.Nat.{add-zero, zero-add}
@@ -33,7 +33,7 @@ use Rattle.passes.specs.Handed.{hasUsage, exactBits, dataBits, sizesOf, sizesOf
 use Rattle.passes.proofs.Pieces.{some-bytes, data-at, size-handed}
 use Rattle.wanted.specs.ByKind.{bitAt, bitsIn, ofUsage}
 use Rattle.wanted.specs.Paths.{roundedIn, someSize, lacksEntry}
-use Rattle.wanted.proofs.Managers.{usage-nowhere}
+use Rattle.wanted.proofs.Managers.{both, usage-nowhere}
 use Rattle.wanted.proofs.Surveying.{some-or}
 
 -- a question by number: its first part
@@ -90,6 +90,10 @@ past {A} f d n (suc e) h =
     shift : (n e : ℕ) → suc n + e ≡ n + suc e
     shift n e = omega arith
 
+-- the size of a number in a direction by itself
+pub size-alone : (d : Data) (ws : List ℕ) (r : PdoDirection) (k : ℕ) → k < 16 → sizeAt (sizesOf d ws r) k ≡ bytesOf (exactBits d ws r k)
+size-alone d ws r k h = ap (λ (b : ByteLen). b .0) (getD-listOf (λ j. record { 0 = bytesOf (exactBits d ws r j) }) 16 k (record { 0 = 0 }) h)
+
 -- rounding up the first n of exact bits that are 0 from n on
 module _ (bits : List BitLen) (exact : ℕ → ℕ) (n : ℕ) (few : n ≤ 16) (is : (k : ℕ) → k < 16 → bitAt bits k ≡ exact k) (none : (k : ℕ) → n ≤ k → exact k ≡ 0) where
   abbrev size : ℕ → ByteLen
@@ -117,12 +121,9 @@ module _ (s ws : List ℕ) where
 
   -- one that is there and has the usage
   there : (r : PdoDirection) (k : ℕ) → hasUsage (usageOf r) ms k ≡ true → (k < length ms) × (eqb (getD ms k noManager .«usage_type») (usageOf r) ≡ true)
-  there r k h = go (ltb k (length ms)) refl h
-    where
-      go : (b : Bool) → ltb k (length ms) ≡ b → b && eqb (getD ms k noManager .«usage_type») (usageOf r) ≡ true
-          → (k < length ms) × (eqb (getD ms k noManager .«usage_type») (usageOf r) ≡ true)
-      go true e q = (ltb-true k (length ms) e, q)
-      go false e q = absurd (false≢true q)
+  there r k h =
+      let t = both (ltb k (length ms)) (eqb (getD ms k noManager .«usage_type») (usageOf r)) h in
+      (ltb-true k (length ms) (t .0), t .1)
 
   -- of both directions it has the direction's bits, rounded or not
   module _ (r : PdoDirection) (k : ℕ) (h : hasUsage (usageOf r) ms k ≡ true) where
@@ -209,7 +210,7 @@ module _ (s ws : List ℕ) where
           ∙ ap (λ (b : Bool). b && (some && eqb (coeEntry d r) (length (d .usages)))) (sym e)
 
     pub seven-direction : (r : PdoDirection) → byCoe d ≡ true → lacksEntry d (sizesOf d ws r) r ≡ noEntry d ws r
-    seven-direction r e = seven-lacks r (sizesOf d ws r) (λ k l h. ap (λ (b : ByteLen). b .0) (getD-listOf (λ j. record { 0 = bytesOf (exactBits d ws r j) }) 16 k (record { 0 = 0 }) l)) e
+    seven-direction r e = seven-lacks r (sizesOf d ws r) (λ k l h. size-alone d ws r k l) e
 
     pub seven-either : byCoe d ≡ true → ofEither (lacksEntry d (sizesOfBoth d ws)) ≡ ofEither (noEntry d ws)
     seven-either e =

@@ -18,7 +18,8 @@ use Rattle.passes.specs.Handed.{hasUsage}
 use Rattle.passes.specs.Use.{firstWith}
 use Rattle.wanted.specs.ByKind.{kindFor, usageAt, hasData, counted}
 
-both : (a b : Bool) → a && b ≡ true → (a ≡ true) × (b ≡ true)
+-- of two that hold, either holds
+pub both : (a b : Bool) → a && b ≡ true → (a ≡ true) × (b ≡ true)
 both true b e = (refl, e)
 both false b e = absurd (false≢true e)
 

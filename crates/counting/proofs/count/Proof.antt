@@ -1,4 +1,4 @@
--- `counting::count`: what the pass wants decides 2 to 7; the sizes laid decide 9 and the position.
+-- `counting::count`: what is wanted decides 2 to 7; the sizes laid decide 9 and the position.
 -- Assumes nothing.
 use mathlib.Core.Path.{sym, _∙_, ap}
 use denote.Ref.{now}
@@ -9,8 +9,8 @@ use Rattle.counting.proofs.Counting.{unwanted-counts, nine-counts, foun
 use Rattle.counting.proofs.count.Statement.{statement}
 use Rattle.counting.proofs.count.Tie as tie
 
-wanted-of-requires : tie.Need-wanted-of-requires
-wanted-of-requires c κs = search needs
+sizes-of-requires : tie.Need-sizes-of-requires
+sizes-of-requires c κs = search needs
 
 enum-known-answer : tie.Need-enum-known-answer
 enum-known-answer c = search needs
@@ -21,7 +21,7 @@ returns c =
     let a = v .before .before .before .args in
     let n = c .before .answer .given in
     unwanted-counts (now (a .sheet)) (now (a .multipliers)) (a .direction) (a .offset .«start_address») (a .address)
-    (v .wanted-of .result) (v .wanted-of .ensures) (n .0 .0) (n .1)
+    (v .sizes-of .result) (v .sizes-of .ensures) (n .0 .0) (n .1)
 
 enum-told : tie.Need-enum-told
 enum-told c = search needs
@@ -47,7 +47,7 @@ returns-2 c =
     let a = v .before .before .before .args in
     let n = c .before .number .given in
     nine-counts (now (a .sheet)) (now (a .multipliers)) (a .direction) (a .offset .«start_address») (a .address)
-    (v .wanted-of .result) (v .wanted-of .ensures) (e .enum-told .given .1) (ap (λ (t : Terms). t .usage) (l .before .filter-terms .ensures)) (l .lay-out .ensures)
+    (v .sizes-of .result) (v .sizes-of .ensures) (e .enum-told .given .1) (ap (λ (t : Terms). t .usage) (l .before .filter-terms .ensures)) (l .lay-out .ensures)
     (n .0 .0) (sym (ap movedOf (n .1)) ∙ p .at .ensures)
 
 enum-told-2 : tie.Need-enum-told-2
@@ -62,14 +62,14 @@ returns-3 c =
     let a = v .before .before .before .args in
     let o = c .enum-told2 .given in
     found-counts (now (a .sheet)) (now (a .multipliers)) (a .direction) (a .offset .«start_address») (a .address)
-    (v .wanted-of .result) (v .wanted-of .ensures) (e .enum-told .given .1) (ap (λ (t : Terms). t .usage) (l .before .filter-terms .ensures)) (l .lay-out .ensures)
+    (v .sizes-of .result) (v .sizes-of .ensures) (e .enum-told .given .1) (ap (λ (t : Terms). t .usage) (l .before .filter-terms .ensures)) (l .lay-out .ensures)
     (o .0 .0 .«start_address») (sym (ap movedOf (o .1)) ∙ p .at .ensures)
 
 pub count-spec : {M : Type 1} → statement M
 count-spec =
     tie.close
     (tie.spec
-    wanted-of-requires
+    sizes-of-requires
     enum-known-answer
     returns
     enum-told

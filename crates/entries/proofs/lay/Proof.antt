@@ -15,11 +15,11 @@ use Rattle.entries.proofs.lay.Statement.{statement}
 use Rattle.entries.proofs.lay.Tie as tie
 
 abbrev Inv-loop : tie.InvT-loop
-Inv-loop entries₀ sheet route direction sizes usage n end₀ k₀ entries end k =
-    (k ≤ 16) × (n ≡ managerCount sheet) × (usage ≡ usageOf direction) × At sheet route sizes direction end₀ entries₀ k end entries
+Inv-loop entries₀ sheet route start direction sizes usage n end₀ k₀ entries end k =
+    (k ≤ 16) × (n ≡ managerCount sheet) × (usage ≡ usageOf direction) × At sheet route sizes direction start entries₀ k end entries
 
 abbrev μ-loop : tie.MeasureT-loop
-μ-loop entries₀ sheet route direction sizes usage n end₀ k₀ entries end k = n - k
+μ-loop entries₀ sheet route start direction sizes usage n end₀ k₀ entries end k = n - k
 
 filter-terms-requires : tie.Need-filter-terms-requires Inv-loop μ-loop
 filter-terms-requires c κs = tt
@@ -27,14 +27,11 @@ filter-terms-requires c κs = tt
 manager-count-requires : tie.Need-manager-count-requires Inv-loop μ-loop
 manager-count-requires c κs = tt
 
-cast-end : tie.Need-cast-end Inv-loop μ-loop
-cast-end c = omega arith
-
 loop-holds : tie.Need-loop-holds Inv-loop μ-loop
 loop-holds c =
-    let s = c .before .before .before .before in
-    let u = ap (λ (t : Terms). t .usage) (c .before .before .filter-terms .ensures) in
-    (omega arith, c .before .manager-count .ensures, u, turn-starts _ _ _ _ _ _ (omega arith) (s .pre))
+    let s = c .before .before .before in
+    let u = ap (λ (t : Terms). t .usage) (c .before .filter-terms .ensures) in
+    (omega arith, c .manager-count .ensures, u, turn-starts _ _ _ _ _ _ (s .pre .0))
 
 usage-of-requires : tie.Need-usage-of-requires Inv-loop μ-loop
 usage-of-requires c κs = tt
@@ -55,8 +52,8 @@ array-copy-out-size c =
 takes-requires : tie.Need-takes-requires Inv-loop μ-loop
 takes-requires c κs = tt
 
-cast-start : tie.Need-cast-start Inv-loop μ-loop
-cast-start c = omega arith
+cast-at : tie.Need-cast-at Inv-loop μ-loop
+cast-at c = omega arith
 
 entry-of-requires : tie.Need-entry-of-requires Inv-loop μ-loop
 entry-of-requires c κs = let t = c .before .before .before .before .before .before in ltb-true (t .before .before .loop .k) 16 (t .if1 .taken)
@@ -78,15 +75,15 @@ returns c =
     let w = t .before .before in
     let u = w .before .before in
     let l = u .before .before .before .loop in
-    let sizes = u .before .before .before .before .before .before .before .before .args .t3 in
+    let sizes = u .before .before .before .before .before .before .before .args .t3 in
     turn-stops (l .inv .3) (omega arith) (ltb-true (l .k) 16 (u .before .if1 .taken)) (sym (u .usage-of .ensures) ∙ w .before .if2 .taken ∙ l .inv .2) (ap (sizeAt sizes) (w .wide .ensures .0))
     (sym (t .takes .ensures) ∙ y .before .before .before .before .if3 .taken) (y .before .before .before .entry-of .ensures) (y .before .start-of .ensures) _ _ _ (n .0 .0) (y .lay-one .ensures) (n .1)
 
 enum-told : tie.Need-enum-told Inv-loop μ-loop
 enum-told c = search needs
 
-cast-end-2 : tie.Need-cast-end-2 Inv-loop μ-loop
-cast-end-2 c = omega arith
+cast-end : tie.Need-cast-end Inv-loop μ-loop
+cast-end c = omega arith
 
 add-end : tie.Need-add-end Inv-loop μ-loop
 add-end c = let o = c .before .before .before .before .before .before .before .before .before .before .before .before .before .before .before .loop .inv .3 .low in omega arith
@@ -103,7 +100,7 @@ loop-again c =
     let i = u .before .before .before .loop .inv in
     let h = ltb-true (u .before .before .before .loop .k) 16 (u .before .if1 .taken) in
     let is = sym (u .usage-of .ensures) in
-    let sizes = u .before .before .before .before .before .before .before .before .args .t3 in
+    let sizes = u .before .before .before .before .before .before .before .args .t3 in
     let turned = ⊎-elim
     (λ w. turn-at
     (turn-laid (i .3) (omega arith) h (is ∙ w .0 .taken ∙ i .2) (ap (sizeAt sizes) (w .1 .ensures .0)) (sym (w .3 .ensures) ∙ w .4 .taken) (w .5 .ensures) (w .7 .ensures)
@@ -114,10 +111,10 @@ loop-again c =
     (omega arith, i .1, i .2, turned)
 
 returns-2 : tie.Need-returns-2 Inv-loop μ-loop
-returns-2 c = let l = c .before .before .loop in let h = ltb-false (l .k) 16 (c .if1 .left) in turn-end (l .inv .3) (omega arith)
+returns-2 c = let l = c .before .before .loop in let h = ltb-false (l .k) 16 (c .if1 .left) in turn-end (l .inv .3) (l .inv .0) (omega arith)
 
 returns-3 : tie.Need-returns-3 Inv-loop μ-loop
-returns-3 c = turn-end (c .before .loop .inv .3) (omega arith)
+returns-3 c = let i = c .before .loop .inv in turn-end (i .3) (i .0) (omega arith)
 
 pub lay-spec : {M : Type 1} → statement M
 lay-spec =
@@ -127,21 +124,20 @@ lay-spec =
     μ-loop
     filter-terms-requires
     manager-count-requires
-    cast-end
     loop-holds
     usage-of-requires
     wide-requires
     mul-size
     array-copy-out-size
     takes-requires
-    cast-start
+    cast-at
     entry-of-requires
     start-of-requires
     lay-one-requires
     enum-known-number
     returns
     enum-told
-    cast-end-2
+    cast-end
     add-end
     add-k
     loop-less

@@ -1,7 +1,7 @@
 -- `entries::unless_in_the_way`: nothing is in the way, or 15 comes after what else was found.
 -- Assumes nothing.
 use borrow.Author.Needs.{needs}
-use Rattle.passes.specs.Entries.{configuredOf}
+use Rattle.passes.specs.Start.{configuredOf}
 use Rattle.entries.proofs.Decided.{then-free, then-mapped, then-refused}
 use Rattle.entries.proofs.unless_in_the_way.Statement.{statement}
 use Rattle.entries.proofs.unless_in_the_way.Tie as tie

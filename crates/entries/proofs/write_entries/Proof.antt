@@ -8,10 +8,11 @@ use denote.Ref.{now}
 use borrow.Author.Needs.{needs}
 use Rattle.area.specs.Area.{entriesOf}
 use Rattle.area.proofs.Flat.{area-whole}
-use Rattle.entries.specs.Lay.{Short}
-use Rattle.entries.proofs.Lengths.{short-area}
+use Rattle.sheet.specs.Sheet.{managersIn}
+use Rattle.passes.specs.Handed.{usesByBoth, Short}
+use Rattle.passes.proofs.Lengths.{short-area}
 use Rattle.entries.proofs.Blocked.{short-made}
-use Rattle.entries.proofs.Decided.{wrong-area-refused, too-long-refused, end-refuses, entries-written}
+use Rattle.entries.proofs.Decided.{wrong-area-refused, too-long-refused, ends-after, end-refuses, entries-written}
 use Rattle.entries.proofs.write_entries.Statement.{statement}
 use Rattle.entries.proofs.write_entries.Tie as tie
 
@@ -24,22 +25,29 @@ short-loaded d =
     (short-area area (record { below = λ i. k .slice-known .given i .fits }))
 
 returns : tie.Need-returns
-returns c = wrong-area-refused _ _ _ _ _ (λ e. omega arith)
+returns c = wrong-area-refused _ _ _ _ (λ e. omega arith)
 
 load-requires : tie.Need-load-requires
 load-requires c κs = search needs
 
 make-ready-requires : tie.Need-make-ready-requires
-make-ready-requires c κs = short-loaded (c .before .before) .many
+make-ready-requires c κs = short-loaded (c .before) .many
 
-lay-requires : tie.Need-lay-requires
-lay-requires c κs = let m = c .before in short-made (m .make-ready .ensures) (short-loaded (m .before .before .before))
+lay-both-requires : tie.Need-lay-both-requires
+lay-both-requires c κs = let m = c .before in short-made (m .make-ready .ensures) (short-loaded (m .before .before))
 
-enum-known-end : tie.Need-enum-known-end
-enum-known-end c = search needs
+enum-known-middle : tie.Need-enum-known-middle
+enum-known-middle c = search needs
 
-segment-to-requires : tie.Need-segment-to-requires
-segment-to-requires c κs = search needs
+segments-to-requires : tie.Need-segments-to-requires
+segments-to-requires c κs =
+    let n = c .before in
+    let t = n .before .before in
+    let m = t .before .before in
+    let d = m .before .before in
+    let a = d .before .before .before .before .before .before .args in
+    ends-after (usesByBoth (a .inputs) (a .outputs) (a .sizes) (managersIn (now (a .sheet)))) (now (a .area)) (a .offsets) (a .settings) (omega arith) (d .load .ensures) (short-loaded d)
+    (m .make-ready .ensures) _ _ (t .lay-both .ensures) (n .middle .given .1)
 
 unless-in-the-way-requires : tie.Need-unless-in-the-way-requires
 unless-in-the-way-requires c κs = search needs
@@ -67,9 +75,9 @@ returns-2 c =
     let n = g .before .before .before in
     let t = n .before .before in
     let m = t .before .before in
-    let d = m .before .before .before in
-    entries-written _ _ _ _ _ (omega arith) (d .load .ensures) (short-loaded d) (m .make-ready .ensures) _ _ (n .end .given .0 .0) (t .lay .ensures) (n .end .given .1)
-    (g .before .segment-to .result) (g .unless-in-the-way .result) (g .before .segment-to .ensures) (g .unless-in-the-way .ensures) _ _ _ (e .enum-told .given .1) (y .store-all .ensures)
+    let d = m .before .before in
+    entries-written _ _ _ _ (omega arith) (d .load .ensures) (short-loaded d) (m .make-ready .ensures) _ _ (t .lay-both .ensures) (n .middle .given .1)
+    (g .before .segments-to .result) (g .unless-in-the-way .result) (g .before .segments-to .ensures) (g .unless-in-the-way .ensures) _ _ _ (e .enum-told .given .1) (y .store-all .ensures)
 
 same-length-2 : tie.Need-same-length-2
 same-length-2 c = search needs
@@ -80,20 +88,20 @@ returns-3 c =
     let n = g .before .before .before in
     let t = n .before .before in
     let m = t .before .before in
-    let d = m .before .before .before in
-    end-refuses _ _ _ _ _ (omega arith) (d .load .ensures) (short-loaded d) (m .make-ready .ensures) _ _ (n .end .given .0 .0) (t .lay .ensures) (n .end .given .1)
-    (g .before .segment-to .result) (g .unless-in-the-way .result) (g .before .segment-to .ensures) (g .unless-in-the-way .ensures) _ (c .enum-told2 .given .1)
+    let d = m .before .before in
+    end-refuses _ _ _ _ (omega arith) (d .load .ensures) (short-loaded d) (m .make-ready .ensures) _ _ (t .lay-both .ensures) (n .middle .given .1)
+    (g .before .segments-to .result) (g .unless-in-the-way .result) (g .before .segments-to .ensures) (g .unless-in-the-way .ensures) _ (c .enum-told2 .given .1)
 
 same-length-3 : tie.Need-same-length-3
 same-length-3 c = search needs
 
 returns-4 : tie.Need-returns-4
 returns-4 c =
-    let n = c .before .number .given in
-    let t = c .before .before .before in
+    let n = c .before in
+    let t = n .before .before in
     let m = t .before .before in
-    let d = m .before .before .before in
-    too-long-refused _ _ _ _ _ (omega arith) (d .load .ensures) (short-loaded d) (m .make-ready .ensures) _ _ (n .0 .0) (t .lay .ensures) (n .1)
+    let d = m .before .before in
+    too-long-refused _ _ _ _ (omega arith) (d .load .ensures) (short-loaded d) (m .make-ready .ensures) _ _ (t .lay-both .ensures) _ (n .number .given .1)
 
 pub write-entries-spec : {M : Type 1} → statement M
 write-entries-spec =
@@ -102,9 +110,9 @@ write-entries-spec =
     returns
     load-requires
     make-ready-requires
-    lay-requires
-    enum-known-end
-    segment-to-requires
+    lay-both-requires
+    enum-known-middle
+    segments-to-requires
     unless-in-the-way-requires
     enum-told
     store-all-requires

@@ -1,9 +1,11 @@
 -- `wanted::sizes_of`: the sheet's refusals, then 6, then 7; what is worked out before each return decides it.
 -- Assumes nothing.
 use mathlib.Core.Path.{_≡_, sym, _∙_}
+use mathlib.Core.List.{List}
 use denote.Ref.{now}
 use borrow.Author.Needs.{needs}
 use borrow.Author.Tests.{not-true, not-false}
+use Rattle.pdi.specs.declared.BitLen.{BitLen}
 use Rattle.grammar.specs.Grammar.{managerCount}
 use Rattle.sheet.specs.Sheet.{sheetData}
 use Rattle.sheet.specs.declared.Answer.the-variants.{Accepted}
@@ -32,17 +34,17 @@ abbrev start : tie.After-rounded → tie.Start
 start c = pathed c .before .before .before .before .before .before
 
 -- the direction's bits are rounded up
-rounds :
-    (c : tie.After-rounded)
-    → c .rounded .result
-    ≡ sizesAfter (roundedIn (managerCount (now (start c .args .sheet)))
-    (ofUsage (sheetData (now (start c .args .sheet)) .managers) (usageOf (start c .args .direction))
-    (bitsIn (now (start c .args .sheet)) (pathed c .coe-on .result) (now (start c .args .multipliers)))))
+abbrev mine : tie.After-rounded → List BitLen
+mine c =
+    let a = start c .args in
+    ofUsage (sheetData (now (a .sheet)) .managers) (usageOf (a .direction)) (bitsIn (now (a .sheet)) (pathed c .coe-on .result) (now (a .multipliers)))
+
+rounds : (c : tie.After-rounded) → c .rounded .result ≡ sizesAfter (roundedIn (managerCount (now (start c .args .sheet))) (mine c))
 rounds c =
     let u = c .before in
     let t = u .before in
     let s = now (start c .args .sheet) in
-    let e = u .of-usage .ensures ∙ (λ i. ofUsage (sheetData s .managers) (t .filter-terms .ensures i .usage) (t .before .tally .ensures i)) in
+    let e = _∙_ {c = mine c} (u .of-usage .ensures) (λ i. ofUsage (sheetData s .managers) (t .filter-terms .ensures i .usage) (t .before .tally .ensures i)) in
     c .rounded .ensures ∙ (λ i. sizesAfter (roundedIn (managerCount s) (e i)))
 
 check-requires : tie.Need-check-requires

@@ -1,19 +1,19 @@
--- `passed`: each case of the pass by value.
+-- `by_value`: each case of the call.
 -- Assumes nothing.
 use borrow.Author.Needs.{needs}
 use Rattle.lent.proofs.Passing.{mapped, stopped}
-use Rattle.lent.proofs.data_pass.passed.Statement.{statement}
-use Rattle.lent.proofs.data_pass.passed.Tie as tie
+use Rattle.lent.proofs.configured.by_value.Statement.{statement}
+use Rattle.lent.proofs.configured.by_value.Tie as tie
 
 -- after the call
-abbrev called : tie.After-slice-known4 → tie.After-pass
+abbrev called : tie.After-slice-known4 → tie.After-configure
 called c = c .before .before .before .before
 
-pass-requires : tie.Need-pass-requires
-pass-requires c κs = search needs
+configure-requires : tie.Need-configure-requires
+configure-requires c κs = search needs
 
-enum-known-segment : tie.Need-enum-known-segment
-enum-known-segment c = search needs
+enum-known-one : tie.Need-enum-known-one
+enum-known-one c = search needs
 
 enum-known-number : tie.Need-enum-known-number
 enum-known-number c = search needs
@@ -26,9 +26,9 @@ same-length-2 c = search needs
 
 returns : tie.Need-returns
 returns c =
-    let p = called (c .before .before .before) in
-    let s = c .before .segment .given in
-    mapped (p .before .before .before .before .before .before .before .before .args .place .offset) (p .pass .ensures) (s .0 .0) (s .0 .1 .0) (s .1)
+    let s = c .before .before .before .before .before in
+    let m = s .one .given in
+    mapped (called (s .before .before) .configure .ensures) (m .0 .0) (m .0 .1 .0) (m .1)
 
 same-length-3 : tie.Need-same-length-3
 same-length-3 c = search needs
@@ -38,9 +38,8 @@ same-length-4 c = search needs
 
 returns-2 : tie.Need-returns-2
 returns-2 c =
-    let p = called (c .before .before .before) in
     let n = c .before .number .given in
-    stopped (p .before .before .before .before .before .before .before .before .args .place .offset) (p .pass .ensures) (n .0 .0) (n .1)
+    stopped (called (c .before .before .before) .configure .ensures) (n .0 .0) (n .1)
 
-pub passed-spec : {M : Type 1} → statement M
-passed-spec = tie.close (tie.spec pass-requires enum-known-segment enum-known-number same-length same-length-2 returns same-length-3 same-length-4 returns-2)
+pub by-value-spec : {M : Type 1} → statement M
+by-value-spec = tie.close (tie.spec configure-requires enum-known-one enum-known-number same-length same-length-2 returns same-length-3 same-length-4 returns-2)

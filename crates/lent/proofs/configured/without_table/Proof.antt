@@ -1,4 +1,4 @@
--- `without_table`: a pass that is lent no multiplier.
+-- `without_table`: a call that is lent no multiplier.
 -- Assumes nothing.
 use mathlib.Core.List.{[]}
 use denote.Ref.{now}
@@ -6,15 +6,15 @@ use borrow.Author.Needs.{needs}
 use Rattle.sheet.specs.Sheet.{sheetData}
 use Rattle.pdo.specs.Bits.{multipliersOf}
 use Rattle.pdo.proofs.Lacking.{bits-none}
-use Rattle.passes.proofs.Same.{passes-same}
-use Rattle.lent.proofs.data_pass.without_table.Statement.{statement}
-use Rattle.lent.proofs.data_pass.without_table.Tie as tie
+use Rattle.passes.proofs.Same.{calls-same}
+use Rattle.lent.proofs.configured.without_table.Statement.{statement}
+use Rattle.lent.proofs.configured.without_table.Tie as tie
 
-slice-aggregate-passed : tie.Need-slice-aggregate-passed
-slice-aggregate-passed c = search needs
+slice-aggregate-by-value : tie.Need-slice-aggregate-by-value
+slice-aggregate-by-value c = search needs
 
-passed-requires : tie.Need-passed-requires
-passed-requires c κs = search needs
+by-value-requires : tie.Need-by-value-requires
+by-value-requires c κs = search needs
 
 same-length : tie.Need-same-length
 same-length c = search needs
@@ -25,10 +25,9 @@ same-length-2 c = search needs
 returns : tie.Need-returns
 returns c =
     let p = c .before .before .before .before in
-    let a = p .before .before .before .before .before .before .before .args in
-    let s = now (a .sheet) in
+    let s = now (p .before .before .before .before .before .before .before .args .sheet) in
     let pdos = sheetData s .pdos in
-    passes-same s [] (multipliersOf [] pdos) (a .direction) (bits-none pdos) (p .passed .ensures)
+    calls-same s [] (multipliersOf [] pdos) (bits-none pdos) (p .by-value .ensures)
 
 pub without-table-spec : {M : Type 1} → statement M
-without-table-spec = tie.close (tie.spec slice-aggregate-passed passed-requires same-length same-length-2 returns)
+without-table-spec = tie.close (tie.spec slice-aggregate-by-value by-value-requires same-length same-length-2 returns)
