@@ -110,7 +110,7 @@ def check_entry(sheet, way, wanted):
 
 
 def finding(read, *given):
-    """The first rule broken, None where none is: one call plans both directions, and a rule is asked of either before the next."""
+    """The first rule broken, None where none is. One call plans both directions: a rule is asked of either before the next."""
     try:
         sheet = read(*given)
         wanted = {way: counted(sheet, way) for way in (INPUTS, OUTPUTS)}

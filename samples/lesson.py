@@ -2,7 +2,7 @@
 """What docs/TRAINING.md and docs/SHEET.md show by the program `probe`: asks it and prints its answers as a student reads them.
 
     python3 samples/lesson.py gap           a merged FMMU doesn't follow the second sync manager
-    python3 samples/lesson.py both          inputs and outputs in one call: the outputs straight after the inputs, or given; and refused
+    python3 samples/lesson.py both          inputs and outputs in one call, the outputs straight after or given; and refused calls
     python3 samples/lesson.py stale         a call on the registers of a cancelled job, keeping old entries and by default
     python3 samples/lesson.py in-the-way    the default on entries that it clears and on such that it doesn't
     python3 samples/lesson.py repair        a sync manager is added to a bay in service, keeping old entries and by default

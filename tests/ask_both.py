@@ -103,6 +103,20 @@ def each_beside_each():
                     yield name, call(how | mode, c=outputs.offset, **words)
 
 
+MOST = (65_528,) * 8 + (56,)  # 65,535 bytes on one entry
+
+
+def each_by_itself():
+    """8 is of one entry: where both directions have an entry of 65,535 bytes, or near it, nothing is added up over the two."""
+    for path, (bay, mode, lacking) in PATHS.items():
+        for bits in [(8,), (64,), (65_528,) * 5] if "8" not in lacking else []:
+            for side, both in {"inputs": (Side(MOST), Side(bits)), "outputs": (Side(bits), Side(MOST))}.items():
+                words = dict(a=100, b=GROUP, c=LIMIT - 70_000, channels=pattern(128)) | bay(*both)
+                for how in CLEARING:
+                    name = f"{path}, 65,535 bytes of {side} beside {len(bits)} of {bits[0]:,} bits{told(how)}"
+                    yield name, call(how | mode, **words)
+
+
 def whole_call():
     """1 to 5 and 18 come before what is of one direction."""
     for one in ("6", "8", "9", "10", "15"):
@@ -155,8 +169,9 @@ def last_offsets():
         for start in (LIMIT - 5, LIMIT - 4, LIMIT - 3, LIMIT - 2, LIMIT - 1, LIMIT):
             for b in (0, start):
                 yield from asked(f"{path}, straight after from {start}, group {b}", data, ways=[AFTER_INPUTS], a=start, b=b)
-            for side, place in (("inputs", dict(a=start, c=3)), ("outputs", dict(a=3, c=start)), ("both", dict(a=start, c=start))):
-                for b in (0, 3 if side != "both" else start):
+            places = {"inputs": dict(a=start, c=3), "outputs": dict(a=3, c=start), "both": dict(a=start, c=start)}
+            for side, place in places.items():
+                for b in (0, start if side == "both" else 3):
                     yield from asked(f"{path}, {side} from {start}, group {b}", data, ways=[GIVEN], b=b, **place)
     for name, text in {"nothing": "x", "0 bits": "r w", "inputs": "r8 w", "outputs": "r w8"}.items():
         for start in (LIMIT - 1, LIMIT):
@@ -197,10 +212,10 @@ def one_direction():
 
 def in_turn():
     """Inputs and outputs in turn: each direction is laid in rising number of its own."""
-    text = "r8 w16 r24 w32 r w r9 w17"
+    text, pairs = "r8 w16 r24 w32 r w r9 w17", [(9, 0), (9, 2), (8, 3), (8, 1)]
     yield from asked("EEPROM, in turn", lined(text))
     yield from asked("EEPROM, in turn, outputs first", lined("w8 r16 w24 r32"))
-    yield from asked("by pairs, in turn", lined(text), ways=[how | BY_PAIRS for how in EVERY], pairs=[(9, 0), (9, 2), (8, 3), (8, 1)])
+    yield from asked("by pairs, in turn", lined(text), ways=[how | BY_PAIRS for how in EVERY], pairs=pairs)
     rows = managers(*[(0x1000 + 16 * k, 0x20 + 4 * (k % 2), 1, 4 - k % 2) for k in range(6)], (0x2000, 0x22, 1, 2))
     yield from asked("CoE, in turn", on_coe(*[coe(k, IN + k, 8 * k + 1) for k in range(6)], rows=rows, usages=(0, 2, 1)))
 
@@ -235,5 +250,5 @@ def grown():
 
 def ask():
     starting = (unread, where, last_offsets, group_starts)
-    for part in (each_beside_each, whole_call, *starting, one_direction, in_turn, one_table, grown):
+    for part in (each_beside_each, each_by_itself, whole_call, *starting, one_direction, in_turn, one_table, grown):
         yield from part()

@@ -10,7 +10,7 @@ from ask_old import BOTH, KINDS, MIXED, SIDES, left, own
 from bays import DOCUMENTS, LENGTHS, USED, WIDTHS
 from build import FOUR, SAMPLE, area, coe, eeprom, entry, managers, on_coe, on_eeprom, pattern, sheet
 from registers import LIMIT, size_of
-from stream import AFTER_INPUTS, BY_PAIRS, KEEP, Request
+from stream import AFTER_INPUTS, BY_PAIRS, Request
 
 # usage and control of a sync manager that the master reads from, writes to, or neither; the last one's mode has no name
 ROWS = {"r": (4, 0x20), "w": (3, 0x24), "x": (0, 0x20), "u": (0, 0x23)}
@@ -155,7 +155,8 @@ def no_bits():
         for list_told, pairs in (("no pair", []), ("a pair for each", each)):
             yield from asked(f"{name}, {list_told}", lined(text), pairs, ways=EVERY)
         yield from ask_call.asked(f"by own numbers, {name}, a pair for each", lined(text), WORN, pairs=each)
-    for name, text in {"no inputs": "w9 w8", "no outputs": "r9 r8", "inputs of 0 bits": "r w9", "outputs of 0 bits": "r9 w"}.items():
+    lacking = {"no inputs": "w9 w8", "no outputs": "r9 r8", "inputs of 0 bits": "r w9", "outputs of 0 bits": "r9 w"}
+    for name, text in lacking.items():
         yield from asked(name, lined(text), [(4, 0), (5, 1)])
     for name, table in {**MUTED, "multiplier 0 for both": [(INDEX, 0), (INDEX + 1, 0)]}.items():
         yield from asked(name, lined("r9 w9"), [(5, 0), (6, 1)], table=table)

@@ -125,7 +125,8 @@ def repetitions():
     yield between("again under times", Request("B", a=1, c=7, times=3, sheet=SAMPLE), "7: 0 5 5 7")
     call = Request("p", a=3, c=7, times=3, sheet=SAMPLE, fmmus=bytes(256), channels=bytes(128))
     yield between("a call under times is made once", call, f"7: {model.one_answer(call)}")
-    yield between("a call under times, at the last value", call._replace(c=LAST), f"{LAST}: refused 9 3 {LAST} {'00' * 256} {'00' * 128}")
+    last = f"{LAST}: refused 9 3 {LAST} {'00' * 256} {'00' * 128}"
+    yield between("a call under times, at the last value", call._replace(c=LAST), last)
     yield between("no such letter under times", Request("z", c=7, times=3, sheet=SAMPLE), "7: no such entry point")
 
 
@@ -298,7 +299,8 @@ def by_call():
             yield between(f"a call with {pairs}, byte 1 is {how}", request, line)
     bad = asked._replace(write=BY_PAIRS, room=1, fmmus=b"\x10\0" + old)
     yield between("a bad pair", bad, f"refused 18 7 9 {old.hex()} {before}")
-    yield between("a bad pair that isn't read", bad._replace(write=AFTER_INPUTS, sheet=b""), f"refused 2 7 9 {old.hex()} {before}")
+    unread = bad._replace(write=AFTER_INPUTS, sheet=b"")
+    yield between("a bad pair that isn't read", unread, f"refused 2 7 9 {old.hex()} {before}")
     yield between("a bad pair in front of no area", bad._replace(fmmus=b"\x10\0"), f"refused 1 7 9 - {before}")
     yield between("the area taken for pairs", bad._replace(room=ROOM), f"refused 1 7 9 - {before}")
     yield between("half a pair, and no area", bad._replace(room=1, fmmus=b"\7"), f"refused 1 7 9 07 {before}")

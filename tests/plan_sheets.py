@@ -52,7 +52,7 @@ def changed(data, at, *values):
     return data[:at] + bytes(values) + data[at + len(values) :]
 
 
-TOO_WIDE = coe(3, 0x1A00, *[255] * 255), coe(3, 0x1A01, 255, 249)
+SIX_AND_SEVEN = on_coe(coe(3, 0x1A00, *[255] * 255), coe(3, 0x1A01, 255, 249), coe(2, 0x1600, 1), usages=(2,))
 # refused-8 with an output of one bit behind its nine inputs: its records are ten of five bytes from byte 11 on
 EIGHT = sample("refused-8")
 MORE = EIGHT[2:8] + bytes([11, 1, 10]) + EIGHT[11:61] + bytes.fromhex("0800640103") + EIGHT[61:] + coe(10, 0x1600, 1)
@@ -82,7 +82,7 @@ WORDS = [
     ("no usage for inputs", on_coe(coe(3, 0x1A00, 8), usages=()), 7, ["SM3: 8 bits of inputs", "has: none", "usage 2"]),
     ("no usage for outputs", on_coe(coe(2, 0x1600, 9), usages=(2, 0)), 7, ["9 bits", "FMMU0 inputs, FMMU1 unused"]),
     ("7 in the inputs, 6 in the outputs", sample("both-refused-6"), 6, ["SM2: 65,529 bits", "SM2 (outputs)"]),
-    ("6 in the inputs, 7 in the outputs", on_coe(*TOO_WIDE, coe(2, 0x1600, 1), usages=(2,)), 6, ["SM3: 65,529 bits", "SM3 (inputs)"]),
+    ("6 in the inputs, 7 in the outputs", SIX_AND_SEVEN, 6, ["SM3: 65,529 bits", "SM3 (inputs)"]),
     ("8 in the inputs, 7 in the outputs", EIGHT_AND_SEVEN, 7, ["SM10: 1 bit of outputs", "FMMU0 inputs"]),
     ("an entry too long", sample("refused-8"), 8, ["FMMU0: 65,536 bytes; an FMMU entry has room for 65,535", "3 more"]),
 ]
