@@ -367,8 +367,8 @@ static unsigned first_entry(const struct device *device, uint8_t usage)
     return entry;
 }
 
-/* Plans inputs and outputs and moves each offset to its direction's end; or answers the number of the refusal, with nothing written. It is a
-   call: the compiler may not fit it to the offsets and the settings of its one caller. */
+/* Plans inputs and outputs and moves each offset to its direction's end; or answers the number of the refusal, with nothing written. It
+   is a call: the compiler may not fit it to the offsets and the settings of its one caller. */
 static __attribute__((noipa)) int configure(const struct device *device, const struct lent *lent, const struct settings *settings,
                                             struct areas *areas, uint32_t *offsets, struct segment *segments)
 {
@@ -434,7 +434,8 @@ static __attribute__((noipa)) int configure(const struct device *device, const s
         const bool write = manager->usage == DATA_WRITE;
         write_channel(areas->channels + 8 * k, manager, sizes[k]);
         if (!(device->coe || PAIRED) || sizes[k] > 0)
-            write_entry(areas->fmmus + 16 * (device->coe ? first[write] : PAIRED ? entries[k] : k), offsets[write], sizes[k], manager->start, write);
+            write_entry(areas->fmmus + 16 * (device->coe ? first[write] : PAIRED ? entries[k] : k), offsets[write], sizes[k],
+                        manager->start, write);
         offsets[write] += sizes[k];
     }
     return 0;
@@ -716,7 +717,9 @@ static bool answer(const uint8_t *head)
     input.records = pair(head + 22);
     input.pairs.count = pair(head + 2);
     size_t length = input.length + 3 * input.records + 2 * input.pairs.count;
-    if (head[0] != 'p' || (head[1] & ~AFTER_INPUTS) != (PAIRED ? BY_PAIRS : 0) || input.records > MOST_RECORDS || input.pairs.count > MOST_PAIRS)
+    if (head[0] != 'p' || (head[1] & ~AFTER_INPUTS) != (PAIRED ? BY_PAIRS : 0))
+        return false;
+    if (input.records > MOST_RECORDS || input.pairs.count > MOST_PAIRS)
         return false;
     if (pair(head + 24) != 2 * input.pairs.count + sizeof areas.fmmus || pair(head + 26) != sizeof areas.channels)
         return false;
