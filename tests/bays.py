@@ -1,7 +1,7 @@
-"""The bays that the passes are tried on.
+"""The bays that the call is tried on.
 
 Document 01's sample, both paths, the limits of each rule, each refusal alone and beside its neighbours. Where an entry is
-in use before the first pass, keeping adds to it, and the default clears it or refuses with 15; ask_old.py has more of that.
+in use before the call, keeping adds to it, and the default clears it or refuses with 15; ask_old.py has more of that.
 """
 
 from typing import NamedTuple
@@ -181,7 +181,7 @@ OFFSETS = [
     bay("offset 4,294,967,294 plus 2", on_coe(coe(3, IN, 9)), offset=LIMIT - 1),
     bay("offset 4,294,967,294 plus 1 and 1", on_coe(coe(3, IN, 8), coe(2, OUT, 8)), offset=LIMIT - 1),
     bay("offset 4,294,967,295 plus 0", on_eeprom(), offset=LIMIT, group=LIMIT),
-    bay("1 and 1 within one pass", on_eeprom(ONE_IN, eeprom(1, 0, IN + 1, 8), rows=TWO_IN), offset=LIMIT - 1),
+    bay("1 and 1 within one direction", on_eeprom(ONE_IN, eeprom(1, 0, IN + 1, 8), rows=TWO_IN), offset=LIMIT - 1),
     bay("group at the offset", SAMPLE, offset=10, group=10),
     bay("group above the offset", SAMPLE, offset=10, group=11),
     bay("group above the offset, nothing mapped", sheet(0, 0, 0), group=1),

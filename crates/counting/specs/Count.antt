@@ -33,12 +33,12 @@ spotIn offset [] a = none
 spotIn offset (p ∷ ps) a =
     cond (within offset (bytesOf (p .bits)) a) (some (spotAt (p .number) (p .address) (a - offset))) (spotIn (offset + bytesOf (p .bits)) ps a)
 
--- the sheet's refusals, those that a pass gives too, then 9
+-- the sheet's refusals, those that a call asks of the direction too, then 9
 abbrev pub countRefusals : List ℕ → List ℕ → PdoDirection → ℕ → List Refusal
 countRefusals sheet ws r offset =
     sheetRefusals sheet ++ (wantedRefusals (sheetData sheet) ws r ++ (when 9 (pastEnd (offset + sizeOf (sheetData sheet) ws r)) ∷ []))
 
--- the whole call; `ws` has a multiplier for each PDO, as for a pass, `offset` is the pass's start
+-- counting; `ws` has a multiplier for each PDO, as for a call, `offset` is where the direction starts
 unfoldable pub count : PdoDirection → ℕ → List ℕ → List ℕ → ℕ → Outcome (Option Spot)
 count r a sheet ws offset = decide (countRefusals sheet ws r offset) (spotIn offset (piecesOf (sheetData sheet) ws r) a)
 

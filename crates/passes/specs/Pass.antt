@@ -43,7 +43,7 @@ noEntry d ws r = byCoe d && (someOf (λ (p : Piece). ltb 0 (p .bits)) (piecesOf 
 abbrev pub wantedRefusals : Data → List ℕ → PdoDirection → List Refusal
 wantedRefusals d ws r = when 6 (someTooMany d ws r) ∷ when 7 (noEntry d ws r) ∷ []
 
--- the uses of a direction's pass, and its refusals in their order: counting takes no pairs, so 18 is a pass's alone; 8 counts from what stands there
+-- its refusals in their order: counting takes no pairs, so 18 is a pass's alone; 8 counts from what stands there
 abbrev pub keepingRefusals : List ℕ → List ℕ → Chosen → FmmuMode → PdoDirection → ℕ → ℕ → List ℕ → List ℕ → List Refusal
 keepingRefusals sheet ws c mode r offset group fmmus channels =
     when 1 (notAreas fmmus channels)

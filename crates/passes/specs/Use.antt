@@ -16,7 +16,7 @@ use Rattle.passes.specs.declared.FmmuMode.{FmmuMode}
 use Rattle.passes.specs.declared.FmmuMode.the-variants.{OwnNumber, Paired}
 use Rattle.passes.specs.declared.Chosen.{Chosen}
 
--- a sync manager laid by a pass: the entry that it uses, its size in bytes, its device address
+-- a sync manager that is laid: the entry that it uses, its size in bytes, its device address
 pub record Use : Type 0 where
   pub entry : ℕ
   pub size : ℕ

@@ -288,7 +288,7 @@ fn lends(mode: FmmuMode, records: usize) -> bool {
     0 < records
 }
 
-// The default in group 0, from offset 0.
+// Both offsets at 0.
 fn from_zero() -> Offsets {
     let start = PdiOffset { start_address: 0 };
     Offsets {

@@ -69,7 +69,7 @@ fn lines(letter: u8, request: &[u8], start: u32, times: u32) {
     }
 }
 
-// An answer that doesn't change with c is written once.
+// An answer that doesn't change with c is written once, and that of `p`, which takes c as an offset.
 fn answer(letter: u8, request: &[u8], c: u32, times: u32) {
     match letter {
         b'R' => records::fmmu_read(request),

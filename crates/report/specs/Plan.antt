@@ -28,7 +28,7 @@ abbrev pub andThen : {A B : Type 0} → Outcome A → (A → Outcome B) → Outc
 andThen (refused n) f = refused n
 andThen (accepted x) f = f x
 
--- the two register areas, as the passes hand them on
+-- the two register areas, as the mailbox pass hands them on
 pub record Areas : Type 0 where
   pub fmmus : List ℕ
   pub channels : List ℕ

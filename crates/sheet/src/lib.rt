@@ -129,7 +129,7 @@ pub fn send_size(sheet: &[u8]) -> ByteLen
     ByteLen(wire::be16(wire::byte_at(sheet, 6), wire::byte_at(sheet, 7)))
 }
 
-// How many sync managers a pass looks at: sixteen at most, and a sheet that keeps the rules has no more.
+// How many sync managers are looked at: sixteen at most, and a sheet that keeps the rules has no more.
 pub fn front_count(sheet: &[u8]) -> u8
     ensures { λ r. ⌜ r ≡ min (managerCount (now (sheet .entry))) 16 ⌝ }
 {
