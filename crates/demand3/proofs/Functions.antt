@@ -2,7 +2,6 @@
 -- Assumes nothing.
 use mathlib.Core.Path.{_≡_, refl, sym, _∙_, ap}
 use mathlib.Core.List.{List}
-use mathlib.Core.Logic.{_↔_}
 use Prim.Native.Nat.{ℕ, _^_, _<_}
 use Rattle.wire.specs.Outcome.{Outcome}
 use Rattle.wire.proofs.Order.{passed-answer}
@@ -16,7 +15,7 @@ use Rattle.passes.specs.Call.{callRefusals, bothOf, call}
 use Rattle.counting.specs.Count.{count, countedOf, deviceAlone}
 use Rattle.agreement.specs.Agreement.{Lent, weights, choice, Accepted, startedAt, counted, Agree}
 use Rattle.agreement.proofs.Demand3.{promised, facts, Among, among, translated, demand-3, needs-none, needs-disabled}
-use Rattle.demand3.specs.Calls.{Planning, lentTo, outputsBegun, begunAt, Translation, Counting, Call, AgreeEverywhere, Demand3OfFunctions, Demand3OfFunctionsClean, Demand3OfFunctionsFromDisabled}
+use Rattle.demand3.specs.Calls.{Planning, lentTo, outputsBegun, begunAt, Call, AgreeEverywhere, Demand3OfFunctions, Demand3OfFunctionsClean, Demand3OfFunctionsFromDisabled}
 
 module _ (sheet : List ℕ) (p : Planning sheet) where
   abbrev l : Lent
