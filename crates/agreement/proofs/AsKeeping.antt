@@ -85,9 +85,11 @@ module _ (sheet ws : List ℕ) (c : Chosen) (o : Offsets) (settings : Settings) 
 
 pub as-keeping : AsKeeping
 as-keeping sheet ws c o settings fmmus channels bytes free =
+    let same = outcomes-same sheet ws c o settings fmmus channels bytes free (either (eqb (length fmmus) 256)) in
     record {
-      outcomes = outcomes-same sheet ws c o settings fmmus channels bytes free (either (eqb (length fmmus) 256));
+      outcomes = same;
       entries = entries-same sheet ws c o settings fmmus channels bytes free;
+      images = ap (λ (x : Outcome Both). imagesAfter x (sheetData sheet) ws channels) same;
     }
 
 -- an accepted call has nothing in the way
@@ -105,7 +107,7 @@ promise-as-keeping sheet ws c o settings fmmus channels i u p f g bytes k =
           k .entries ∙ ap (λ (x : Outcome Both). entriesAfter x d ws c o (withOld Clear settings) fmmus) (went .says)
           ∙ kept .entries (went .both) (went .says)
           ∙ ap (λ (x : Outcome Both). entriesAfter x d ws c o (withOld Keep settings) (zeroed fmmus)) (sym (went .says) ∙ same);
-      images = k .images ∙ ap (λ (x : Outcome Both). imagesAfter x d ws channels) same;
+      images = k .images ∙ kept .images;
     }
 
 -- nothing of zeros is in the way

@@ -53,6 +53,9 @@ pub record SameAsKeeping (sheet ws : List ℕ) (c : Chosen) (o : Offsets) (setti
   pub entries :
       (b : Both) → byDefault sheet ws c o settings fmmus channels ≡ accepted b
       → entriesAfter (accepted b) (sheetData sheet) ws c o (withOld Clear settings) fmmus ≡ entriesAfter (accepted b) (sheetData sheet) ws c o (withOld Keep settings) (zeroed fmmus)
+  pub images :
+      imagesAfter (byDefault sheet ws c o settings fmmus channels) (sheetData sheet) ws channels
+      ≡ imagesAfter (byKeeping sheet ws c o settings fmmus channels) (sheetData sheet) ws channels
 
 -- wherever the condition of 15 doesn't hold, the default on any area is keeping on the area with those entries zeroed. Where it holds, the two may answer
 -- differently even if the answer isn't 15: keeping gives 8 where the default gives 9 (`oldCases`)
