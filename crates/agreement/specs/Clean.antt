@@ -75,6 +75,17 @@ PromiseAsKeeping =
     → Calls sheet ws c o (withOld Clear settings) fmmus channels (segments.Both i u) offsetsThen fmmusThen channelsThen
     → Calls sheet ws c o (withOld Keep settings) (zeroed fmmus) channels (segments.Both i u) offsetsThen fmmusThen channelsThen
 
+-- so where the clearing changes nothing, whatever the answer is: the promise of the default is that of keeping on the very area
+abbrev pub NothingCleared : Type 0
+NothingCleared =
+    (sheet ws : List ℕ) (c : Chosen) (o : Offsets) (settings : Settings) (fmmus channels : List ℕ)
+    (answer : Segments) (offsetsThen : Offsets) (fmmusThen channelsThen : List ℕ)
+    → Bytes fmmus
+    → zeroed fmmus ≡ fmmus
+    → Free sheet ws c settings fmmus
+    → Calls sheet ws c o (withOld Clear settings) fmmus channels answer offsetsThen fmmusThen channelsThen
+    → Calls sheet ws c o (withOld Keep settings) fmmus channels answer offsetsThen fmmusThen channelsThen
+
 -- and what the default answers doesn't depend on what stood in the area before: where the condition of 15 doesn't hold, it is the answer from zeros
 abbrev pub AsFromZeros : Type 0
 AsFromZeros =
