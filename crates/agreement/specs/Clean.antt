@@ -128,6 +128,27 @@ AsTwoPasses =
     (entriesAfter (accepted b) (sheetData sheet) ws c o settings fmmus)
     (imagesAfter (accepted b) (sheetData sheet) ws channels)
 
+-- and the other way: where the two passes are accepted in some order, and the condition of 15 doesn't hold, the call is accepted with their answer. So but for 15 it
+-- refuses nothing that they accept
+abbrev pub TwoPassesAccepted : Type 0
+TwoPassesAccepted =
+    (sheet ws : List ℕ) (c : Chosen) (o : Offsets) (settings : Settings) (fmmus channels : List ℕ) (b : Both)
+    (first : PdoDirection) (fmmusThen channelsThen : List ℕ)
+    → Bytes fmmus
+    → inTheWay (settings .old) (usesOfBoth (usesFor settings c (sheetData sheet) ws)) (entriesOf 16 fmmus) ≡ false
+    → OneAfterTheOther sheet ws c o settings first (begun (settings .old) fmmus) channels b fmmusThen channelsThen
+    → call sheet ws c o settings fmmus channels ≡ accepted b
+
+-- keeping, 15 is never given: the two passes are enough
+abbrev pub KeepingAccepted : Type 0
+KeepingAccepted =
+    (sheet ws : List ℕ) (c : Chosen) (o : Offsets) (settings : Settings) (fmmus channels : List ℕ) (b : Both)
+    (first : PdoDirection) (fmmusThen channelsThen : List ℕ)
+    → Bytes fmmus
+    → settings .old ≡ Keep
+    → OneAfterTheOther sheet ws c o settings first fmmus channels b fmmusThen channelsThen
+    → call sheet ws c o settings fmmus channels ≡ accepted b
+
 -- 8 counts all that is laid on an entry; where it is asked no entry is of both directions, so that it is 8 of one direction or of the other
 abbrev pub EightOfEither : Type 0
 EightOfEither =
