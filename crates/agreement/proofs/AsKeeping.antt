@@ -10,7 +10,7 @@ use lib.ListN.{length, getD, replicate}
 use borrow.Author.Tests.{eqb-true, eq-eqb}
 use Rattle.fmmu.specs.Image.{fieldsOf}
 use Rattle.wire.specs.Image.{Bytes}
-use Rattle.wire.specs.Outcome.{Outcome, accepted, when, decide}
+use Rattle.wire.specs.Outcome.{Outcome, refused, accepted, when, decide}
 use Rattle.pdi.specs.Offset.{pastEnd}
 use Rattle.sheet.specs.Sheet.{sheetRefusals, sheetData}
 use Rattle.area.specs.Area.{entriesOf, flat, notEntries, notChannels, chunks}
@@ -27,7 +27,7 @@ use Rattle.passes.specs.Entries.{planBoth, tooLong, usesOfBoth}
 use Rattle.passes.specs.Call.{usesFor, startsAt, wantedOfBoth, bothOf, call, entriesAfter, imagesAfter}
 use Rattle.passes.proofs.Cleared.{cleared-eight, sixteen-begun, Off, zeros-all-off, none-used, both-off, cleared-at}
 use Rattle.passes.proofs.Lengths.{short-area}
-use Rattle.agreement.specs.Clean.{zeroed, withOld, byDefault, byKeeping, Free, AsKeeping, PromiseAsKeeping, AsFromZeros}
+use Rattle.agreement.specs.Clean.{zeroed, withOld, byDefault, byKeeping, Free, AsKeeping, PromiseAsKeeping, NothingCleared, AsFromZeros}
 use Rattle.agreement.proofs.Basics.{either, none-at}
 use Rattle.agreement.proofs.Told.{answered, none-holds, area-long, told}
 
@@ -85,9 +85,11 @@ module _ (sheet ws : List ℕ) (c : Chosen) (o : Offsets) (settings : Settings) 
 
 pub as-keeping : AsKeeping
 as-keeping sheet ws c o settings fmmus channels bytes free =
+    let same = outcomes-same sheet ws c o settings fmmus channels bytes free (either (eqb (length fmmus) 256)) in
     record {
-      outcomes = outcomes-same sheet ws c o settings fmmus channels bytes free (either (eqb (length fmmus) 256));
+      outcomes = same;
       entries = entries-same sheet ws c o settings fmmus channels bytes free;
+      images = ap (λ (x : Outcome Both). imagesAfter x (sheetData sheet) ws channels) same;
     }
 
 -- an accepted call has nothing in the way
@@ -105,8 +107,32 @@ promise-as-keeping sheet ws c o settings fmmus channels i u p f g bytes k =
           k .entries ∙ ap (λ (x : Outcome Both). entriesAfter x d ws c o (withOld Clear settings) fmmus) (went .says)
           ∙ kept .entries (went .both) (went .says)
           ∙ ap (λ (x : Outcome Both). entriesAfter x d ws c o (withOld Keep settings) (zeroed fmmus)) (sym (went .says) ∙ same);
-      images = k .images ∙ ap (λ (x : Outcome Both). imagesAfter x d ws channels) same;
+      images = k .images ∙ kept .images;
     }
+
+-- a refusal leaves the area, of either
+pub nothing-cleared : NothingCleared
+nothing-cleared sheet ws c o settings fmmus channels s p f g bytes same free k =
+    let d = sheetData sheet in
+    let kept = as-keeping sheet ws c o settings fmmus channels bytes free in
+    let outcomes : byDefault sheet ws c o settings fmmus channels ≡ call sheet ws c o (withOld Keep settings) fmmus channels =
+    kept .outcomes ∙ ap (λ (area : List ℕ). call sheet ws c o (withOld Keep settings) area channels) same in
+    let left =
+    go (byDefault sheet ws c o settings fmmus channels)
+    (λ b h. kept .entries b h ∙ ap (λ (area : List ℕ). entriesAfter (accepted b) d ws c o (withOld Keep settings) area) same) in
+    record {
+      says = k .says ∙ ap segmentsAlone outcomes;
+      moves = k .moves ∙ ap (λ (x : Outcome Both). offsetsAfter x o) outcomes;
+      entries = k .entries ∙ left ∙ ap (λ (x : Outcome Both). entriesAfter x d ws c o (withOld Keep settings) fmmus) outcomes;
+      images = k .images ∙ ap (λ (x : Outcome Both). imagesAfter x d ws channels) outcomes;
+    }
+  where
+    go : (x : Outcome Both)
+        → ((b : Both) → x ≡ accepted b
+        → entriesAfter (accepted b) (sheetData sheet) ws c o (withOld Clear settings) fmmus ≡ entriesAfter (accepted b) (sheetData sheet) ws c o (withOld Keep settings) fmmus)
+        → entriesAfter x (sheetData sheet) ws c o (withOld Clear settings) fmmus ≡ entriesAfter x (sheetData sheet) ws c o (withOld Keep settings) fmmus
+    go (refused n) h = refl
+    go (accepted b) h = h b refl
 
 -- nothing of zeros is in the way
 zeros-free : (us : List Use) → inTheWay Clear us (entriesOf 16 (replicate 256 0)) ≡ false

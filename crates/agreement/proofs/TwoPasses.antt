@@ -41,7 +41,7 @@ use Rattle.passes.specs.Entries.{laid, withUse, plan, planBoth, lengthNow, leng
 use Rattle.passes.specs.Pass.{notAreas, noEntry, keepingRefusals, keepingPass, entriesKept, imagesOf, dataSize}
 use Rattle.passes.specs.Call.{usesFor, startsAt, callRefusals, bothOf, call, orElse, bothSize, entriesAfter, imagesAfter}
 use Rattle.passes.specs.Handed.{Short}
-use Rattle.passes.proofs.Cleared.{cleared-at, cleared-short, begun-length, sixteen-begun}
+use Rattle.passes.proofs.Cleared.{cleared-at, cleared-short, begun-length}
 use Rattle.passes.proofs.Kept.{sixteen-planned}
 use Rattle.passes.proofs.Lengths.{short-area, total-both, too-long-both}
 use Rattle.agreement.specs.Clean.{OneAfterTheOther, begun, AsTwoPasses, EightOfEither}
@@ -98,11 +98,11 @@ module _ (d : Data) (ws : List ℕ) where
   image-merged MasterWrite k m es = merged k m es (dataSize d ws MasterRead k m) (dataSize d ws MasterWrite k m) (one-at-most k m) .1
 
 -- what two passes begin with is as long, its entries are those that the call begins with, none longer than its two bytes say
-begun-long : (old : OldEntries) (fmmus : List ℕ) → length fmmus ≡ 256 → length (begun old fmmus) ≡ 256
+pub begun-long : (old : OldEntries) (fmmus : List ℕ) → length fmmus ≡ 256 → length (begun old fmmus) ≡ 256
 begun-long Clear fmmus long = zeroed-long fmmus long
 begun-long Keep fmmus long = long
 
-begun-entries : (old : OldEntries) (fmmus : List ℕ) → length fmmus ≡ 256 → entriesOf 16 (begun old fmmus) ≡ beginning old (entriesOf 16 fmmus)
+pub begun-entries : (old : OldEntries) (fmmus : List ℕ) → length fmmus ≡ 256 → entriesOf 16 (begun old fmmus) ≡ beginning old (entriesOf 16 fmmus)
 begun-entries Clear fmmus long = zeroed-entries fmmus long
 begun-entries Keep fmmus long = refl
 
@@ -114,6 +114,17 @@ begun-short Clear fmmus bytes =
       many = begun-length Clear (entriesOf 16 fmmus) ∙ s .many;
       short = λ k h. subst (λ (e : List ℕ). lengthNow e ≤ 65535) (sym (cleared-at (entriesOf 16 fmmus) k)) (cleared-short (getD (entriesOf 16 fmmus) k []) (s .short k h));
     }
+
+-- what a pass that keeps leaves of an area is as long, and its entries are those planned
+module _ (r : PdoDirection) (start : ℕ) (us : List Use) (area : List ℕ) (long : length area ≡ 256) where
+  planned-sixteen : Sixteen 16 (plan r start us (entriesOf 16 area))
+  planned-sixteen = sixteen-planned r start us (entriesOf 16 area) (sixteen-of 16 area long)
+
+  kept-long : length (flat (plan r start us (entriesOf 16 area))) ≡ 256
+  kept-long = flat-bytes 16 16 (plan r start us (entriesOf 16 area)) planned-sixteen
+
+  pub kept-entries : entriesOf 16 (flat (plan r start us (entriesOf 16 area))) ≡ plan r start us (entriesOf 16 area)
+  kept-entries = flat-entries 16 (plan r start us (entriesOf 16 area)) planned-sixteen
 
 -- 8 of the call is 8 of keeping there
 begun-eight : (old : OldEntries) (us : List Use) (fmmus : List ℕ) → Bytes fmmus → inTheWay old us (entriesOf 16 fmmus) ≡ false
@@ -130,6 +141,20 @@ eight-flip old us vs es =
   where
     same : (k : ℕ) → totalOn k (us ++ vs) ≡ totalOn k (vs ++ us)
     same k = let a = total-both k us vs in let b = total-both k vs us in omega arith
+
+-- 8 of the call is 8 of the first of two passes there, or of the second over what the first left
+pub eight-begun :
+    (old : OldEntries) (uses : PdoDirection → List Use) (first : PdoDirection) (start : ℕ) (fmmus : List ℕ) → Bytes fmmus → inTheWay old (usesOfBoth uses) (entriesOf 16 fmmus) ≡ false
+    → tooLong old (usesOfBoth uses) (entriesOf 16 fmmus)
+    ≡ tooLong Keep (uses first) (beginning old (entriesOf 16 fmmus)) || tooLong Keep (uses (other first)) (plan first start (uses first) (beginning old (entriesOf 16 fmmus)))
+eight-begun old uses first start fmmus bytes free =
+    begun-eight old (usesOfBoth uses) fmmus bytes free
+    ∙ in-order first
+    ∙ too-long-both first start (uses first) (uses (other first)) (beginning old (entriesOf 16 fmmus)) (begun-short old fmmus bytes)
+  where
+    in-order : (r : PdoDirection) → tooLong Keep (usesOfBoth uses) (beginning old (entriesOf 16 fmmus)) ≡ tooLong Keep (uses r ++ uses (other r)) (beginning old (entriesOf 16 fmmus))
+    in-order MasterRead = refl
+    in-order MasterWrite = eight-flip Keep (uses MasterRead) (uses MasterWrite) (beginning old (entriesOf 16 fmmus))
 
 -- where no given offset is below the group start, neither direction's start is
 from-group : (how : OutputStart) (o : Offsets) (size : PdoDirection → ℕ) (group : ℕ) → ofEither (λ r. isGiven r how && ltb (offsetOf r o) group) ≡ false
@@ -192,30 +217,19 @@ module _ (sheet ws : List ℕ) (c : Chosen) (o : Offsets) (settings : Settings) 
     abbrev imagesBetween : List ℕ
     imagesBetween = imagesOf d ws first channels
 
-    left-sixteen : Sixteen 16 left
-    left-sixteen = sixteen-planned first (start first) (uses first) found (sixteen-begun (settings .old) (entriesOf 16 fmmus) (sixteen-of 16 fmmus (t .long)))
-
-    between-is : between ≡ flat left
-    between-is = ap (λ (es : List (List ℕ)). flat (plan first (start first) (uses first) es)) (begun-entries (settings .old) fmmus (t .long))
-
     between-long : length between ≡ 256
-    between-long = ap length between-is ∙ flat-bytes 16 16 left left-sixteen
+    between-long = kept-long first (start first) (uses first) (begun (settings .old) fmmus) (begun-long (settings .old) fmmus (t .long))
 
     between-entries : entriesOf 16 between ≡ left
-    between-entries = ap (entriesOf 16) between-is ∙ flat-entries 16 left left-sixteen
+    between-entries =
+        kept-entries first (start first) (uses first) (begun (settings .old) fmmus) (begun-long (settings .old) fmmus (t .long))
+        ∙ ap (plan first (start first) (uses first)) (begun-entries (settings .old) fmmus (t .long))
 
     -- each has room, the second over what the first left
     room : (tooLong Keep (uses first) found ≡ false) × (tooLong Keep (uses (other first)) left ≡ false)
     room =
         or-none (tooLong Keep (uses first) found) (tooLong Keep (uses (other first)) left)
-        (sym (too-long-both first (start first) (uses first) (uses (other first)) found (begun-short (settings .old) fmmus bytes)) ∙ in-order first)
-      where
-        of-both : tooLong Keep (usesOfBoth uses) found ≡ false
-        of-both = sym (begun-eight (settings .old) (usesOfBoth uses) fmmus bytes (t .free)) ∙ t .room
-
-        in-order : (r : PdoDirection) → tooLong Keep (uses r ++ uses (other r)) found ≡ false
-        in-order MasterRead = of-both
-        in-order MasterWrite = eight-flip Keep (uses MasterWrite) (uses MasterRead) found ∙ of-both
+        (sym (eight-begun (settings .old) uses first (start first) fmmus bytes (t .free)) ∙ t .room)
 
     -- in either order the same entries
     laid-both : planBoth start uses found ≡ plan (other first) (start (other first)) (uses (other first)) left

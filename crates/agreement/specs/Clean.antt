@@ -53,6 +53,9 @@ pub record SameAsKeeping (sheet ws : List ℕ) (c : Chosen) (o : Offsets) (setti
   pub entries :
       (b : Both) → byDefault sheet ws c o settings fmmus channels ≡ accepted b
       → entriesAfter (accepted b) (sheetData sheet) ws c o (withOld Clear settings) fmmus ≡ entriesAfter (accepted b) (sheetData sheet) ws c o (withOld Keep settings) (zeroed fmmus)
+  pub images :
+      imagesAfter (byDefault sheet ws c o settings fmmus channels) (sheetData sheet) ws channels
+      ≡ imagesAfter (byKeeping sheet ws c o settings fmmus channels) (sheetData sheet) ws channels
 
 -- wherever the condition of 15 doesn't hold, the default on any area is keeping on the area with those entries zeroed. Where it holds, the two may answer
 -- differently even if the answer isn't 15: keeping gives 8 where the default gives 9 (`oldCases`)
@@ -71,6 +74,17 @@ PromiseAsKeeping =
     → Bytes fmmus
     → Calls sheet ws c o (withOld Clear settings) fmmus channels (segments.Both i u) offsetsThen fmmusThen channelsThen
     → Calls sheet ws c o (withOld Keep settings) (zeroed fmmus) channels (segments.Both i u) offsetsThen fmmusThen channelsThen
+
+-- so where the clearing changes nothing, whatever the answer is: the promise of the default is that of keeping on the very area
+abbrev pub NothingCleared : Type 0
+NothingCleared =
+    (sheet ws : List ℕ) (c : Chosen) (o : Offsets) (settings : Settings) (fmmus channels : List ℕ)
+    (answer : Segments) (offsetsThen : Offsets) (fmmusThen channelsThen : List ℕ)
+    → Bytes fmmus
+    → zeroed fmmus ≡ fmmus
+    → Free sheet ws c settings fmmus
+    → Calls sheet ws c o (withOld Clear settings) fmmus channels answer offsetsThen fmmusThen channelsThen
+    → Calls sheet ws c o (withOld Keep settings) fmmus channels answer offsetsThen fmmusThen channelsThen
 
 -- and what the default answers doesn't depend on what stood in the area before: where the condition of 15 doesn't hold, it is the answer from zeros
 abbrev pub AsFromZeros : Type 0
@@ -113,6 +127,27 @@ AsTwoPasses =
     → OneAfterTheOther sheet ws c o settings first (begun (settings .old) fmmus) channels b
     (entriesAfter (accepted b) (sheetData sheet) ws c o settings fmmus)
     (imagesAfter (accepted b) (sheetData sheet) ws channels)
+
+-- and the other way: where the two passes are accepted in some order, and the condition of 15 doesn't hold, the call is accepted with their answer. So but for 15 it
+-- refuses nothing that they accept
+abbrev pub TwoPassesAccepted : Type 0
+TwoPassesAccepted =
+    (sheet ws : List ℕ) (c : Chosen) (o : Offsets) (settings : Settings) (fmmus channels : List ℕ) (b : Both)
+    (first : PdoDirection) (fmmusThen channelsThen : List ℕ)
+    → Bytes fmmus
+    → inTheWay (settings .old) (usesOfBoth (usesFor settings c (sheetData sheet) ws)) (entriesOf 16 fmmus) ≡ false
+    → OneAfterTheOther sheet ws c o settings first (begun (settings .old) fmmus) channels b fmmusThen channelsThen
+    → call sheet ws c o settings fmmus channels ≡ accepted b
+
+-- keeping, 15 is never given: the two passes are enough
+abbrev pub KeepingAccepted : Type 0
+KeepingAccepted =
+    (sheet ws : List ℕ) (c : Chosen) (o : Offsets) (settings : Settings) (fmmus channels : List ℕ) (b : Both)
+    (first : PdoDirection) (fmmusThen channelsThen : List ℕ)
+    → Bytes fmmus
+    → settings .old ≡ Keep
+    → OneAfterTheOther sheet ws c o settings first fmmus channels b fmmusThen channelsThen
+    → call sheet ws c o settings fmmus channels ≡ accepted b
 
 -- 8 counts all that is laid on an entry; where it is asked no entry is of both directions, so that it is 8 of one direction or of the other
 abbrev pub EightOfEither : Type 0
