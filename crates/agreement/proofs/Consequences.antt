@@ -24,14 +24,14 @@ use Rattle.area.proofs.Flat.{length-chunks}
 use Rattle.passes.specs.declared.Offsets.{Offsets}
 use Rattle.passes.specs.declared.Segments.the-variants as segments
 use Rattle.passes.specs.Use.{Use, total}
-use Rattle.passes.specs.Start.{Both, segmentsAlone, segmentsOf, offsetsAfter}
+use Rattle.passes.specs.Start.{offsets, Both, segmentsAlone, segmentsOf, offsetsAfter}
 use Rattle.passes.specs.Entries.{plan}
 use Rattle.passes.specs.Call.{call, entriesAfter, imagesAfter}
 use Rattle.passes.proofs.Pieces.{uses-total}
 use Rattle.translation.specs.Translate.{named, says, firstSaid, orNone, translate}
 use Rattle.translation.proofs.Lies.{inside, behind}
 use Rattle.agreement.specs.Agreement.{Needs, Lent, weights, choice, Accepted, EndToEnd, laidBy, startedAt, counted}
-use Rattle.agreement.specs.Clean.{RefusedLeaves}
+use Rattle.agreement.specs.Clean.{RefusedLeaves, OutputsUnread}
 use Rattle.agreement.proofs.Basics.{either, each-map, said-by}
 use Rattle.agreement.proofs.Straight.{lay, Fresh, Apart, straight-same, straight-iff}
 use Rattle.agreement.proofs.Run.{said, plan-leaves}
@@ -76,6 +76,15 @@ refused-leaves sheet ws c o settings fmmus channels n p f g k = go (call sheet w
         → g ≡ imagesAfter x (sheetData sheet) ws channels → _≡_ {A = Offsets × List ℕ × List ℕ} (p, f, g) (o, fmmus, channels)
     go (refused m) says moves entries images = λ i. (moves i, entries i, images i)
     go (accepted b) says moves entries images = absurd (never says)
+
+-- straight after the inputs the outputs' lent offset is unread
+pub outputs-unread : OutputsUnread
+unfolding call
+outputs-unread sheet ws c inputs one two settings fmmus channels after = (rw after refl, go)
+  where
+    go : (x : Outcome Both) → entriesAfter x (sheetData sheet) ws c (offsets inputs one) settings fmmus ≡ entriesAfter x (sheetData sheet) ws c (offsets inputs two) settings fmmus
+    go (refused n) = refl
+    go (accepted b) = rw after refl
 
 -- laying names something at every address of its range
 record Laid (q : ℕ) (us : List Use) (a : ℕ) : Type 0 where

@@ -8,6 +8,7 @@ use Prim.Native.Nat.{ℕ}
 use lib.ListN.{length, replicate}
 use Rattle.wire.specs.Outcome.{Outcome, accepted}
 use Rattle.wire.specs.Image.{Bytes}
+use Rattle.pdi.specs.declared.PdiOffset.{PdiOffset}
 use Rattle.pdi.specs.declared.PdiSegment.{PdiSegment}
 use Rattle.sheet.specs.Device.{Data}
 use Rattle.sheet.specs.Sheet.{sheetData, readSheet}
@@ -17,13 +18,14 @@ use Rattle.area.specs.Area.{entriesOf, flat, notEntries}
 use Rattle.passes.specs.declared.OldEntries.{OldEntries}
 use Rattle.passes.specs.declared.OldEntries.the-variants.{Clear, Keep}
 use Rattle.passes.specs.declared.Chosen.{Chosen}
+use Rattle.passes.specs.declared.OutputStart.the-variants.{AfterInputs}
 use Rattle.passes.specs.declared.Offsets.{Offsets}
 use Rattle.passes.specs.declared.Settings.{Settings}
 use Rattle.passes.specs.declared.Segments.{Segments}
 use Rattle.passes.specs.declared.Segments.the-variants as segments
 use Rattle.passes.specs.Pairs.{badPairs}
 use Rattle.passes.specs.Old.{clearedOfBoth, inTheWay}
-use Rattle.passes.specs.Start.{ofEither, Planned, Both, plannedFor}
+use Rattle.passes.specs.Start.{ofEither, Planned, Both, plannedFor, offsets}
 use Rattle.passes.specs.Entries.{usesOfBoth, tooLong}
 use Rattle.passes.specs.Pass.{noEntry, keepingPass, entriesKept, imagesOf}
 use Rattle.passes.specs.Call.{usesFor, startsAt, call, entriesAfter, imagesAfter, Calls}
@@ -166,6 +168,15 @@ RefusedLeaves =
     (n : ℕ) (offsetsThen : Offsets) (fmmusThen channelsThen : List ℕ)
     → Calls sheet ws c o settings fmmus channels (segments.Refused n) offsetsThen fmmusThen channelsThen
     → _≡_ {A = Offsets × List ℕ × List ℕ} (offsetsThen, fmmusThen, channelsThen) (o, fmmus, channels)
+
+-- straight after the inputs the outputs' lent offset isn't read: whatever it is, the same answer and the same entries
+abbrev pub OutputsUnread : Type 0
+OutputsUnread =
+    (sheet ws : List ℕ) (c : Chosen) (inputs one two : PdiOffset) (settings : Settings) (fmmus channels : List ℕ)
+    → settings .outputs ≡ AfterInputs
+    → (call sheet ws c (offsets inputs one) settings fmmus channels ≡ call sheet ws c (offsets inputs two) settings fmmus channels)
+    × ((x : Outcome Both)
+    → entriesAfter x (sheetData sheet) ws c (offsets inputs one) settings fmmus ≡ entriesAfter x (sheetData sheet) ws c (offsets inputs two) settings fmmus)
 
 -- a call in the default that answered segments, made again from the same offsets over what it left, answers the same and leaves the same
 abbrev pub MadeAgain : Type 0
