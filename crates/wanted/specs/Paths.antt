@@ -37,21 +37,27 @@ roundedIn n bits =
 unfoldable pub someSize : List SyncManager → ℕ → List ByteLen → Bool
 someSize ms usage sizes = someBelow (λ k. hasUsage usage ms k && ltb 0 (sizeAt sizes k)) (length ms)
 
--- 7 of a direction, on the CoE path
+-- 7 of a direction, on the CoE path: by an entry that is handed on, and by the one that the sheet has
+abbrev pub lacksAt : Data → List ByteLen → PdoDirection → ℕ → Bool
+lacksAt d sizes r entry = eqb entry (length (d .usages)) && someSize (d .managers) (usageOf r) sizes
+
 abbrev pub lacksEntry : Data → List ByteLen → PdoDirection → Bool
-lacksEntry d sizes r = eqb (coeEntry d r) (length (d .usages)) && someSize (d .managers) (usageOf r) sizes
+lacksEntry d sizes r = lacksAt d sizes r (coeEntry d r)
 
 -- the pairs are read
 abbrev pub pairsRead : Bool → FmmuMode → Bool
 pairsRead path OwnNumber = false
 pairsRead path Paired = not path
 
--- what is wanted by EEPROM; the CoE path's route; what is wanted on it, or 7
+-- what is wanted by EEPROM; the route on one entry, and the CoE path's; what is wanted on it, or 7
 abbrev pub eepromWants : FmmuMode → Chosen → List ByteLen → Wanted
 eepromWants mode c sizes = record { answer = Accepted; sizes = sizes; inputs = routeBy mode c; outputs = routeBy mode c }
 
+abbrev pub routeOn : ℕ → Route
+routeOn entry = record { own = false; entries = replicate 16 entry }
+
 abbrev pub coeRoute : Data → PdoDirection → Route
-coeRoute d r = record { own = false; entries = replicate 16 (coeEntry d r) }
+coeRoute d r = routeOn (coeEntry d r)
 
 abbrev pub coeWants : Data → List ByteLen → Wanted
 coeWants d sizes =

@@ -8,10 +8,10 @@ ghost use Rattle.wire.specs.Outcome as Outcome;
 ghost use Rattle.grammar.specs.Grammar.{managerCount, usagesPlace, nextPdo, kindFits, broken};
 ghost use Rattle.sheet.specs.Device.{pdoAt};
 ghost use Rattle.sheet.specs.Sheet.{sheetData};
-ghost use Rattle.passes.specs.Use.{firstWith};
+ghost use Rattle.passes.specs.Use.{firstWith, coeEntry};
 ghost use Rattle.passes.specs.Pairs.{numberAbove};
 ghost use Rattle.wanted.specs.ByKind.{kindFor, counted, bitsIn, ofUsage};
-ghost use Rattle.wanted.specs.Paths.{roundedIn, someSize, lacksEntry, pairsRead, eepromWants, coeRoute, coeWants};
+ghost use Rattle.wanted.specs.Paths.{roundedIn, someSize, lacksAt, pairsRead, eepromWants, routeOn, coeWants};
 ghost use Rattle.wanted.specs.Judged.{usesIn, comesAgain, withUse, Surveys, somePastLast, someShared, badChoice};
 ghost use Rattle.wanted.specs.Wanted.{sizesAfter, Sized, noRoute, wantedAfter, Wants};
 use passes::Chosen;
@@ -207,16 +207,22 @@ fn some_size(sheet: &[u8], usage: u8, sizes: [ByteLen; 16]) -> bool
     false
 }
 
-// 7: whether no entry is the direction's though one of its sync managers has bits.
-fn no_entry(sheet: &[u8], direction: PdoDirection, sizes: [ByteLen; 16]) -> bool
-    requires { ⌜ managerCount (now sheet) ≤ 16 ⌝ }
-    ensures { λ r. ⌜ r ≡ lacksEntry (sheetData (now (sheet .entry))) sizes direction ⌝ }
+// The place of a direction's entry: the first with its usage; the count where there is none.
+fn first_entry(sheet: &[u8], direction: PdoDirection) -> u8
+    ensures { λ r. ⌜ r ≡ coeEntry (sheetData (now (sheet .entry))) direction ⌝ }
 {
-    let terms = direction.filter_terms();
-    if first_with(sheet, terms.fmmu_usage) != grammar::usage_count(sheet) {
+    first_with(sheet, direction.filter_terms().fmmu_usage)
+}
+
+// 7: whether a direction has no entry though one of its sync managers has bits.
+fn no_entry(sheet: &[u8], direction: PdoDirection, entry: u8, sizes: [ByteLen; 16]) -> bool
+    requires { ⌜ managerCount (now sheet) ≤ 16 ⌝ }
+    ensures { λ r. ⌜ r ≡ lacksAt (sheetData (now (sheet .entry))) sizes direction entry ⌝ }
+{
+    if entry != grammar::usage_count(sheet) {
         return false;
     }
-    some_size(sheet, terms.usage, sizes)
+    some_size(sheet, direction.filter_terms().usage, sizes)
 }
 
 // What counting wants of a sheet: the sizes of a direction's sync managers, or the first of 2 to 7 that holds. Lent a multiplier for each PDO; one that is
@@ -237,7 +243,7 @@ pub fn sizes_of(sheet: &[u8], multipliers: &[u8], direction: PdoDirection) -> Si
     let answer = sized.answer;
     let list = sized.list;
     if let Answer::Accepted = answer {
-        if no_entry(sheet, direction, list) {
+        if no_entry(sheet, direction, first_entry(sheet, direction), list) {
             return no_sizes(7);
         }
     }
@@ -445,33 +451,34 @@ fn by_eeprom(mode: FmmuMode, chosen: Chosen, sizes: [ByteLen; 16]) -> Wanted
     }
 }
 
-// On the CoE path all of a direction use the first entry with its usage.
-fn first_entry(sheet: &[u8], direction: PdoDirection) -> Route
-    ensures { λ r. ⌜ r ≡ coeRoute (sheetData (now (sheet .entry))) direction ⌝ }
+// All of a direction use one entry.
+fn on_entry(entry: u8) -> Route
+    ensures { λ r. ⌜ r ≡ routeOn entry ⌝ }
 {
-    let entry = first_with(sheet, direction.filter_terms().fmmu_usage);
     Route {
         own: false,
         entries: [entry; 16],
     }
 }
 
-// By CoE it is 7 where there is none for a direction that has bits.
+// On the CoE path all of a direction use its entry; it is 7 where there is none for one that has bits.
 fn by_coe(sheet: &[u8], sizes: [ByteLen; 16]) -> Wanted
     requires { ⌜ managerCount (now sheet) ≤ 16 ⌝ }
     ensures { λ r. ⌜ r ≡ coeWants (sheetData (now (sheet .entry))) sizes ⌝ }
 {
-    if no_entry(sheet, PdoDirection::MasterRead, sizes) {
+    let inputs = first_entry(sheet, PdoDirection::MasterRead);
+    if no_entry(sheet, PdoDirection::MasterRead, inputs, sizes) {
         return refused(7);
     }
-    if no_entry(sheet, PdoDirection::MasterWrite, sizes) {
+    let outputs = first_entry(sheet, PdoDirection::MasterWrite);
+    if no_entry(sheet, PdoDirection::MasterWrite, outputs, sizes) {
         return refused(7);
     }
     Wanted {
         answer: Answer::Accepted,
         sizes,
-        inputs: first_entry(sheet, PdoDirection::MasterRead),
-        outputs: first_entry(sheet, PdoDirection::MasterWrite),
+        inputs: on_entry(inputs),
+        outputs: on_entry(outputs),
     }
 }
 

@@ -1,9 +1,7 @@
--- `wanted::first_entry`: the entry of the direction's usage, sixteen times.
+-- `wanted::first_entry`: the first entry of the direction's usage.
 -- Assumes nothing.
 use mathlib.Core.Path.{_∙_}
-use mathlib.Core.Bool.{false}
 use denote.Ref.{now}
-use lib.ListN.{replicate}
 use borrow.Author.Needs.{needs}
 use Rattle.sheet.specs.Sheet.{sheetData}
 use Rattle.passes.specs.Use.{firstWith}
@@ -20,8 +18,7 @@ returns : tie.Need-returns
 returns c =
     let t = c .before in
     let a = t .before .before .args in
-    let e = c .first-with .ensures ∙ (λ i. firstWith (t .filter-terms .ensures i .«fmmu_usage») (sheetData (now (a .sheet)) .usages)) in
-    λ i. record { own = false; entries = replicate 16 (e i) }
+    c .first-with .ensures ∙ (λ i. firstWith (t .filter-terms .ensures i .«fmmu_usage») (sheetData (now (a .sheet)) .usages))
 
 pub first-entry-spec : {M : Type 1} → statement M
 first-entry-spec = tie.close (tie.spec filter-terms-requires first-with-requires returns)

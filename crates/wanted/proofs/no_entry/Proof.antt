@@ -1,6 +1,6 @@
--- `wanted::no_entry`: an entry has the direction's usage, or the sizes decide.
+-- `wanted::no_entry`: the entry is there, or the sizes decide.
 -- Assumes nothing.
-use mathlib.Core.Path.{_≡_, sym, _∙_, ap}
+use mathlib.Core.Path.{_≡_, sym, _∙_}
 use mathlib.Core.Bool.{Bool, _&&_}
 use lib.ListN.{length}
 use lib.Dec.{eqb}
@@ -9,22 +9,16 @@ use borrow.Author.Needs.{needs}
 use borrow.Author.Tests.{eq-eqb, ne-eqb}
 use Rattle.sheet.specs.Sheet.{sheetData}
 use Rattle.sheet.proofs.Managers.{usage-count}
-use Rattle.pdo.specs.declared.Terms.{Terms}
 use Rattle.pdo.specs.Direction.{usageOf}
-use Rattle.passes.specs.Use.{firstWith, coeEntry}
 use Rattle.wanted.specs.Paths.{someSize}
 use Rattle.wanted.proofs.no_entry.Statement.{statement}
 use Rattle.wanted.proofs.no_entry.Tie as tie
 
 -- where the call began
 abbrev start : tie.After-usage-count → tie.Start
-start c = c .before .before .before .before
+start c = c .before .before
 
--- the entry that is found, and how many there are
-entry-is : (c : tie.After-usage-count) → c .before .first-with .result ≡ coeEntry (sheetData (now (start c .args .sheet))) (start c .args .direction)
-entry-is c =
-    c .before .first-with .ensures ∙ ap (λ (t : Terms). firstWith (t .«fmmu_usage») (sheetData (now (start c .args .sheet)) .usages)) (c .before .before .filter-terms .ensures)
-
+-- how many entries there are
 count-is : (c : tie.After-usage-count) → c .usage-count .result ≡ length (sheetData (now (start c .args .sheet)) .usages)
 count-is c = c .usage-count .ensures ∙ sym (usage-count (now (start c .args .sheet)))
 
@@ -32,40 +26,28 @@ count-is c = c .usage-count .ensures ∙ sym (usage-count (now (start c .args .s
 abbrev some : tie.After-usage-count → Bool
 some c = let a = start c .args in someSize (sheetData (now (a .sheet)) .managers) (usageOf (a .direction)) (a .sizes)
 
-filter-terms-requires : tie.Need-filter-terms-requires
-filter-terms-requires c κs = search needs
-
-first-with-requires : tie.Need-first-with-requires
-first-with-requires c κs = search needs
-
 usage-count-requires : tie.Need-usage-count-requires
 usage-count-requires c κs = search needs
 
 returns : tie.Need-returns
 returns c =
     let n = c .before in
-    (λ i. sym (ne-eqb (n .before .first-with .result) (n .usage-count .result) (c .if1 .taken)) i && some n)
-    ∙ (λ i. eqb (entry-is n i) (count-is n i) && some n)
+    let e = start n .args .entry in
+    (λ i. sym (ne-eqb e (n .usage-count .result) (c .if1 .taken)) i && some n) ∙ (λ i. eqb e (count-is n i) && some n)
+
+filter-terms-requires : tie.Need-filter-terms-requires
+filter-terms-requires c κs = search needs
 
 some-size-requires : tie.Need-some-size-requires
-some-size-requires c κs = c .before .before .before .before .before .pre
+some-size-requires c κs = c .before .before .before .before .pre
 
 returns-2 : tie.Need-returns-2
 returns-2 c =
-    let n = c .before .before in
+    let t = c .before in
+    let n = t .before .before in
     let a = start n .args in
-    c .some-size .ensures
-    ∙ ap (λ (t : Terms). someSize (sheetData (now (a .sheet)) .managers) (t .usage) (a .sizes)) (n .before .before .filter-terms .ensures)
-    ∙ (λ i. sym (eq-eqb (n .before .first-with .result) (n .usage-count .result) (c .before .if1 .left)) i && some n)
-    ∙ (λ i. eqb (entry-is n i) (count-is n i) && some n)
+    c .some-size .ensures ∙ (λ i. someSize (sheetData (now (a .sheet)) .managers) (t .filter-terms .ensures i .usage) (a .sizes))
+    ∙ (λ i. sym (eq-eqb (a .entry) (n .usage-count .result) (t .before .if1 .left)) i && some n) ∙ (λ i. eqb (a .entry) (count-is n i) && some n)
 
 pub no-entry-spec : {M : Type 1} → statement M
-no-entry-spec =
-    tie.close
-    (tie.spec
-    filter-terms-requires
-    first-with-requires
-    usage-count-requires
-    returns
-    some-size-requires
-    returns-2)
+no-entry-spec = tie.close (tie.spec usage-count-requires returns filter-terms-requires some-size-requires returns-2)

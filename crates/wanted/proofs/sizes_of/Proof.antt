@@ -1,6 +1,6 @@
 -- `wanted::sizes_of`: the sheet's refusals, then 6, then 7; what is worked out before each return decides it.
 -- Assumes nothing.
-use mathlib.Core.Path.{_≡_, sym, _∙_}
+use mathlib.Core.Path.{_≡_, sym, _∙_, ap}
 use mathlib.Core.List.{List}
 use denote.Ref.{now}
 use borrow.Author.Needs.{needs}
@@ -13,7 +13,7 @@ use Rattle.sheet.proofs.Kept.{Accepts}
 use Rattle.sheet.proofs.Reading.{Checked, checked-case, checked-accepts}
 use Rattle.pdo.specs.Direction.{usageOf}
 use Rattle.wanted.specs.ByKind.{bitsIn, ofUsage}
-use Rattle.wanted.specs.Paths.{roundedIn}
+use Rattle.wanted.specs.Paths.{roundedIn, lacksAt, lacksEntry}
 use Rattle.wanted.specs.Wanted.{sizesAfter}
 use Rattle.wanted.proofs.Sizing.{sheet-sizes, eeprom-sizes, six-sizes, seven-sizes, all-sizes}
 use Rattle.wanted.proofs.sizes_of.Statement.{statement}
@@ -46,6 +46,15 @@ rounds c =
     let s = now (start c .args .sheet) in
     let e = _∙_ {c = mine c} (u .of-usage .ensures) (λ i. ofUsage (sheetData s .managers) (t .filter-terms .ensures i .usage) (t .before .tally .ensures i)) in
     c .rounded .ensures ∙ (λ i. sizesAfter (roundedIn (managerCount s) (e i)))
+
+-- 7 is asked of the entry that is found
+abbrev sized : tie.After-no-entry → tie.After-rounded
+sized c = c .before .before .before .before .before .before
+
+lacks : (c : tie.After-no-entry) → c .no-entry .result ≡ lacksEntry (sheetData (now (start (sized c) .args .sheet))) (sized c .rounded .result .list) (start (sized c) .args .direction)
+lacks c =
+    let a = start (sized c) .args in
+    c .no-entry .ensures ∙ ap (lacksAt (sheetData (now (a .sheet))) (sized c .rounded .result .list) (a .direction)) (c .before .first-entry .ensures)
 
 check-requires : tie.Need-check-requires
 check-requires c κs = search needs
@@ -92,8 +101,11 @@ returns-2 c =
 enum-told-2 : tie.Need-enum-told-2
 enum-told-2 c = search needs
 
+first-entry-requires : tie.Need-first-entry-requires
+first-entry-requires c κs = search needs
+
 no-entry-requires : tie.Need-no-entry-requires
-no-entry-requires c κs = sound (pathed (c .before .before .before .before) .before) .managers
+no-entry-requires c κs = sound (pathed (c .before .before .before .before .before) .before) .managers
 
 no-sizes-requires-2 : tie.Need-no-sizes-requires-2
 no-sizes-requires-2 c κs = search needs
@@ -101,12 +113,12 @@ no-sizes-requires-2 c κs = search needs
 returns-3 : tie.Need-returns-3
 returns-3 c =
     let n = c .before .before in
-    let e = n .before .before .before .before in
+    let e = n .before .before .before .before .before in
     let r = e .before in
     let p = pathed r in
     let a = start r .args in
     seven-sizes (now (a .sheet)) (now (a .multipliers)) (a .direction) (keeps (p .before)) (p .coe-on .result) (p .coe-on .ensures) (r .rounded .result) (rounds r)
-    (not-false (p .coe-on .result) (e .if1 .left)) (n .before .enum-told2 .given .1) (c .no-sizes2 .result) (sym (n .no-entry .ensures) ∙ c .before .if2 .taken) (c .no-sizes2 .ensures)
+    (not-false (p .coe-on .result) (e .if1 .left)) (n .before .before .enum-told2 .given .1) (c .no-sizes2 .result) (sym (lacks n) ∙ c .before .if2 .taken) (c .no-sizes2 .ensures)
 
 enum-told-3 : tie.Need-enum-told-3
 enum-told-3 c = search needs
@@ -114,12 +126,12 @@ enum-told-3 c = search needs
 returns-4 : tie.Need-returns-4
 returns-4 c =
     let n = c .before in
-    let e = n .before .before .before .before in
+    let e = n .before .before .before .before .before in
     let r = e .before in
     let p = pathed r in
     let a = start r .args in
     all-sizes (now (a .sheet)) (now (a .multipliers)) (a .direction) (keeps (p .before)) (p .coe-on .result) (p .coe-on .ensures) (r .rounded .result) (rounds r)
-    (not-false (p .coe-on .result) (e .if1 .left)) (n .before .enum-told2 .given .1) (sym (n .no-entry .ensures) ∙ c .if2 .left)
+    (not-false (p .coe-on .result) (e .if1 .left)) (n .before .before .enum-told2 .given .1) (sym (lacks n) ∙ c .if2 .left)
 
 returns-5 : tie.Need-returns-5
 returns-5 c =
@@ -146,6 +158,7 @@ sizes-of-spec =
     rounded-requires
     returns-2
     enum-told-2
+    first-entry-requires
     no-entry-requires
     no-sizes-requires-2
     returns-3
