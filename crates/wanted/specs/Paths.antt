@@ -37,7 +37,7 @@ roundedIn n bits =
 unfoldable pub someSize : List SyncManager → ℕ → List ByteLen → Bool
 someSize ms usage sizes = someBelow (λ k. hasUsage usage ms k && ltb 0 (sizeAt sizes k)) (length ms)
 
--- 7 of a direction, on the CoE path: of the place where its entry is looked for, and of its entry
+-- 7 of a direction, on the CoE path: by an entry that is handed on, and by the one that the sheet has
 abbrev pub lacksAt : Data → List ByteLen → PdoDirection → ℕ → Bool
 lacksAt d sizes r entry = eqb entry (length (d .usages)) && someSize (d .managers) (usageOf r) sizes
 

@@ -461,7 +461,7 @@ fn on_entry(entry: u8) -> Route
     }
 }
 
-// On the CoE path that is the direction's; where there is none for one that has bits, it is 7.
+// On the CoE path all of a direction use its entry; it is 7 where there is none for one that has bits.
 fn by_coe(sheet: &[u8], sizes: [ByteLen; 16]) -> Wanted
     requires { ⌜ managerCount (now sheet) ≤ 16 ⌝ }
     ensures { λ r. ⌜ r ≡ coeWants (sheetData (now (sheet .entry))) sizes ⌝ }
