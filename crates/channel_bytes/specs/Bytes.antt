@@ -1,44 +1,54 @@
 -- ETG1000.4 6.7.2, the bytes of a sync manager that are made up of fields: control, status and enable.
 -- Assumes nothing.
-use mathlib.Core.Bool.{Bool, cond, not, _&&_, _||_}
-use mathlib.Core.List.{[], _∷_}
-use Prim.Native.Nat.{ℕ, _+_, _*_}
-use lib.Dec.{eqb}
-use Rattle.wire.specs.Outcome.{Outcome, refused, accepted, when, decide}
+use mathlib.Core.Bool.{Bool, true, false, cond, _||_}
+use mathlib.Core.Option.{Option, none, some}
+use Prim.Native.Nat.{ℕ, _+_, _*_, _%_}
+use lib.Dec.{eqb, ltb}
 use Rattle.wire.specs.Field.{bitsAt, flagAt, bit}
 use Rattle.channel_bytes.specs.declared.OperationMode.{OperationMode}
-use Rattle.channel_bytes.specs.declared.OperationMode.the-variants.{Normal, Mailbox}
+use Rattle.channel_bytes.specs.declared.OperationMode.the-variants as mode
 use Rattle.channel_bytes.specs.declared.Direction.{Direction}
-use Rattle.channel_bytes.specs.declared.Direction.the-variants.{MasterRead, MasterWrite}
+use Rattle.channel_bytes.specs.declared.Direction.the-variants as direction
 use Rattle.channel_bytes.specs.declared.BufferState.{BufferState}
 use Rattle.channel_bytes.specs.declared.BufferState.the-variants.{First, Second, Third, Next}
 use Rattle.channel_bytes.specs.declared.Control.{Control}
 use Rattle.channel_bytes.specs.declared.Status.{Status}
 use Rattle.channel_bytes.specs.declared.Enable.{Enable}
-use Rattle.channel_bytes.specs.declared.ControlRead.{ControlRead}
-use Rattle.channel_bytes.specs.declared.ControlRead.the-variants.{Named, Refused}
 
--- mode is Normal 0 or Mailbox 2
+-- mode is Normal 0 or Mailbox 2; any other is the case with its number (document 02, 8/13)
 abbrev pub modeNumber : OperationMode → ℕ
-modeNumber Normal = 0
-modeNumber Mailbox = 2
+modeNumber mode.Normal = 0
+modeNumber mode.Mailbox = 2
+modeNumber (mode.Unnamed k) = k
 
 abbrev pub modeAt : ℕ → OperationMode
-modeAt n = cond (eqb n 2) Mailbox Normal
+modeAt n = cond (eqb n 0) mode.Normal (cond (eqb n 2) mode.Mailbox (mode.Unnamed n))
 
 abbrev pub modeNamed : ℕ → Bool
 modeNamed n = eqb n 0 || eqb n 2
 
--- direction is MasterRead 0 or MasterWrite 1
+-- the number of the case with a number
+abbrev pub modeUnnamed : OperationMode → Option ℕ
+modeUnnamed mode.Normal = none
+modeUnnamed mode.Mailbox = none
+modeUnnamed (mode.Unnamed k) = some k
+
+-- direction is MasterRead 0 or MasterWrite 1; any other likewise
 abbrev pub directionNumber : Direction → ℕ
-directionNumber MasterRead = 0
-directionNumber MasterWrite = 1
+directionNumber direction.MasterRead = 0
+directionNumber direction.MasterWrite = 1
+directionNumber (direction.Unnamed k) = k
 
 abbrev pub directionAt : ℕ → Direction
-directionAt n = cond (eqb n 1) MasterWrite MasterRead
+directionAt n = cond (eqb n 0) direction.MasterRead (cond (eqb n 1) direction.MasterWrite (direction.Unnamed n))
 
 abbrev pub directionNamed : ℕ → Bool
 directionNamed n = eqb n 0 || eqb n 1
+
+abbrev pub directionUnnamed : Direction → Option ℕ
+directionUnnamed direction.MasterRead = none
+directionUnnamed direction.MasterWrite = none
+directionUnnamed (direction.Unnamed k) = some k
 
 -- buffer state: First, Second, Third, Next as 0-3
 abbrev pub stateNumber : BufferState → ℕ
@@ -61,17 +71,30 @@ controlAt b =
       «watchdog_enable» = flagAt b 6;
     }
 
--- 5: an unnamed mode or direction
-unfoldable pub unnamed : ℕ → Bool
-unnamed b = not (modeNamed (bitsAt b 0 2) && directionNamed (bitsAt b 2 2))
-
+-- of an unnamed number the low two bits; bit 7 is 0
 unfoldable pub controlByte : Control → ℕ
 controlByte c =
-    modeNumber (c .«operation_mode»)
-    + 4 * directionNumber (c .direction)
+    modeNumber (c .«operation_mode») % 4
+    + 4 * (directionNumber (c .direction) % 4)
     + 16 * bit (c .«ecat_event_enable»)
     + 32 * bit (c .«dls_user_event_enable»)
     + 64 * bit (c .«watchdog_enable»)
+
+-- an unnamed mode or direction, whatever its number
+abbrev pub isUnnamed : Option ℕ → Bool
+isUnnamed none = false
+isUnnamed (some k) = true
+
+unfoldable pub unnamed : Control → Bool
+unnamed c = isUnnamed (modeUnnamed (c .«operation_mode»)) || isUnnamed (directionUnnamed (c .direction))
+
+-- 13: an unnamed number that is named or above 3
+abbrev pub wrongNumber : (ℕ → Bool) → Option ℕ → Bool
+wrongNumber named none = false
+wrongNumber named (some k) = named k || ltb 3 k
+
+unfoldable pub misnumbered : Control → Bool
+misnumbered c = wrongNumber modeNamed (modeUnnamed (c .«operation_mode»)) || wrongNumber directionNamed (directionUnnamed (c .direction))
 
 -- byte 5, status: 0 write event, 1 read event, 3 mailbox full, 4-5 buffer state, 6 read buffer open, 7 write buffer open
 unfoldable pub statusAt : ℕ → Status
@@ -112,12 +135,3 @@ enableLow e =
 
 unfoldable pub enableHigh : Enable → ℕ
 enableHigh e = bit (e .«channel_pdi_disabled») + 2 * bit (e .«repeat_ack»)
-
--- reading a control byte, with its refusal
-abbrev pub readControl : ℕ → Outcome Control
-readControl b = decide (when 5 (unnamed b) ∷ []) (controlAt b)
-
--- what the cases of `ControlRead` say
-abbrev pub controlReadOf : ControlRead → Outcome Control
-controlReadOf (Named c) = accepted c
-controlReadOf (Refused n) = refused n

@@ -3,7 +3,7 @@ ghost use mathlib.Core.Path.{_≡_};
 ghost use mathlib.Core.List.{[], _∷_};
 ghost use Prim.Native.Nat.{_<_};
 ghost use Rattle.channel_bytes.specs.Bytes as meaning;
-ghost use Rattle.channel_bytes.specs.Bytes.{modeNumber, modeAt, directionNumber, directionAt, stateNumber, stateAt, controlAt, controlByte, statusAt, statusByte, enableAt, enableLow, enableHigh, readControl, controlReadOf};
+ghost use Rattle.channel_bytes.specs.Bytes.{modeNumber, modeAt, modeNamed, modeUnnamed, directionNumber, directionAt, directionNamed, directionUnnamed, wrongNumber, stateNumber, stateAt, controlAt, controlByte, statusAt, statusByte, enableAt, enableLow, enableHigh};
 
 // ETG1000.4 6.7.2, byte 4.
 pub struct Control {
@@ -34,14 +34,17 @@ pub struct Enable {
     pub repeat_ack: bool,
 }
 
+// A number without a name is shown as it stands in the byte.
 pub enum OperationMode {
     Normal,
     Mailbox,
+    Unnamed(u8),
 }
 
 pub enum Direction {
     MasterRead,
     MasterWrite,
+    Unnamed(u8),
 }
 
 pub enum BufferState {
@@ -51,32 +54,56 @@ pub enum BufferState {
     Next,
 }
 
-// What reading a control byte answers.
-pub enum ControlRead {
-    Named(Control),
-    Refused(u8),
-}
-
 impl OperationMode {
-    // The number that stands for it.
+    // The number that stands for it; in two choices, through which a byte that is read and written again stays one mask.
     pub fn number(self) -> u8
-        ensures { λ r. ⌜ (r ≡ modeNumber self) × (r < 4) ⌝ }
+        ensures { λ r. ⌜ r ≡ modeNumber self ⌝ }
+    {
+        let unnamed = match self {
+            OperationMode::Unnamed(number) => number,
+            _ => 0,
+        };
+        match self {
+            OperationMode::Mailbox => 2,
+            _ => unnamed,
+        }
+    }
+
+    // Whether it is the case with a number, but of a number that has a name or is above 3.
+    fn misnumbered(self) -> bool
+        ensures { λ r. ⌜ r ≡ wrongNumber modeNamed (modeUnnamed self) ⌝ }
     {
         match self {
-            OperationMode::Normal => 0,
-            OperationMode::Mailbox => 2,
+            OperationMode::Normal => false,
+            OperationMode::Mailbox => false,
+            OperationMode::Unnamed(number) => number == 0 || number == 2 || 3 < number,
         }
     }
 }
 
 impl Direction {
-    // The number that stands for it.
+    // The number that stands for it, likewise.
     pub fn number(self) -> u8
-        ensures { λ r. ⌜ (r ≡ directionNumber self) × (r < 4) ⌝ }
+        ensures { λ r. ⌜ r ≡ directionNumber self ⌝ }
+    {
+        let unnamed = match self {
+            Direction::Unnamed(number) => number,
+            _ => 0,
+        };
+        match self {
+            Direction::MasterWrite => 1,
+            _ => unnamed,
+        }
+    }
+
+    // Whether it is the case with a number, but of a number that has a name or is above 3.
+    fn misnumbered(self) -> bool
+        ensures { λ r. ⌜ r ≡ wrongNumber directionNamed (directionUnnamed self) ⌝ }
     {
         match self {
-            Direction::MasterRead => 0,
-            Direction::MasterWrite => 1,
+            Direction::MasterRead => false,
+            Direction::MasterWrite => false,
+            Direction::Unnamed(number) => number == 0 || number == 1 || 3 < number,
         }
     }
 }
@@ -115,33 +142,30 @@ impl BufferState {
 fn mode_at(number: u8) -> OperationMode
     ensures { λ r. ⌜ r ≡ modeAt number ⌝ }
 {
+    if number == 0 {
+        return OperationMode::Normal;
+    }
     if number == 2 {
         return OperationMode::Mailbox;
     }
-    OperationMode::Normal
+    OperationMode::Unnamed(number)
 }
 
 fn direction_at(number: u8) -> Direction
     ensures { λ r. ⌜ r ≡ directionAt number ⌝ }
 {
+    if number == 0 {
+        return Direction::MasterRead;
+    }
     if number == 1 {
         return Direction::MasterWrite;
     }
-    Direction::MasterRead
+    Direction::Unnamed(number)
 }
 
 impl Control {
-    // Whether a byte's mode or direction has no name.
-    pub fn unnamed(byte: u8) -> bool
-        ensures { λ r. ⌜ r ≡ meaning.unnamed byte ⌝ }
-    {
-        let mode = byte & 0x03;
-        let direction = (byte >> 2) & 0x03;
-        mode == 1 || mode == 3 || 1 < direction
-    }
-
-    // The control that a byte says; a mode or a direction without a name reads as 0.
-    pub fn named(byte: u8) -> Control
+    // The control that a byte says; its reserved bit is dropped.
+    pub fn unpack(byte: u8) -> Control
         ensures { λ r. ⌜ r ≡ controlAt byte ⌝ }
     {
         Control {
@@ -153,24 +177,41 @@ impl Control {
         }
     }
 
-    // The control that a byte says, if its mode and direction have names.
-    pub fn unpack(byte: u8) -> ControlRead
-        ensures { λ r. ⌜ controlReadOf r ≡ readControl byte ⌝ }
+    // Whether its mode or its direction is the case with a number, whatever the number.
+    pub fn unnamed(self) -> bool
+        ensures { λ r. ⌜ r ≡ meaning.unnamed self ⌝ }
     {
-        if Control::unnamed(byte) {
-            return ControlRead::Refused(5);
+        let mode = self.operation_mode;
+        let direction = self.direction;
+        if let OperationMode::Unnamed(_) = mode {
+            return true;
         }
-        ControlRead::Named(Control::named(byte))
+        if let Direction::Unnamed(_) = direction {
+            return true;
+        }
+        false
     }
 
-    // The byte of a control; its reserved bit is 0.
+    // 13: whether an unnamed number is one that is named, or above 3.
+    pub fn misnumbered(self) -> bool
+        ensures { λ r. ⌜ r ≡ meaning.misnumbered self ⌝ }
+    {
+        let mode = self.operation_mode;
+        let direction = self.direction;
+        if mode.misnumbered() {
+            return true;
+        }
+        direction.misnumbered()
+    }
+
+    // The byte of a control: of an unnamed number its low two bits, and the reserved bit is 0.
     pub fn pack(self) -> u8
         ensures { λ r. ⌜ r ≡ controlByte self ⌝ }
     {
         let mode = self.operation_mode;
         let direction = self.direction;
-        mode.number()
-            | (direction.number() << 2)
+        (mode.number() & 0x03)
+            | ((direction.number() & 0x03) << 2)
             | (wire::bit_of(self.ecat_event_enable) << 4)
             | (wire::bit_of(self.dls_user_event_enable) << 5)
             | (wire::bit_of(self.watchdog_enable) << 6)

@@ -12,17 +12,16 @@ use Rattle.wire.specs.Outcome.{Outcome, refused, accepted, Refusal, when, first
 use Rattle.wire.specs.Room.{InRoom, textIn, over}
 use Rattle.wire.specs.declared.Written.{Written}
 use Rattle.area.specs.Area.{flat}
-use Rattle.channel_bytes.specs.Bytes.{unnamed}
 use Rattle.sheet.specs.declared.SyncManager.{SyncManager}
 use Rattle.sheet.specs.declared.Device.{Device}
 use Rattle.sheet.specs.declared.SheetRead.{SheetRead}
 use Rattle.sheet.specs.Device.{Data, dataOf}
-use Rattle.sheet.specs.Sheet.{noManager, noDevice, answerOf}
+use Rattle.sheet.specs.Sheet.{someUnnamed, noManager, noDevice, answerOf}
 use Rattle.writer.specs.Form.{pdoBytes, sheetOf}
 use Rattle.dump.specs.declared.Head.{Head}
 use Rattle.dump.specs.Parts.{partsOf}
 use Rattle.dump.specs.Categories.{categories, contentFor, unended}
-use Rattle.dump.specs.Records.{usageFor, managerLong, controlIn, managerFor, pdosIn, notRecords}
+use Rattle.dump.specs.Records.{usageFor, managerLong, managerFor, pdosIn, notRecords}
 
 -- the SyncM records and the FMMU bytes of categories
 abbrev pub managerRecords : List (List ℕ) → List (List ℕ)
@@ -51,17 +50,13 @@ abbrev pub ruleBroken : (flags : ℕ) → List SyncManager → List ℕ → (p :
 ruleBroken flags ms us p =
     ltb 7 flags || (ltb 16 (length ms) || (ltb 16 (length us) || (ltb 255 p || (someOf (λ m. ltb 4 (m .«usage_type»)) ms || someOf (ltb 3) us))))
 
--- 5: any control has an unnamed mode or direction
-abbrev pub someUnnamed : List (List ℕ) → Bool
-someUnnamed cs = someOf (λ r. unnamed (controlIn r)) (managerRecords cs)
-
--- the refusals in their order; then 12 by the room
+-- the refusals in their order, 5 being the sheet's own; then 12 by the room
 abbrev pub dumpRefusals : Head → List ℕ → List Refusal
 dumpRefusals h dump =
     when 16 (unended dump)
     ∷ when 17 (notRecords (categories dump))
     ∷ when 4 (ruleBroken (h .flags) (map managerFor (managerRecords (categories dump))) (usagesFor (categories dump)) (length (pdosIn (categories dump))))
-    ∷ when 5 (someUnnamed (categories dump))
+    ∷ when 5 (someUnnamed (map managerFor (managerRecords (categories dump))))
     ∷ []
 
 -- the PDO records in the sheet's own encoding

@@ -22,11 +22,8 @@ usageFor b = cond (eqb b 255) 0 b
 abbrev pub managerLong : List ℕ → ℕ
 managerLong l = whole 8 l
 
-abbrev pub controlIn : List ℕ → ℕ
-controlIn r = getD r 4 0
-
 abbrev pub managerFor : List ℕ → SyncManager
-managerFor r = record { «start_addr» = littleAt r 0 2; control = controlAt (controlIn r); enable = flagAt (getD r 6 0) 0; «usage_type» = getD r 7 0 }
+managerFor r = record { «start_addr» = littleAt r 0 2; control = controlAt (getD r 4 0); enable = flagAt (getD r 6 0) 0; «usage_type» = getD r 7 0 }
 
 -- TxPDO, RxPDO: index (2), entries, sync manager, synchronisation, name, flags (2)
 -- then for each entry: index (2), sub-index, name, type, bit length, flags (2)

@@ -9,15 +9,14 @@ ghost use Rattle.wire.specs.Number.{littleAt};
 ghost use Rattle.wire.specs.Lists.{someOf};
 ghost use Rattle.wire.specs.Room.{over};
 ghost use Rattle.area.specs.Area.{flat, storedAt};
-ghost use Rattle.channel_bytes.specs.Bytes.{unnamed};
-ghost use Rattle.sheet.specs.Sheet.{noManager};
+ghost use Rattle.sheet.specs.Sheet.{someUnnamed, noManager};
 ghost use Rattle.writer.specs.Form.{pdoBytes};
 ghost use Rattle.dump.specs.Parts as Parts;
 ghost use Rattle.dump.specs.Parts.{partsOf, restOf};
 ghost use Rattle.dump.specs.Categories.{categoryLong, categories};
 ghost use Rattle.dump.specs.Categories as Categories;
 ghost use Rattle.dump.specs.Looked.{frontContent, firstNoted, knownType, Finds, standing, moreThan, pdosFrom};
-ghost use Rattle.dump.specs.Records.{usageFor, managerLong, controlIn, managerFor, pdoLong, bitsIn, pdoFor, pdosFor, nonempty};
+ghost use Rattle.dump.specs.Records.{usageFor, managerLong, managerFor, pdoLong, bitsIn, pdoFor, pdosFor, nonempty};
 ghost use Rattle.dump.specs.Dump.{ruleBroken, deviceWith, ReadsDump, WritesSheet};
 use channel_bytes::Control;
 use pdi::ByteLen;
@@ -195,7 +194,7 @@ fn manager(rest: &[u8]) -> SyncManager
 {
     SyncManager {
         start_addr: word(rest),
-        control: Control::named(wire::byte_at(rest, 4)),
+        control: Control::unpack(wire::byte_at(rest, 4)),
         enable: wire::flag(wire::byte_at(rest, 6), 0),
         usage_type: wire::byte_at(rest, 7),
     }
@@ -216,14 +215,15 @@ fn some_manager_unnamed(records: &[u8]) -> bool
     false
 }
 
-// 5: whether a control has no name.
+// 5: whether a control has an unnamed mode or direction.
 fn some_control_unnamed(records: &[u8]) -> bool
-    ensures { λ r. ⌜ r ≡ someOf (λ m. unnamed (controlIn m)) (partsOf managerLong (now (records .entry))) ⌝ }
+    ensures { λ r. ⌜ r ≡ someUnnamed (map managerFor (partsOf managerLong (now (records .entry)))) ⌝ }
 {
     let n = records.len() / 8;
     let mut k = 0;
     while k < n {
-        if Control::unnamed(records[8 * k + 4]) {
+        let control = Control::unpack(records[8 * k + 4]);
+        if control.unnamed() {
             return true;
         }
         k += 1;

@@ -5,14 +5,13 @@ use mathlib.Core.Bool.{cond}
 use mathlib.Core.List.{List, [], _∷_, _++_}
 use Prim.Native.Nat.{ℕ, suc}
 use lib.ListN.{take}
-use Rattle.wire.specs.Outcome.{Outcome, refused, accepted}
 use Rattle.wire.specs.Text.{decimalOf}
 use Rattle.wire.specs.declared.Written.{Written}
 use Rattle.wire.specs.declared.Written.the-variants.{Len, Refused}
 use Rattle.pdi.specs.declared.PdiSegment.{PdiSegment}
 use Rattle.pdi.specs.Segment.{segmentText}
 use Rattle.sync_manager_channel.specs.declared.SyncManagerChannel.{SyncManagerChannel}
-use Rattle.sync_manager_channel.specs.Image.{readChannel}
+use Rattle.sync_manager_channel.specs.Image.{channelOf}
 use Rattle.sync_manager_channel.specs.Text.{channelText}
 use Rattle.fmmu.specs.declared.Fmmu.{Fmmu}
 use Rattle.fmmu.specs.Image.{fieldsOf}
@@ -35,10 +34,9 @@ inputsFront = 105 ∷ 110 ∷ 112 ∷ 117 ∷ 116 ∷ 115 ∷ 32 ∷ []
 abbrev pub outputsFront : List ℕ
 outputsFront = 111 ∷ 117 ∷ 116 ∷ 112 ∷ 117 ∷ 116 ∷ 115 ∷ 32 ∷ []
 
--- SM0: start 0x1000, size 0x0080 (128), .. An image that doesn't read has no line; those of a plan all read.
-unfoldable pub channelLine : ℕ → Outcome SyncManagerChannel → List ℕ
-channelLine k (refused n) = []
-channelLine k (accepted s) = line (numbered (83 ∷ 77 ∷ []) k) (channelText s)
+-- SM0: start 0x1000, size 0x0080 (128), .. Every image has its line.
+unfoldable pub channelLine : ℕ → SyncManagerChannel → List ℕ
+channelLine k s = line (numbered (83 ∷ 77 ∷ []) k) (channelText s)
 
 -- FMMU0: logical start 0x00000005:0, .. where the entry is enabled
 unfoldable pub entryLine : ℕ → Fmmu → List ℕ
@@ -50,7 +48,7 @@ lines lineOf k [] = []
 lines lineOf k (e ∷ es) = lineOf k e ++ lines lineOf (suc k) es
 
 abbrev pub imageLine : ℕ → List ℕ → List ℕ
-imageLine k e = channelLine k (readChannel e)
+imageLine k e = channelLine k (channelOf e)
 
 abbrev pub enabledLine : ℕ → List ℕ → List ℕ
 enabledLine k e = entryLine k (fieldsOf e)

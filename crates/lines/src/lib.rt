@@ -7,7 +7,6 @@ ghost use Rattle.area.specs.Area.{areaOf, entriesOf};
 ghost use Rattle.lines.specs.Text.{shown, line, numbered, imageLine, enabledLine, lines, refusedText, bayText};
 use fmmu::Fmmu;
 use pdi::PdiSegment;
-use sync_manager_channel::ChannelRead;
 use sync_manager_channel::SyncManagerChannel;
 use wire::Written;
 
@@ -47,15 +46,11 @@ fn put_segment(room: &mut [u8], from: usize, front: &[u8], segment: PdiSegment) 
 fn put_channel(room: &mut [u8], from: usize, k: u16, image: [u8; 8]) -> usize
     ensures { λ r. ⌜ Types (page (now (room .entry)) from) (page (now (room .exit)) r) (imageLine k image) ⌝ }
 {
-    match SyncManagerChannel::unpack(image) {
-        ChannelRead::Channel(channel) => {
-            let mut text = [0u8; 96];
-            let written = channel.fmt(&mut text);
-            let at = put_front(room, from, b"SM", k);
-            put_shown(room, at, &text, written)
-        }
-        ChannelRead::Refused(_) => from,
-    }
+    let channel = SyncManagerChannel::unpack(image);
+    let mut text = [0u8; 96];
+    let written = channel.fmt(&mut text);
+    let at = put_front(room, from, b"SM", k);
+    put_shown(room, at, &text, written)
 }
 
 // An entry's line, if it is enabled.

@@ -264,10 +264,12 @@ fn without_end(answer: Written) -> usize {
     }
 }
 
-// What lockerplan prints for the sheet.
+// What lockerplan prints for the sheet; where areas are given, over those.
 pub fn plan(request: &[u8]) {
-    let fmmus = [0u8; 256];
-    let channels = [0u8; 128];
+    let mut fmmus = [0u8; 256];
+    let mut channels = [0u8; 128];
+    wire::copy(parts::fmmus(request), &mut fmmus);
+    wire::copy(parts::channels(request), &mut channels);
     let mut text = [0u8; 4096];
     let answer = report::report(parts::sheet(request), fmmus, channels, &mut text);
     say::text(wire::front(&text, without_end(answer)));

@@ -107,8 +107,8 @@ fn fits(room: u16, sheet: u16, records: u16, fmmus: u16, channels: u16) -> bool 
 fn whole_record(letter: u8, fmmus: u16, channels: u16) -> bool {
     match letter {
         b'f' | b'W' => fmmus == 14,
-        b'y' | b'Z' => channels == 21,
-        b'v' => fmmus == 128,
+        b'y' | b'Z' => channels == 21 || channels == 23,
+        b'v' => fmmus == 128 || fmmus == 192,
         _ => true,
     }
 }

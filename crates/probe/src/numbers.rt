@@ -9,7 +9,6 @@ use pdi::PdiSegment;
 use pdi::Placed;
 use pdi::Rounded;
 use sync_manager_channel::Control;
-use sync_manager_channel::ControlRead;
 use sync_manager_channel::Enable;
 use sync_manager_channel::Status;
 
@@ -117,13 +116,6 @@ pub fn enable_items(enable: Enable) -> Line {
     ]
 }
 
-fn control(byte: u8) -> Line {
-    match Control::unpack(byte) {
-        ControlRead::Named(read) => control_items(read),
-        ControlRead::Refused(number) => say::refused(number),
-    }
-}
-
 pub fn answer(letter: u8, a: u32, b: u32, c: u32) -> Line {
     match letter {
         b'r' => rounded(joined(a, c)),
@@ -131,7 +123,7 @@ pub fn answer(letter: u8, a: u32, b: u32, c: u32) -> Line {
         b'b' => increment_byte_aligned(a, joined(b, c)),
         b'u' => up_to(a, c),
         b'g' => less(a, b, c),
-        b'k' => control((c % 256) as u8),
+        b'k' => control_items(Control::unpack((c % 256) as u8)),
         b'j' => status_items(Status::unpack((c % 256) as u8)),
         b'e' => enable_items(Enable::unpack((c % 256) as u8, (c / 256 % 256) as u8)),
         _ => say::one(say::UNKNOWN),

@@ -36,14 +36,21 @@ fn fmmu_of(bytes: &[u8]) -> Fmmu {
     }
 }
 
-fn mode_of(number: u8) -> OperationMode {
+// A mode and a direction by their numbers, or as the case with the number.
+fn mode_of(number: u8, unnamed: bool) -> OperationMode {
+    if unnamed {
+        return OperationMode::Unnamed(number);
+    }
     if number == 0 {
         return OperationMode::Normal;
     }
     OperationMode::Mailbox
 }
 
-fn direction_of(number: u8) -> Direction {
+fn direction_of(number: u8, unnamed: bool) -> Direction {
+    if unnamed {
+        return Direction::Unnamed(number);
+    }
     if number == 0 {
         return Direction::MasterRead;
     }
@@ -60,11 +67,11 @@ fn state_of(number: u8) -> BufferState {
     }
 }
 
-// A sync manager record of twenty-one bytes, in its parts.
+// A sync manager record of twenty-one bytes, in its parts; two more say whether mode and direction are the case with the number.
 fn control_of(bytes: &[u8]) -> Control {
     Control {
-        operation_mode: mode_of(wire::byte_at(bytes, 4)),
-        direction: direction_of(wire::byte_at(bytes, 5)),
+        operation_mode: mode_of(wire::byte_at(bytes, 4), set(bytes, 21)),
+        direction: direction_of(wire::byte_at(bytes, 5), set(bytes, 22)),
         ecat_event_enable: set(bytes, 6),
         dls_user_event_enable: set(bytes, 7),
         watchdog_enable: set(bytes, 8),

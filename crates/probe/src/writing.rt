@@ -9,6 +9,8 @@ use sheet::Answer;
 use sheet::Device;
 use sheet::SyncManager;
 use sync_manager_channel::Control;
+use sync_manager_channel::Direction;
+use sync_manager_channel::OperationMode;
 use wire::Written;
 
 // What stands in the room up to a length, and how many bytes behind that aren't as they were.
@@ -70,11 +72,24 @@ fn number8(record: &[u8], at: usize) -> usize {
     numbers::joined(parts::number4(bytes, 0), parts::number4(bytes, 4)) as usize
 }
 
-// A sync manager of five bytes.
-fn manager(bytes: &[u8]) -> SyncManager {
+// A control byte's mode and direction, but where four bytes give a number: whether the mode is the case with a number, that number, and the
+// same of the direction.
+fn control(byte: u8, given: &[u8]) -> Control {
+    let mut control = Control::unpack(byte);
+    if records::set(given, 0) {
+        control.operation_mode = OperationMode::Unnamed(wire::byte_at(given, 1));
+    }
+    if records::set(given, 2) {
+        control.direction = Direction::Unnamed(wire::byte_at(given, 3));
+    }
+    control
+}
+
+// A sync manager of five bytes, and of four behind all of the record.
+fn manager(bytes: &[u8], given: &[u8]) -> SyncManager {
     SyncManager {
         start_addr: parts::number2(bytes, 0),
-        control: Control::named(wire::byte_at(bytes, 2)),
+        control: control(wire::byte_at(bytes, 2), given),
         enable: records::set(bytes, 3),
         usage_type: wire::byte_at(bytes, 4),
     }
@@ -82,10 +97,13 @@ fn manager(bytes: &[u8]) -> SyncManager {
 
 // The sixteen sync managers of a record.
 fn managers(record: &[u8]) -> [SyncManager; 16] {
-    let mut list = [manager(b""); 16];
+    let mut list = [manager(b"", b""); 16];
     let mut k = 0;
     while k < 16 {
-        list[k] = manager(parts::part(record, 32 + 5 * k, 5));
+        list[k] = manager(
+            parts::part(record, 32 + 5 * k, 5),
+            parts::part(record, 128 + 4 * k, 4),
+        );
         k += 1;
     }
     list
@@ -98,7 +116,7 @@ fn usages(record: &[u8]) -> [u8; 16] {
     list
 }
 
-// A device record of 128 bytes.
+// A device record of 128 bytes, or of 192.
 fn device_of(record: &[u8]) -> Device {
     Device {
         has_mailbox: records::set(record, 0),

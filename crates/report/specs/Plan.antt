@@ -1,14 +1,14 @@
 -- The mailbox pass and the call for both directions over two areas: offset and group 0, no oversampling, no pairs; refused by the first that refuses.
 -- Assumes nothing.
-use mathlib.Core.List.{List, [], _∷_, _++_}
+use mathlib.Core.Path.{_≡_}
+use mathlib.Core.List.{List, [], _++_}
 use Prim.Native.Nat.{ℕ}
-use lib.ListN.{take}
+use lib.ListN.{getD}
+use Rattle.wire.specs.Lists.{listOf}
 use Rattle.wire.specs.Outcome.{Outcome, refused, accepted}
 use Rattle.pdi.specs.declared.PdiSegment.{PdiSegment}
 use Rattle.pdi.specs.Segment.{segmentText}
-use Rattle.sync_manager_channel.specs.Image.{channelOf}
-use Rattle.sync_manager_channel.specs.Text.{channelText}
-use Rattle.area.specs.Area.{entriesOf}
+use Rattle.area.specs.Area.{entriesOf, flat}
 use Rattle.sheet.specs.Sheet.{sheetData, managerCount}
 use Rattle.pdo.specs.Bits.{multipliersOf}
 use Rattle.passes.specs.declared.FmmuMode.the-variants.{OwnNumber}
@@ -21,7 +21,7 @@ use Rattle.passes.specs.Old.{clean}
 use Rattle.passes.specs.Start.{offsets, Both}
 use Rattle.passes.specs.Call.{call, entriesAfter, imagesAfter}
 use Rattle.mailboxes.specs.Mailbox.{Recorded, mailboxPass, mailboxArea}
-use Rattle.lines.specs.Text.{line, numbered, inputsFront, outputsFront, lines, enabledLine, refusedText, bayText}
+use Rattle.lines.specs.Text.{line, inputsFront, outputsFront, imageLine, lines, enabledLine, refusedText, bayText}
 
 -- what comes after an accepted answer; a refusal stays the answer
 abbrev pub andThen : {A B : Type 0} → Outcome A → (A → Outcome B) → Outcome B
@@ -79,16 +79,17 @@ outcomeText n (accepted b) = bayText n (b .inputs) (b .outputs) (b .left .fmmus)
 unfoldable pub reportText : List ℕ → Areas → List ℕ
 reportText sheet a = outcomeText (managerCount sheet) (planBay sheet a)
 
--- the same without a proviso: every image has its line, and the areas are as long as they should be (proved in proofs/Printed.antt of areas that begin so)
-abbrev pub channelLineOf : ℕ → List ℕ → List ℕ
-channelLineOf k e = line (numbered (83 ∷ 77 ∷ []) k) (channelText (channelOf e))
-
+-- the same with the n lines one by one: that of k is of the k-th image, whatever the areas held before
 unfoldable pub plainText : ℕ → Bay → List ℕ
 plainText n b =
     line inputsFront (segmentText (b .inputs))
     ++ line outputsFront (segmentText (b .outputs))
-    ++ lines channelLineOf 0 (take n (entriesOf 8 (b .left .channels)))
+    ++ flat (listOf (λ k. imageLine k (getD (entriesOf 8 (b .left .channels)) k [])) n)
     ++ lines enabledLine 0 (entriesOf 16 (b .left .fmmus))
+
+-- every one of the n lines is printed wherever the plan is accepted, over any areas
+abbrev pub EveryLine : Type 0
+EveryLine = (sheet : List ℕ) (a : Areas) (b : Bay) → planBay sheet a ≡ accepted b → reportText sheet a ≡ plainText (managerCount sheet) b
 
 -- what the cases of `Segments` say, beside the areas that are left
 abbrev pub bayOf : Segments → Areas → Outcome Bay

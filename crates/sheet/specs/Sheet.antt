@@ -9,7 +9,7 @@ use Rattle.wire.specs.Outcome.{Outcome, refused, accepted, Refusal, when, decid
 use Rattle.wire.specs.Field.{flagAt}
 use Rattle.wire.specs.Number.{bigAt}
 use Rattle.channel_bytes.specs.Bytes.{controlAt, unnamed}
-use Rattle.wire.specs.Lists.{listOf, someBelow}
+use Rattle.wire.specs.Lists.{listOf, someOf}
 pub use Rattle.grammar.specs.Grammar.{managerCount, usageCount, pdoCount, managerPlace, usagesPlace, pdosPlace, wrongVersion}
 unfoldable pub use Rattle.grammar.specs.Length.{wrongLength}
 unfoldable pub use Rattle.grammar.specs.Grammar.{kindFits, pdosFit, someManagerWrong, someUsageWrong, broken}
@@ -30,17 +30,6 @@ managerAt s at =
       «usage_type» = getD s (at + 4) 0;
     }
 
--- 5: any control, wanted or not, has an unnamed mode or direction
-abbrev pub unnamedAt : List ℕ → ℕ → Bool
-unnamedAt s k = unnamed (getD s (managerPlace k + 2) 0)
-
-unfoldable pub someUnnamed : List ℕ → Bool
-someUnnamed s = someBelow (unnamedAt s) (managerCount s)
-
--- the refusals in their order
-abbrev pub sheetRefusals : List ℕ → List Refusal
-sheetRefusals s = when 2 (wrongLength s) ∷ when 3 (wrongVersion s) ∷ when 4 (broken s) ∷ when 5 (someUnnamed s) ∷ []
-
 -- 3: flags: bit 0 has a mailbox, bit 1 CoE among the protocols, bit 2 complete access; 4-5 receive size; 6-7 send size
 unfoldable pub sheetData : List ℕ → Data
 sheetData s =
@@ -54,6 +43,14 @@ sheetData s =
       usages = listOf (λ k. getD s (usagesPlace s + k) 0) (usageCount s);
       pdos = pdosFrom s (pdoCount s) (pdosPlace s);
     }
+
+-- 5: any control, wanted or not, has an unnamed mode or direction
+unfoldable pub someUnnamed : List SyncManager → Bool
+someUnnamed ms = someOf (λ m. unnamed (m .control)) ms
+
+-- the refusals in their order
+abbrev pub sheetRefusals : List ℕ → List Refusal
+sheetRefusals s = when 2 (wrongLength s) ∷ when 3 (wrongVersion s) ∷ when 4 (broken s) ∷ when 5 (someUnnamed (sheetData s .managers)) ∷ []
 
 -- the sync managers that code looks at: sixteen at most, and an accepted sheet has no more
 abbrev pub managersIn : List ℕ → List SyncManager

@@ -62,15 +62,16 @@ pub const NO_MANAGER: SyncManager = SyncManager {
     usage_type: 0,
 };
 
-// Whether some control has no name.
+// Whether some control has an unnamed mode or direction.
 fn some_unnamed(sheet: &[u8]) -> bool
     requires { ⌜ 11 + 5 * managerCount (now sheet) ≤ length (now sheet) ⌝ }
-    ensures { λ r. ⌜ r ≡ someUnnamed (now (sheet .entry)) ⌝ }
+    ensures { λ r. ⌜ r ≡ someUnnamed (sheetData (now (sheet .entry)) .managers) ⌝ }
 {
     let n = grammar::manager_count(sheet);
     let mut k = 0;
     while k < n {
-        if Control::unnamed(sheet[grammar::manager_place(k) + grammar::CONTROL]) {
+        let control = Control::unpack(sheet[grammar::manager_place(k) + grammar::CONTROL]);
+        if control.unnamed() {
             return true;
         }
         k += 1;
@@ -162,7 +163,7 @@ pub fn manager(sheet: &[u8], k: u8) -> SyncManager
     let at = grammar::manager_place(k);
     SyncManager {
         start_addr: wire::be16(wire::byte_at(sheet, at), wire::byte_at(sheet, at + 1)),
-        control: Control::named(wire::byte_at(sheet, at + grammar::CONTROL)),
+        control: Control::unpack(wire::byte_at(sheet, at + grammar::CONTROL)),
         enable: wire::flag(wire::byte_at(sheet, at + grammar::ENABLE), 0),
         usage_type: wire::byte_at(sheet, at + grammar::USAGE),
     }

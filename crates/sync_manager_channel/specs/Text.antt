@@ -1,12 +1,12 @@
--- The text of a sync manager channel: the crate's Display (document 01, 'Register images').
+-- The text of a sync manager channel: the crate's Display (document 01, 'Register images'), and an unnamed number as `unnamed 3` (document 02, 8/13).
 -- Assumes nothing.
 use mathlib.Core.List.{List, [], _∷_, _++_}
 use Prim.Native.Nat.{ℕ}
 use Rattle.wire.specs.Text.{hexOf, decimalOf, enabledText}
 use Rattle.channel_bytes.specs.declared.OperationMode.{OperationMode}
-use Rattle.channel_bytes.specs.declared.OperationMode.the-variants.{Normal, Mailbox}
+use Rattle.channel_bytes.specs.declared.OperationMode.the-variants as mode
 use Rattle.channel_bytes.specs.declared.Direction.{Direction}
-use Rattle.channel_bytes.specs.declared.Direction.the-variants.{MasterRead, MasterWrite}
+use Rattle.channel_bytes.specs.declared.Direction.the-variants as direction
 use Rattle.sync_manager_channel.specs.declared.SyncManagerChannel.{SyncManagerChannel}
 
 -- start 0x1000, size 0x0080 (128)
@@ -17,17 +17,23 @@ areaText s =
     ++ (32 ∷ 40 ∷ decimalOf (s .«length_bytes» .0))
     ++ (41 ∷ [])
 
+-- unnamed 3
+abbrev pub unnamedText : ℕ → List ℕ
+unnamedText k = (117 ∷ 110 ∷ 110 ∷ 97 ∷ 109 ∷ 101 ∷ 100 ∷ 32 ∷ decimalOf k)
+
 abbrev pub directionName : Direction → List ℕ
-directionName MasterRead = (77 ∷ 97 ∷ 115 ∷ 116 ∷ 101 ∷ 114 ∷ 82 ∷ 101 ∷ 97 ∷ 100 ∷ [])
-directionName MasterWrite = (77 ∷ 97 ∷ 115 ∷ 116 ∷ 101 ∷ 114 ∷ 87 ∷ 114 ∷ 105 ∷ 116 ∷ 101 ∷ [])
+directionName direction.MasterRead = (77 ∷ 97 ∷ 115 ∷ 116 ∷ 101 ∷ 114 ∷ 82 ∷ 101 ∷ 97 ∷ 100 ∷ [])
+directionName direction.MasterWrite = (77 ∷ 97 ∷ 115 ∷ 116 ∷ 101 ∷ 114 ∷ 87 ∷ 114 ∷ 105 ∷ 116 ∷ 101 ∷ [])
+directionName (direction.Unnamed k) = unnamedText k
 
 -- , direction MasterWrite
 abbrev pub directionText : Direction → List ℕ
 directionText d = (44 ∷ 32 ∷ 100 ∷ 105 ∷ 114 ∷ 101 ∷ 99 ∷ 116 ∷ 105 ∷ 111 ∷ 110 ∷ 32 ∷ directionName d)
 
 abbrev pub modeName : OperationMode → List ℕ
-modeName Normal = (78 ∷ 111 ∷ 114 ∷ 109 ∷ 97 ∷ 108 ∷ [])
-modeName Mailbox = (77 ∷ 97 ∷ 105 ∷ 108 ∷ 98 ∷ 111 ∷ 120 ∷ [])
+modeName mode.Normal = (78 ∷ 111 ∷ 114 ∷ 109 ∷ 97 ∷ 108 ∷ [])
+modeName mode.Mailbox = (77 ∷ 97 ∷ 105 ∷ 108 ∷ 98 ∷ 111 ∷ 120 ∷ [])
+modeName (mode.Unnamed k) = unnamedText k
 
 -- , mode Mailbox
 abbrev pub modeText : OperationMode → List ℕ

@@ -2,11 +2,10 @@
 ghost use mathlib.Core.Path.{_≡_};
 ghost use Rattle.wire.specs.Room.{InRoom, textIn};
 ghost use Rattle.wire.specs.Text.{page, Types};
-ghost use Rattle.sync_manager_channel.specs.Image.{imageOf, readChannel, writeChannel, channelReadOf};
+ghost use Rattle.sync_manager_channel.specs.Image.{channelOf, imageOf, readChannel, writeChannel, channelReadOf};
 ghost use Rattle.sync_manager_channel.specs.Text.{areaText, directionText, modeText, settingsText, channelText};
 pub use channel_bytes::BufferState;
 pub use channel_bytes::Control;
-pub use channel_bytes::ControlRead;
 pub use channel_bytes::Direction;
 pub use channel_bytes::Enable;
 pub use channel_bytes::OperationMode;
@@ -30,19 +29,16 @@ pub enum ChannelRead {
 }
 
 impl SyncManagerChannel {
-    // The channel that eight bytes say, if mode and direction have names; reserved bits are dropped.
-    pub fn unpack(image: [u8; 8]) -> ChannelRead
-        ensures { λ r. ⌜ channelReadOf r ≡ readChannel image ⌝ }
+    // The channel that eight bytes say; reserved bits are dropped.
+    pub fn unpack(image: [u8; 8]) -> SyncManagerChannel
+        ensures { λ r. ⌜ r ≡ channelOf image ⌝ }
     {
-        match Control::unpack(image[4]) {
-            ControlRead::Named(control) => ChannelRead::Channel(SyncManagerChannel {
-                physical_start_address: wire::le16(image[0], image[1]),
-                length_bytes: ByteLen(wire::le16(image[2], image[3])),
-                control,
-                status: Status::unpack(image[5]),
-                enable: Enable::unpack(image[6], image[7]),
-            }),
-            ControlRead::Refused(number) => ChannelRead::Refused(number),
+        SyncManagerChannel {
+            physical_start_address: wire::le16(image[0], image[1]),
+            length_bytes: ByteLen(wire::le16(image[2], image[3])),
+            control: Control::unpack(image[4]),
+            status: Status::unpack(image[5]),
+            enable: Enable::unpack(image[6], image[7]),
         }
     }
 
@@ -56,10 +52,10 @@ impl SyncManagerChannel {
         }
         let mut image = [0u8; 8];
         wire::copy(buf, &mut image);
-        SyncManagerChannel::unpack(image)
+        ChannelRead::Channel(SyncManagerChannel::unpack(image))
     }
 
-    // The eight bytes of a channel; reserved bits are 0.
+    // The eight bytes of a channel; of an unnamed number its low two bits, reserved bits 0.
     pub fn pack(self) -> [u8; 8]
         ensures { λ r. ⌜ r ≡ imageOf self ⌝ }
     {
@@ -83,10 +79,14 @@ impl SyncManagerChannel {
 
     // The image into lent room of eight bytes.
     pub fn pack_to_slice(self, buf: &mut [u8]) -> Written
-        ensures { λ r. ⌜ InRoom (writeChannel (now (buf .entry))) (imageOf self) (now (buf .entry)) r (now (buf .exit)) ⌝ }
+        ensures { λ r. ⌜ InRoom (writeChannel self (now (buf .entry))) (imageOf self) (now (buf .entry)) r (now (buf .exit)) ⌝ }
     {
+        let control = self.control;
         if buf.len() != 8 {
             return Written::Refused(1);
+        }
+        if control.misnumbered() {
+            return Written::Refused(13);
         }
         let image = self.pack();
         wire::copy(&image, buf);
@@ -133,6 +133,12 @@ fn put_direction(room: &mut [u8], at: usize, direction: Direction) -> usize
     match direction {
         Direction::MasterRead => wire::put_bytes(room, at, b", direction MasterRead"),
         Direction::MasterWrite => wire::put_bytes(room, at, b", direction MasterWrite"),
+        Direction::Unnamed(number) => wire::put_decimal(
+            room,
+            at,
+            b", direction unnamed ",
+            number as u16,
+        ),
     }
 }
 
@@ -143,5 +149,11 @@ fn put_mode(room: &mut [u8], at: usize, mode: OperationMode) -> usize
     match mode {
         OperationMode::Normal => wire::put_bytes(room, at, b", mode Normal"),
         OperationMode::Mailbox => wire::put_bytes(room, at, b", mode Mailbox"),
+        OperationMode::Unnamed(number) => wire::put_decimal(
+            room,
+            at,
+            b", mode unnamed ",
+            number as u16,
+        ),
     }
 }

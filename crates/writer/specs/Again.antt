@@ -68,9 +68,9 @@ pub record SheetFor (x : Data) : Type 0 where
   pub bytes : Bytes sheet
   pub reads : readSheet sheet ≡ accepted x
 
--- where n and f are at most 16 and the p records stand whole in the bytes, each kind going with its count, 2 or 4 is given exactly if no sheet
+-- where n and f are at most 16 and the p records stand whole in the bytes, each kind going with its count, 2, 4 or 5 is given exactly if no sheet
 -- reads as that data
 abbrev pub RefusedExactly : Type 0
 RefusedExactly =
     (c : Call) → c .device .n ≤ 16 → c .device .f ≤ 16 → pdosFit (recordsOf (c .device) (c .bytes)) (c .device .p) 0 ≡ true
-    → ((c .answer ≡ Refused 2) ⊎ (c .answer ≡ Refused 4)) ↔ (SheetFor (dataOf (c .device) (c .bytes)) → ⊥)
+    → ((c .answer ≡ Refused 2) ⊎ ((c .answer ≡ Refused 4) ⊎ (c .answer ≡ Refused 5))) ↔ (SheetFor (dataOf (c .device) (c .bytes)) → ⊥)

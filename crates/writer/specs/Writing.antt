@@ -13,6 +13,7 @@ use Rattle.wire.specs.declared.Written.{Written}
 pub use Rattle.grammar.specs.Grammar.{pdosEnd, pdosFit}
 use Rattle.sheet.specs.declared.Device.{Device}
 use Rattle.sheet.specs.Device.{dataOf}
+use Rattle.sheet.specs.Sheet.{someUnnamed}
 use Rattle.writer.specs.Form.{sheetOf}
 
 -- the PDO records stand from `pdos` on: how many bytes they say that they have, Σ(5 + m), m being 0 past the bytes; and those bytes
@@ -35,9 +36,9 @@ ruleBroken d records =
     || (someOf (λ m. ltb 4 (m .«usage_type»)) (take (d .n) (d .managers))
     || (someOf (ltb 3) (take (d .f) (d .usages)) || not (pdosFit records (d .p) 0))))
 
--- the refusals in their order; then the rule for texts, with 12 last
+-- the refusals in their order, 5 being the sheet's own: an unnamed mode or direction among the first n, whatever its number; then the rule for texts, with 12 last
 abbrev pub dataRefusals : Device → List ℕ → List Refusal
-dataRefusals d s = when 2 (tooLong d s) ∷ when 4 (ruleBroken d (recordsOf d s)) ∷ []
+dataRefusals d s = when 2 (tooLong d s) ∷ when 4 (ruleBroken d (recordsOf d s)) ∷ when 5 (someUnnamed (take (d .n) (d .managers))) ∷ []
 
 unfoldable pub writing : Device → List ℕ → List ℕ → Outcome ℕ
 writing d s room = first (dataRefusals d s) (textIn (sheetOf (dataOf d s)) room)

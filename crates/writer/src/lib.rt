@@ -6,6 +6,7 @@ ghost use lib.Dec.{ltb};
 ghost use Rattle.wire.specs.Lists.{someOf};
 ghost use Rattle.wire.specs.Room.{over};
 ghost use Rattle.area.specs.Area.{storedAt};
+ghost use Rattle.sheet.specs.Sheet.{someUnnamed};
 ghost use Rattle.writer.specs.Form.{flagsByte, managerBytes};
 ghost use Rattle.writer.specs.Writing.{ruleBroken, Writes};
 ghost use Rattle.writer.specs.Laid.{headLaid, managersLaid, sheetLaid};
@@ -127,6 +128,23 @@ fn some_usage_unnamed(list: [u8; 16], f: usize) -> bool
     false
 }
 
+// Whether a sync manager has an unnamed mode or direction, of the first n.
+fn some_control_unnamed(list: [SyncManager; 16], n: usize) -> bool
+    requires { ⌜ n ≤ 16 ⌝ }
+    ensures { λ r. ⌜ r ≡ someUnnamed (take n list) ⌝ }
+{
+    let mut k = 0;
+    while k < n {
+        let m = list[k];
+        let control = m.control;
+        if control.unnamed() {
+            return true;
+        }
+        k += 1;
+    }
+    false
+}
+
 // L, exactly, with so many bytes of PDO records; 16,385 where it is above 16,384.
 fn length_of(n: usize, f: usize, long: usize) -> u16
     requires { ⌜ long ≤ 66300 ⌝ }
@@ -170,10 +188,11 @@ fn too_short(room: &[u8], total: u16) -> bool
 }
 
 // Writes device data as a sheet, its PDO records standing in the lent bytes from `pdos` on, and answers the sheet's length. It goes into the room
-// whole, or not at all. 2: the sheet would be too long; 4: the data breaks a rule of the sheet; 12: the room is too short.
+// whole, or not at all. 2: the sheet would be too long; 4: the data breaks a rule of the sheet; 5: a mode or a direction is unnamed; 12: the room is too short.
 pub fn write(device: Device, bytes: &[u8], room: &mut [u8]) -> Written
     ensures { λ r. ⌜ Writes device (now (bytes .entry)) (now (room .entry)) r (now (room .exit)) ⌝ }
 {
+    let managers = device.managers;
     let behind = wire::behind(bytes, device.pdos);
     let long = grammar::pdos_end(behind, device.p);
     let follow = length_of(device.n, device.f, long);
@@ -187,6 +206,9 @@ pub fn write(device: Device, bytes: &[u8], room: &mut [u8]) -> Written
     let short = too_short(room, total);
     if broken {
         return Written::Refused(4);
+    }
+    if some_control_unnamed(managers, device.n) {
+        return Written::Refused(5);
     }
     if short {
         return Written::Refused(12);
