@@ -1,12 +1,8 @@
 -- The fields of the four bytes, from bit 0 up, with 0 where bits are reserved.
 -- Assumes nothing.
 use mathlib.Core.List.{List, [], _∷_}
-use Prim.Native.Nat.{_<_}
+use Prim.Native.Nat.{ℕ, _%_, _<_}
 use native.Mathlib.Omega.{arith}
-use Rattle.channel_bytes.specs.declared.OperationMode.{OperationMode}
-use Rattle.channel_bytes.specs.declared.OperationMode.the-variants.{Normal, Mailbox}
-use Rattle.channel_bytes.specs.declared.Direction.{Direction}
-use Rattle.channel_bytes.specs.declared.Direction.the-variants.{MasterRead, MasterWrite}
 use Rattle.channel_bytes.specs.declared.BufferState.{BufferState}
 use Rattle.channel_bytes.specs.declared.BufferState.the-variants.{First, Second, Third, Next}
 use Rattle.channel_bytes.specs.declared.Control.{Control}
@@ -15,13 +11,9 @@ use Rattle.channel_bytes.specs.declared.Enable.{Enable}
 use Rattle.channel_bytes.specs.Bytes.{modeNumber, directionNumber, stateNumber, controlByte, statusByte, enableLow, enableHigh}
 use Rattle.wire.proofs.Packed.{Field, field, flag, reserve, Laid, laid}
 
-pub mode-lt : (m : OperationMode) → modeNumber m < 4
-mode-lt Normal = omega arith
-mode-lt Mailbox = omega arith
-
-pub direction-lt : (d : Direction) → directionNumber d < 4
-direction-lt MasterRead = omega arith
-direction-lt MasterWrite = omega arith
+-- the low two bits of a number
+pub two-bits : (x : ℕ) → x % 4 < 4
+two-bits x = omega arith
 
 pub state-lt : (s : BufferState) → stateNumber s < 4
 state-lt First = omega arith
@@ -31,7 +23,8 @@ state-lt Next = omega arith
 
 abbrev pub controlFields : Control → List Field
 controlFields c =
-    field 2 (modeNumber (c .«operation_mode»)) (mode-lt (c .«operation_mode»)) ∷ field 2 (directionNumber (c .direction)) (direction-lt (c .direction))
+    field 2 (modeNumber (c .«operation_mode») % 4) (two-bits (modeNumber (c .«operation_mode»)))
+    ∷ field 2 (directionNumber (c .direction) % 4) (two-bits (directionNumber (c .direction)))
     ∷ flag (c .«ecat_event_enable») ∷ flag (c .«dls_user_event_enable») ∷ flag (c .«watchdog_enable») ∷ reserve 1 ∷ []
 
 pub control-laid : (c : Control) → Laid (controlByte c) (controlFields c)

@@ -1,5 +1,4 @@
 -- Laws that belong to no one function.
-pub mod Named
 pub mod Bytes
 pub mod RoundTrip
 pub mod Layouts

@@ -1,41 +1,53 @@
 -- Control, status and enable both ways: fields written and read, and bytes read and written.
 -- Assumes nothing.
-use mathlib.Core.Path.{_≡_, refl, _∙_, ap, ap₂}
-use mathlib.Core.Bool.{Bool, true, false, not, _&&_}
+use mathlib.Core.Path.{_≡_, refl, sym, _∙_, ap, ap₂}
+use mathlib.Core.Bool.{Bool, false, false≢true, _||_}
 use mathlib.Core.Logic.{_↔_}
-use Prim.Native.Nat.{ℕ, _<_}
-use lib.Dec.{eqb}
+use mathlib.Core.Option.{some}
+use Prim.Native.Nat.{ℕ, zero, suc, _/_, _%_, _<_}
+use native.Mathlib.Omega.{arith}
+use lib.Dec.{eqb, ltb}
+use borrow.Author.Tests.{ltb-false}
 use Rattle.wire.specs.Field.{bitsAt, bit}
 use Rattle.wire.proofs.Fields.{bit-back}
-use Rattle.wire.proofs.Reserved.{exactly, exactly-accepted}
+use Rattle.wire.proofs.Below.{agree}
+use Rattle.wire.proofs.Lists.{or-none}
+use Rattle.wire.proofs.Reserved.{exactly}
 use Rattle.channel_bytes.specs.declared.OperationMode.{OperationMode}
-use Rattle.channel_bytes.specs.declared.OperationMode.the-variants.{Normal, Mailbox}
+use Rattle.channel_bytes.specs.declared.OperationMode.the-variants as mode
 use Rattle.channel_bytes.specs.declared.Direction.{Direction}
-use Rattle.channel_bytes.specs.declared.Direction.the-variants.{MasterRead, MasterWrite}
+use Rattle.channel_bytes.specs.declared.Direction.the-variants as direction
 use Rattle.channel_bytes.specs.declared.BufferState.{BufferState}
 use Rattle.channel_bytes.specs.declared.BufferState.the-variants.{First, Second, Third, Next}
 use Rattle.channel_bytes.specs.declared.Control.{Control}
 use Rattle.channel_bytes.specs.declared.Status.{Status}
 use Rattle.channel_bytes.specs.declared.Enable.{Enable}
-use Rattle.channel_bytes.specs.Bytes.{modeNumber, modeAt, modeNamed, directionNumber, directionAt, directionNamed, stateNumber, stateAt}
-use Rattle.channel_bytes.specs.Bytes.{controlAt, unnamed, controlByte, statusAt, statusByte, enableAt, enableLow, enableHigh}
-use Rattle.channel_bytes.proofs.Bytes.{control-laid, status-laid, low-laid, high-laid}
+use Rattle.channel_bytes.specs.Bytes.{modeNumber, modeAt, modeNamed, modeUnnamed, directionNumber, directionAt, directionNamed, directionUnnamed, wrongNumber, stateNumber, stateAt}
+use Rattle.channel_bytes.specs.Bytes.{controlAt, controlByte, misnumbered, statusAt, statusByte, enableAt, enableLow, enableHigh}
+use Rattle.channel_bytes.proofs.Bytes.{two-bits, control-laid, status-laid, low-laid, high-laid}
 
-mode-back : (m : OperationMode) → modeAt (modeNumber m) ≡ m
-mode-back Normal = refl
-mode-back Mailbox = refl
+-- a number above 3 is wrong, whichever are named
+above-3 : (named : ℕ → Bool) (k : ℕ) → wrongNumber named (some (suc (suc (suc (suc k))))) ≡ false → ⊥
+above-3 named k h = let big = ltb-false 3 (suc (suc (suc (suc k)))) (or-none (named (suc (suc (suc (suc k))))) (ltb 3 (suc (suc (suc (suc k))))) h .1) in omega arith
 
-mode-named : (m : OperationMode) → modeNamed (modeNumber m) ≡ true
-mode-named Normal = refl
-mode-named Mailbox = refl
+-- a mode whose number isn't wrong comes back from its low two bits, and so does a direction
+mode-back : (m : OperationMode) → wrongNumber modeNamed (modeUnnamed m) ≡ false → modeAt (modeNumber m % 4) ≡ m
+mode-back mode.Normal h = refl
+mode-back mode.Mailbox h = refl
+mode-back (mode.Unnamed zero) h = absurd (false≢true (sym h))
+mode-back (mode.Unnamed (suc zero)) h = refl
+mode-back (mode.Unnamed (suc (suc zero))) h = absurd (false≢true (sym h))
+mode-back (mode.Unnamed (suc (suc (suc zero)))) h = refl
+mode-back (mode.Unnamed (suc (suc (suc (suc k))))) h = absurd (above-3 modeNamed k h)
 
-direction-back : (d : Direction) → directionAt (directionNumber d) ≡ d
-direction-back MasterRead = refl
-direction-back MasterWrite = refl
-
-direction-named : (d : Direction) → directionNamed (directionNumber d) ≡ true
-direction-named MasterRead = refl
-direction-named MasterWrite = refl
+direction-back : (d : Direction) → wrongNumber directionNamed (directionUnnamed d) ≡ false → directionAt (directionNumber d % 4) ≡ d
+direction-back direction.MasterRead h = refl
+direction-back direction.MasterWrite h = refl
+direction-back (direction.Unnamed zero) h = absurd (false≢true (sym h))
+direction-back (direction.Unnamed (suc zero)) h = absurd (false≢true (sym h))
+direction-back (direction.Unnamed (suc (suc zero))) h = refl
+direction-back (direction.Unnamed (suc (suc (suc zero)))) h = refl
+direction-back (direction.Unnamed (suc (suc (suc (suc k))))) h = absurd (above-3 directionNamed k h)
 
 state-back : (s : BufferState) → stateAt (stateNumber s) ≡ s
 state-back First = refl
@@ -46,26 +58,32 @@ state-back Next = refl
 flag-back : (x : Bool) {n : ℕ} → n ≡ bit x → eqb n 1 ≡ x
 flag-back x e = ap (λ (k : ℕ). eqb k 1) e ∙ bit-back x
 
--- a control that was written is read as it was
-pub control-read-write : (c : Control) → controlAt (controlByte c) ≡ c
-unfolding controlAt
-control-read-write c =
+-- a control whose numbers aren't wrong is read as it was written
+pub control-read-write : (c : Control) → misnumbered c ≡ false → controlAt (controlByte c) ≡ c
+unfolding controlAt misnumbered
+control-read-write c h =
     let f = control-laid c .fields in
+    let right = or-none (wrongNumber modeNamed (modeUnnamed (c .«operation_mode»))) (wrongNumber directionNamed (directionUnnamed (c .direction))) h in
     λ i.
     record {
-      «operation_mode» = (ap modeAt (f .0) ∙ mode-back (c .«operation_mode»)) i;
-      direction = (ap directionAt (f .1 .0) ∙ direction-back (c .direction)) i;
+      «operation_mode» = (ap modeAt (f .0) ∙ mode-back (c .«operation_mode») (right .0)) i;
+      direction = (ap directionAt (f .1 .0) ∙ direction-back (c .direction) (right .1)) i;
       «ecat_event_enable» = flag-back (c .«ecat_event_enable») (f .1 .1 .0) i;
       «dls_user_event_enable» = flag-back (c .«dls_user_event_enable») (f .1 .1 .1 .0) i;
       «watchdog_enable» = flag-back (c .«watchdog_enable») (f .1 .1 .1 .1 .0) i;
     }
 
--- a control that was written has a named mode and direction
-pub control-named : (c : Control) → unnamed (controlByte c) ≡ false
-unfolding unnamed
-control-named c =
-    let f = control-laid c .fields in
-    ap₂ (λ (x y : Bool). not (x && y)) (ap modeNamed (f .0) ∙ mode-named (c .«operation_mode»)) (ap directionNamed (f .1 .0) ∙ direction-named (c .direction))
+-- a number of two bits is read as no wrong one, so what a byte says has none
+two-bits-numbered : (n : ℕ) → n < 4 → (wrongNumber modeNamed (modeUnnamed (modeAt n)) ≡ false) × (wrongNumber directionNamed (directionUnnamed (directionAt n)) ≡ false)
+two-bits-numbered zero h = (refl, refl)
+two-bits-numbered (suc zero) h = (refl, refl)
+two-bits-numbered (suc (suc zero)) h = (refl, refl)
+two-bits-numbered (suc (suc (suc zero))) h = (refl, refl)
+two-bits-numbered (suc (suc (suc (suc n)))) h = absurd (omega arith)
+
+pub control-numbered : (b : ℕ) → misnumbered (controlAt b) ≡ false
+unfolding controlAt misnumbered
+control-numbered b = ap₂ _||_ (two-bits-numbered (bitsAt b 0 2) (two-bits (b / 1)) .0) (two-bits-numbered (bitsAt b 2 2) (two-bits (b / 4)) .1)
 
 -- a status that was written is read as it was
 pub status-read-write : (s : Status) → statusAt (statusByte s) ≡ s
@@ -98,10 +116,19 @@ enable-read-write e =
       «repeat_ack» = flag-back (e .«repeat_ack») (h .1 .0) i;
     }
 
--- an accepted control byte comes back exactly if bit 7 is 0
-pub control-write-read : (b : ℕ) → b < 256 → unnamed b ≡ false → (controlByte (controlAt b) ≡ b) ↔ (bitsAt b 7 1 ≡ 0)
-unfolding controlAt controlByte unnamed
-control-write-read = exactly-accepted unnamed (λ b. controlByte (controlAt b)) 7 1 tt
+-- a control byte that is read and written is the byte with bit 7 cleared
+pub control-again : (b : ℕ) → b < 256 → controlByte (controlAt b) ≡ b % 128
+unfolding controlAt controlByte
+control-again = agree (λ b. controlByte (controlAt b)) (λ b. b % 128) 256 tt
+
+-- so each of the 128 with bit 7 clear comes back
+pub control-comes-back : (b : ℕ) → b < 128 → controlByte (controlAt b) ≡ b
+control-comes-back b h = control-again b (omega arith) ∙ omega arith
+
+-- a control byte comes back exactly if bit 7 is 0
+pub control-write-read : (b : ℕ) → b < 256 → (controlByte (controlAt b) ≡ b) ↔ (bitsAt b 7 1 ≡ 0)
+unfolding controlAt controlByte
+control-write-read = exactly (λ b. controlByte (controlAt b)) 7 1 tt
 
 -- a status byte comes back exactly if bit 2 is 0
 pub status-write-read : (b : ℕ) → b < 256 → (statusByte (statusAt b) ≡ b) ↔ (bitsAt b 2 1 ≡ 0)

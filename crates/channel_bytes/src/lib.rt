@@ -1,9 +1,11 @@
 // src/sync_manager_channel.rs: the bytes of a channel that are made up of fields, each way.
 ghost use mathlib.Core.Path.{_≡_};
+ghost use mathlib.Core.Bool.{cond, _||_};
 ghost use mathlib.Core.List.{[], _∷_};
 ghost use Prim.Native.Nat.{_<_};
+ghost use lib.Dec.{eqb, ltb};
 ghost use Rattle.channel_bytes.specs.Bytes as meaning;
-ghost use Rattle.channel_bytes.specs.Bytes.{modeNumber, modeAt, modeNamed, modeUnnamed, directionNumber, directionAt, directionNamed, directionUnnamed, wrongNumber, stateNumber, stateAt, controlAt, controlByte, statusAt, statusByte, enableAt, enableLow, enableHigh};
+ghost use Rattle.channel_bytes.specs.Bytes.{modeNumber, modeAt, modeNamed, modeUnnamed, directionNumber, directionAt, directionNamed, directionUnnamed, isUnnamed, wrongNumber, stateNumber, stateAt, controlAt, controlByte, statusAt, statusByte, enableAt, enableLow, enableHigh};
 
 // ETG1000.4 6.7.2, byte 4.
 pub struct Control {
@@ -54,18 +56,51 @@ pub enum BufferState {
     Next,
 }
 
+// Whether an unnamed number is one of the two that have names, or above 3.
+fn wrong_number(number: u8, one: u8, other: u8) -> bool
+    ensures { λ r. ⌜ r ≡ (eqb number one || eqb number other) || ltb 3 number ⌝ }
+{
+    if number == one {
+        return true;
+    }
+    if number == other {
+        return true;
+    }
+    3 < number
+}
+
 impl OperationMode {
-    // The number that stands for it; in two choices, through which a byte that is read and written again stays one mask.
+    // The number that stands for it; in two choices, through which a byte that is read and written again stays a mask.
     pub fn number(self) -> u8
         ensures { λ r. ⌜ r ≡ modeNumber self ⌝ }
     {
-        let unnamed = match self {
-            OperationMode::Unnamed(number) => number,
-            _ => 0,
-        };
+        let given = self.given();
         match self {
+            OperationMode::Normal => given,
             OperationMode::Mailbox => 2,
-            _ => unnamed,
+            OperationMode::Unnamed(_) => given,
+        }
+    }
+
+    // The number of the case with a number, else 0.
+    fn given(self) -> u8
+        ensures { λ r. ⌜ r ≡ cond (isUnnamed (modeUnnamed self)) (modeNumber self) 0 ⌝ }
+    {
+        match self {
+            OperationMode::Normal => 0,
+            OperationMode::Mailbox => 0,
+            OperationMode::Unnamed(number) => number,
+        }
+    }
+
+    // Whether it is the case with a number.
+    fn unnamed(self) -> bool
+        ensures { λ r. ⌜ r ≡ isUnnamed (modeUnnamed self) ⌝ }
+    {
+        match self {
+            OperationMode::Normal => false,
+            OperationMode::Mailbox => false,
+            OperationMode::Unnamed(_) => true,
         }
     }
 
@@ -76,7 +111,7 @@ impl OperationMode {
         match self {
             OperationMode::Normal => false,
             OperationMode::Mailbox => false,
-            OperationMode::Unnamed(number) => number == 0 || number == 2 || 3 < number,
+            OperationMode::Unnamed(number) => wrong_number(number, 0, 2),
         }
     }
 }
@@ -86,13 +121,33 @@ impl Direction {
     pub fn number(self) -> u8
         ensures { λ r. ⌜ r ≡ directionNumber self ⌝ }
     {
-        let unnamed = match self {
-            Direction::Unnamed(number) => number,
-            _ => 0,
-        };
+        let given = self.given();
         match self {
+            Direction::MasterRead => given,
             Direction::MasterWrite => 1,
-            _ => unnamed,
+            Direction::Unnamed(_) => given,
+        }
+    }
+
+    // The number of the case with a number, else 0.
+    fn given(self) -> u8
+        ensures { λ r. ⌜ r ≡ cond (isUnnamed (directionUnnamed self)) (directionNumber self) 0 ⌝ }
+    {
+        match self {
+            Direction::MasterRead => 0,
+            Direction::MasterWrite => 0,
+            Direction::Unnamed(number) => number,
+        }
+    }
+
+    // Whether it is the case with a number.
+    fn unnamed(self) -> bool
+        ensures { λ r. ⌜ r ≡ isUnnamed (directionUnnamed self) ⌝ }
+    {
+        match self {
+            Direction::MasterRead => false,
+            Direction::MasterWrite => false,
+            Direction::Unnamed(_) => true,
         }
     }
 
@@ -103,7 +158,7 @@ impl Direction {
         match self {
             Direction::MasterRead => false,
             Direction::MasterWrite => false,
-            Direction::Unnamed(number) => number == 0 || number == 1 || 3 < number,
+            Direction::Unnamed(number) => wrong_number(number, 0, 1),
         }
     }
 }
@@ -183,13 +238,10 @@ impl Control {
     {
         let mode = self.operation_mode;
         let direction = self.direction;
-        if let OperationMode::Unnamed(_) = mode {
+        if mode.unnamed() {
             return true;
         }
-        if let Direction::Unnamed(_) = direction {
-            return true;
-        }
-        false
+        direction.unnamed()
     }
 
     // 13: whether an unnamed number is one that is named, or above 3.

@@ -1,7 +1,7 @@
 -- An entry's sixteen bytes as a layout, part after part (ETG1000.4 Table 56), and what the calls over it refuse.
 -- Assumes nothing.
-use mathlib.Core.Path.{_≡_, refl, sym}
-use mathlib.Core.Bool.{Bool, true, false, false≢true, _||_}
+use mathlib.Core.Path.{_≡_, refl}
+use mathlib.Core.Bool.{Bool, true, false, _||_}
 use mathlib.Core.List.{[], _∷_}
 use Prim.Native.Nat.{ℕ, _+_, _*_, _%_, _<_}
 use native.Mathlib.Omega.{arith}
@@ -10,6 +10,7 @@ use borrow.Author.Tests.{ltb-false}
 use Rattle.wire.specs.Field.{bitsAt, flagAt, bit}
 use Rattle.wire.specs.Outcome.{when}
 use Rattle.wire.proofs.Fields.{bit-lt, flag-bit}
+use Rattle.wire.proofs.Lists.{or-none}
 use Rattle.wire.proofs.Order.{passed-first}
 use Rattle.wire.proofs.Reserved.{exactly}
 use Rattle.wire.proofs.Images.{Layout, Calls}
@@ -87,28 +88,21 @@ pub fits-layout : (f : Fmmu) → Fits f → layout .Fits f
 fits-layout f h = ((h .start, (h .size, (h .start-bit, h .end-bit))), ((h .physical, (h .physical-bit, (tt, tt))), (tt, (tt, tt))))
 
 -- an entry that isn't refused with 13 fits
-neither : (a b : Bool) → (a || b) ≡ false → (a ≡ false) × (b ≡ false)
-neither true b e = absurd (false≢true (sym e))
-neither false b e = (refl, e)
-
 pub in-range-fits : (f : Fmmu) → InRange f → tooWide f ≡ false → Fits f
 unfolding tooWide
 in-range-fits f t e =
-    let p = neither (ltb 7 (f .«logical_start_bit»)) (ltb 7 (f .«logical_end_bit») || ltb 7 (f .«physical_start_bit»)) e in
-    let q = neither (ltb 7 (f .«logical_end_bit»)) (ltb 7 (f .«physical_start_bit»)) (p .1) in
+    let p = or-none (ltb 7 (f .«logical_start_bit»)) (ltb 7 (f .«logical_end_bit») || ltb 7 (f .«physical_start_bit»)) e in
+    let q = or-none (ltb 7 (f .«logical_end_bit»)) (ltb 7 (f .«physical_start_bit»)) (p .1) in
     let a = ltb-false 7 (f .«logical_start_bit») (p .0) in
     let b = ltb-false 7 (f .«logical_end_bit») (q .0) in
     let c = ltb-false 7 (f .«physical_start_bit») (q .1) in
     record { start = t .start; size = t .size; physical = t .physical; start-bit = omega arith; end-bit = omega arith; physical-bit = omega arith }
 
--- reading refuses nothing, and 13 is what writing refuses, besides 1
+-- 13 is what writing refuses, besides 1
 abbrev pub calls : Calls layout
 calls =
     record {
-      unread = λ l. [];
       unwritten = λ f. when 13 (tooWide f) ∷ [];
       InRange = InRange;
-      reads = λ l a. refl;
-      accepts = λ l f e. ((tt, (tt, (tt, tt))), ((tt, (tt, (tt, tt))), (tt, (tt, tt))));
       fits = λ f k t e. fits-layout f (in-range-fits f t (passed-first (when 13 (tooWide f)) [] 16 k e .0));
     }

@@ -35,7 +35,7 @@ read-write f h = images.read-write layout f (fits-layout f h)
 -- so reading what was written gives it back
 pub read-written : (f : Fmmu) → Fits f → readEntry (imageOf f) ≡ accepted f
 unfolding fieldsOf imageOf
-read-written f h = images.read-written layout calls f (fits-layout f h)
+read-written f h = images.read-written layout f (fits-layout f h)
 
 -- what sixteen bytes say fits
 pub fields-fit : (l : List ℕ) → Image 16 l → Fits (fieldsOf l)
@@ -57,12 +57,12 @@ writing-clears-reserved f = images.writing-clears-reserved layout f
 -- sixteen bytes, read and written, come back exactly if the reserved bits are 0
 pub write-read : (l : List ℕ) → Image 16 l → (imageOf (fieldsOf l) ≡ l) ↔ Clear reserved l
 unfolding fieldsOf imageOf
-write-read l h = images.write-read layout l h (calls .accepts l (fieldsOf l) refl)
+write-read l h = images.write-read layout l h
 
 -- the same by what reading answers
 pub accepted-comes-back : (l : List ℕ) (f : Fmmu) → Bytes l → accepted f ≡ readEntry l → (imageOf f ≡ l) ↔ Clear reserved l
 unfolding fieldsOf imageOf
-accepted-comes-back l f h e = images.accepted-comes-back layout calls l f h e
+accepted-comes-back l f h e = images.accepted-comes-back layout l f h e
 
 -- an entry that `pack_to_slice` has written, by its promise, comes back from that room by the promise of `unpack_from_slice`;
 -- its numbers are in range at every call (`in-range`, beside the proof of `pack_to_slice`)

@@ -25,14 +25,12 @@ little w =
       fields = λ l at. littleAt l at w;
       reserved = λ at. [];
       Fits = λ x. x < 256 ^ w;
-      Accepts = λ l at. Unit {0};
       long = little-length w;
       bytes = little-bytes w;
       back = λ x l at e h. little-stands w x l at e ∙ joined-is w x h;
       clear = λ x l at e. tt;
-      accept = λ x l at e. tt;
       fit = λ l at h. little-fits w at h;
-      stays = λ l at h a z. little-back w at h;
+      stays = λ l at h z. little-back w at h;
     }
 
 -- a byte that is made up of fields and one reserved part
@@ -42,13 +40,11 @@ pub record Byte (R : Type 0) : Type 1 where
   pub shift : ℕ
   pub width : ℕ
   pub Fits : R → Type 0
-  pub Accepts : ℕ → Type 0
   pub small : (r : R) → put r < 256
   pub back : (r : R) → Fits r → get (put r) ≡ r
   pub clear : (r : R) → bitsAt (put r) shift width ≡ 0
-  pub accept : (r : R) → Accepts (put r)
   pub fit : (b : ℕ) → Fits (get b)
-  pub exact : (b : ℕ) → b < 256 → Accepts b → (put (get b) ≡ b) ↔ (bitsAt b shift width ≡ 0)
+  pub exact : (b : ℕ) → b < 256 → (put (get b) ≡ b) ↔ (bitsAt b shift width ≡ 0)
 
 abbrev pub byte : {R : Type 0} → Byte R → Layout 1 R
 byte b =
@@ -57,17 +53,15 @@ byte b =
       fields = λ l at. b .get (getD l at 0);
       reserved = λ at. part at (b .shift) (b .width) ∷ [];
       Fits = b .Fits;
-      Accepts = λ l at. b .Accepts (getD l at 0);
       long = λ r. refl;
       bytes = λ r. cons-bytes (b .small r) no-bytes;
       back = λ r l at e h. ap (λ (m : List ℕ). b .get (getD m 0 0)) e ∙ b .back r h;
       clear = λ r l at e. (ap (λ (m : List ℕ). bitsAt (getD m 0 0) (b .shift) (b .width)) e ∙ b .clear r, tt);
-      accept = λ r l at e. subst (λ (m : List ℕ). b .Accepts (getD m 0 0)) (sym e) (b .accept r);
       fit = λ l at h. b .fit (getD l at 0);
-      stays = λ l at h a z i. b .exact (getD l at 0) (h .below at) a .1 (z .0) i ∷ [];
+      stays = λ l at h z i. b .exact (getD l at 0) (h .below at) .1 (z .0) i ∷ [];
     }
 
--- a byte whose fields are its lowest k bits, so that those above are reserved; no byte is refused
+-- a byte whose fields are its lowest k bits, so that those above are reserved
 module _ {R : Type 0} (k : ℕ) (put : R → ℕ) (get : ℕ → R) (Fits : R → Type 0) (fill : (r : R) → put r < 2 ^ k) where
   pub fill-small : k ≤ 8 → (r : R) → put r < 256
   fill-small h r = lt-of-lt-of-le (fill r) (pow-mono {i = k} {j = 8} h)
@@ -85,13 +79,11 @@ module _ {R : Type 0} (k : ℕ) (put : R → ℕ) (get : ℕ → R) (Fits : R �
         shift = k;
         width = 8 - k;
         Fits = Fits;
-        Accepts = λ b. Unit {0};
         small = fill-small most;
         back = back;
         clear = fill-clear;
-        accept = λ r. tt;
         fit = fit;
-        exact = λ b h a. exact b h;
+        exact = exact;
       }
 
 -- a byte that is reserved whole
@@ -123,7 +115,6 @@ _followed-by_ {m} {n} a b =
       fields = λ l at. (a .fields l at, b .fields l (at + m));
       reserved = λ at. a .reserved at ++ b .reserved (at + m);
       Fits = λ r. a .Fits (r .0) × b .Fits (r .1);
-      Accepts = λ l at. a .Accepts l at × b .Accepts l (at + m);
       long = λ r. length-append (a .image (r .0)) (b .image (r .1)) ∙ ap₂ _+_ (a .long (r .0)) (b .long (r .1));
       bytes = λ r. append-bytes (a .bytes (r .0)) (b .bytes (r .1));
       back =
@@ -135,12 +126,11 @@ _followed-by_ {m} {n} a b =
           λ r l at e.
           clear-both (a .reserved at) (b .reserved (at + m)) l (a .clear (r .0) l at (first-stands a b r l at e))
           (b .clear (r .1) l (at + m) (second-stands a b r l at e));
-      accept = λ r l at e. (a .accept (r .0) l at (first-stands a b r l at e), b .accept (r .1) l (at + m) (second-stands a b r l at e));
       fit = λ l at h. (a .fit l at h, b .fit l (at + m) h);
       stays =
-          λ l at h c z.
-          ap₂ _++_ (a .stays l at h (c .0) (clear-first (a .reserved at) (b .reserved (at + m)) l z))
-          (b .stays l (at + m) h (c .1) (clear-second (a .reserved at) (b .reserved (at + m)) l z))
+          λ l at h z.
+          ap₂ _++_ (a .stays l at h (clear-first (a .reserved at) (b .reserved (at + m)) l z))
+          (b .stays l (at + m) h (clear-second (a .reserved at) (b .reserved (at + m)) l z))
           ∙ sym (spread-append m n at l);
     }
 
@@ -152,12 +142,10 @@ as-record to from there here a =
       fields = λ l at. to (a .fields l at);
       reserved = a .reserved;
       Fits = λ s. a .Fits (from s);
-      Accepts = a .Accepts;
       long = λ s. a .long (from s);
       bytes = λ s. a .bytes (from s);
       back = λ s l at e h. ap to (a .back (from s) l at e h) ∙ there s;
       clear = λ s l at e. a .clear (from s) l at e;
-      accept = λ s l at e. a .accept (from s) l at e;
       fit = λ l at h. subst (a .Fits) (sym (here (a .fields l at))) (a .fit l at h);
-      stays = λ l at h c z. ap (a .image) (here (a .fields l at)) ∙ a .stays l at h c z;
+      stays = λ l at h z. ap (a .image) (here (a .fields l at)) ∙ a .stays l at h z;
     }

@@ -1,7 +1,7 @@
 -- Reserved bits: a byte that is read and written comes back exactly if they are 0; the reserved parts of two layouts together.
 -- Assumes nothing.
-use mathlib.Core.Path.{_≡_, refl, subst}
-use mathlib.Core.Bool.{Bool, true, false, false≢true, _||_}
+use mathlib.Core.Path.{_≡_, refl}
+use mathlib.Core.Bool.{Bool, true, false, false≢true}
 use mathlib.Core.Logic.{_↔_}
 use mathlib.Core.List.{List, [], _∷_, _++_}
 use Prim.Native.Nat.{ℕ, _<_}
@@ -30,14 +30,6 @@ together a b c d t = go (eqb a b) (eqb c d) t (eq-eqb a b) (eqb-true a b) (eq-eq
 -- `back` says what a byte becomes; the test is computed over all bytes
 pub exactly : (back : ℕ → ℕ) (shift width : ℕ) → T (all (λ b. alike (eqb (back b) b) (eqb (bitsAt b shift width) 0)) 256) → (b : ℕ) → b < 256 → (back b ≡ b) ↔ (bitsAt b shift width ≡ 0)
 exactly back shift width t b h = together (back b) b (bitsAt b shift width) 0 (below (λ k. alike (eqb (back k) k) (eqb (bitsAt k shift width) 0)) 256 t b h)
-
--- the same of the bytes that aren't `refused`
-pub exactly-accepted :
-    (refused : ℕ → Bool) (back : ℕ → ℕ) (shift width : ℕ) → T (all (λ b. refused b || alike (eqb (back b) b) (eqb (bitsAt b shift width) 0)) 256) → (b : ℕ) → b < 256
-    → refused b ≡ false → (back b ≡ b) ↔ (bitsAt b shift width ≡ 0)
-exactly-accepted refused back shift width t b h e =
-    together (back b) b (bitsAt b shift width) 0
-    (subst (λ (r : Bool). T (r || alike (eqb (back b) b) (eqb (bitsAt b shift width) 0))) e (below (λ k. refused k || alike (eqb (back k) k) (eqb (bitsAt k shift width) 0)) 256 t b h))
 
 -- parts of two lists that are 0
 pub clear-both : (ps qs : List Part) (l : List ℕ) → Clear ps l → Clear qs l → Clear (ps ++ qs) l

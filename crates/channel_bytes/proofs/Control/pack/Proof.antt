@@ -1,7 +1,9 @@
 -- `Control::pack`: each field stands above those below it.
 -- Assumes nothing.
-use mathlib.Core.Path.{refl}
+use mathlib.Core.Path.{refl, _∙_, ap₂}
+use Prim.Native.Nat.{ℕ, _*_, _%_}
 use native.Mathlib.Omega.{arith}
+use lib.Bits.{bitOr, and-mask}
 use Rattle.wire.proofs.Fields.{above}
 use Rattle.channel_bytes.specs.Bytes.{controlByte}
 use borrow.Author.Needs.{needs}
@@ -30,7 +32,9 @@ returns c =
     let e = u .before in
     let d = e .before in
     let m = d .before in
-    let p = above 8 2 2 {t = m .number .result} (d .number2 .result) refl (omega arith) (omega arith) (omega arith) in
+    let n = m .number .result in
+    let k = d .number2 .result in
+    let p = ap₂ (λ (x y : ℕ). bitOr x (y * 4 % 256)) (and-mask n 2) (and-mask k 2) ∙ above 8 2 2 {t = n % 4} (k % 4) refl (omega arith) (omega arith) (omega arith) in
     let q = above 8 1 4 (e .bit-of .result) p (omega arith) (omega arith) (omega arith) in
     let r = above 8 1 5 (u .bit-of2 .result) q (omega arith) (omega arith) (omega arith) in
     let s = above 8 1 6 (c .bit-of3 .result) r (omega arith) (omega arith) (omega arith) in

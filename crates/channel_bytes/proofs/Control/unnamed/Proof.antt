@@ -1,25 +1,24 @@
--- `Control::unnamed`: the tests of the mode say whether it has a name; past them the direction decides.
+-- `Control::unnamed`: the mode is asked, then the direction.
 -- Assumes nothing.
-use mathlib.Core.Path.{refl, sym, _∙_}
-use mathlib.Core.Bool.{false≢true}
-use mathlib.Core.Logic.{⊎-elim}
-use lib.Bits.{bitAnd}
-use borrow.Author.Tests.{eq-eqb, eqb-true, eqb-false}
-use Rattle.channel_bytes.proofs.Named.{unnamed-mode, by-direction}
+use mathlib.Core.Path.{sym, _∙_}
+use borrow.Author.Needs.{needs}
+use Rattle.channel_bytes.specs.Bytes.{unnamed}
 use Rattle.channel_bytes.proofs.Control.unnamed.Statement.{statement}
 use Rattle.channel_bytes.proofs.Control.unnamed.Tie as tie
 
+unnamed-requires : tie.Need-unnamed-requires
+unnamed-requires c κs = search needs
+
 returns : tie.Need-returns
-returns c =
-    let b = c .before .before .args .byte in
-    c .if2 .taken
-    ∙ ⊎-elim (λ h. sym (unnamed-mode b 1 (h .0 .taken) refl)) (λ h. sym (unnamed-mode b 3 (eqb-true (bitAnd b 3) 3 (sym (h .1) ∙ c .if2 .taken)) refl)) (c .before .if1 .came)
+unfolding unnamed
+returns c = rw (sym (c .before .unnamed .ensures) ∙ c .if1 .taken)
+
+unnamed-requires-2 : tie.Need-unnamed-requires-2
+unnamed-requires-2 c κs = search needs
 
 returns-2 : tie.Need-returns-2
-returns-2 c =
-    let b = c .before .before .args .byte in
-    ⊎-elim (λ h. absurd (false≢true (sym (c .if2 .left) ∙ h .1 ∙ eq-eqb (bitAnd b 3) 1 (h .0 .taken))))
-    (λ h. sym (by-direction b (h .0 .left) (eqb-false (bitAnd b 3) 3 (sym (h .1) ∙ c .if2 .left)))) (c .before .if1 .came)
+unfolding unnamed
+returns-2 c = rw (sym (c .before .before .unnamed .ensures) ∙ c .before .if1 .left) (c .unnamed2 .ensures)
 
 pub unnamed-spec : {M : Type 1} → statement M
-unnamed-spec = tie.close (tie.spec returns returns-2)
+unnamed-spec = tie.close (tie.spec unnamed-requires returns unnamed-requires-2 returns-2)

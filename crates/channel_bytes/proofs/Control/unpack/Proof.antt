@@ -1,22 +1,40 @@
--- `Control::unpack`: an unnamed mode or direction is refused.
+-- `Control::unpack`: each field is read from its bits.
 -- Assumes nothing.
-use mathlib.Core.Path.{sym, _∙_, ap}
-use Rattle.wire.specs.Outcome.{accepted}
+use mathlib.Core.Path.{_∙_, ap}
 use borrow.Author.Needs.{needs}
+use Rattle.wire.proofs.Fields.{masked, masked-low}
+use Rattle.channel_bytes.specs.Bytes.{modeAt, directionAt, controlAt}
 use Rattle.channel_bytes.proofs.Control.unpack.Statement.{statement}
 use Rattle.channel_bytes.proofs.Control.unpack.Tie as tie
 
-unnamed-requires : tie.Need-unnamed-requires
-unnamed-requires c κs = search needs
+mode-at-requires : tie.Need-mode-at-requires
+mode-at-requires c κs = search needs
+
+direction-at-requires : tie.Need-direction-at-requires
+direction-at-requires c κs = search needs
+
+flag-requires : tie.Need-flag-requires
+flag-requires c κs = search needs
+
+flag-requires-2 : tie.Need-flag-requires-2
+flag-requires-2 c κs = search needs
+
+flag-requires-3 : tie.Need-flag-requires-3
+flag-requires-3 c κs = search needs
 
 returns : tie.Need-returns
-returns c = rw (sym (c .before .unnamed .ensures) ∙ c .if1 .taken)
-
-named-requires : tie.Need-named-requires
-named-requires c κs = search needs
-
-returns-2 : tie.Need-returns-2
-returns-2 c = rw (sym (c .before .before .unnamed .ensures) ∙ c .before .if1 .left) (ap accepted (c .named .ensures))
+unfolding controlAt
+returns c =
+    let m = c .before .before .before .before in
+    let b = m .before .args .byte in
+    λ i.
+    record {
+      «operation_mode» = (m .mode-at .ensures ∙ ap modeAt (masked-low b 2)) i;
+      direction = (c .before .before .before .direction-at .ensures ∙ ap directionAt (masked b 2 2)) i;
+      «ecat_event_enable» = c .before .before .flag .ensures i;
+      «dls_user_event_enable» = c .before .flag2 .ensures i;
+      «watchdog_enable» = c .flag3 .ensures i;
+    }
 
 pub unpack-spec : {M : Type 1} → statement M
-unpack-spec = tie.close (tie.spec unnamed-requires returns named-requires returns-2)
+unpack-spec = tie.close (tie.spec mode-at-requires direction-at-requires flag-requires flag-requires-2 flag-requires-3 returns)
