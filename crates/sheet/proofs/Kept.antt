@@ -17,7 +17,7 @@ pub record Accepts (s : List ℕ) : Type 0 where
   pub right : wrongLength s ≡ false
   pub version : wrongVersion s ≡ false
   pub whole : broken s ≡ false
-  pub named : someUnnamed s ≡ false
+  pub named : someUnnamed (sheetData s .managers) ≡ false
   pub managers : managerCount s ≤ 16
   pub usages : usageCount s ≤ 16
   pub places : pdosPlace s ≤ length s
@@ -27,7 +27,7 @@ pub record Accepts (s : List ℕ) : Type 0 where
   pub few : managersIn s ≡ sheetData s .managers
 
 -- from the conditions
-pub accepts : (s : List ℕ) → wrongLength s ≡ false → wrongVersion s ≡ false → broken s ≡ false → someUnnamed s ≡ false → Accepts s
+pub accepts : (s : List ℕ) → wrongLength s ≡ false → wrongVersion s ≡ false → broken s ≡ false → someUnnamed (sheetData s .managers) ≡ false → Accepts s
 accepts s a b c d =
     let l = long s a in
     let k = kept s c in
@@ -56,5 +56,5 @@ four false false false false x y e = (refl, refl, refl, refl)
 -- from the answer
 pub accepted-accepts : {A : Type 0} (s : List ℕ) (x y : A) → accepted y ≡ decide (sheetRefusals s) x → Accepts s
 accepted-accepts s x y e =
-    let h = four (wrongLength s) (wrongVersion s) (broken s) (someUnnamed s) x y e in
+    let h = four (wrongLength s) (wrongVersion s) (broken s) (someUnnamed (sheetData s .managers)) x y e in
     accepts s (h .0) (h .1) (h .2) (h .3)

@@ -1,18 +1,19 @@
 -- The sync managers and usages of a sheet as loops meet them: by number, a turn, the end.
 -- Assumes nothing.
 use mathlib.Core.Path.{_≡_, sym, _∙_, ap}
-use mathlib.Core.Bool.{Bool, true, false}
+use mathlib.Core.Bool.{Bool, false, _||_}
 use mathlib.Core.List.{List, [], _∷_}
 use Prim.Native.Nat.{ℕ, suc, _+_, _≤_, _<_, min}
 use native.Mathlib.Numerals.{add-one}
 use native.Mathlib.Omega.{arith}
 use lib.ListN.{length, getD, take, drop, set, length-take, drop-of-length-le}
 use lib.Seq.{drop-cons, getD-take, take-all}
-use Rattle.wire.specs.Lists.{listOf, someBelow}
-use Rattle.wire.proofs.Lists.{some-hit, some-miss, length-listOf, getD-listOf, filled}
-use Rattle.channel_bytes.specs.Bytes.{unnamed}
+use Rattle.wire.specs.Lists.{listOf}
+use Rattle.wire.proofs.Lists.{length-listOf, getD-listOf, filled}
+use Rattle.channel_bytes.specs.declared.Control.{Control}
+use Rattle.channel_bytes.specs.Bytes.{controlAt, unnamed}
 use Rattle.sheet.specs.declared.SyncManager.{SyncManager}
-use Rattle.sheet.specs.Sheet.{managerCount, usageCount, managerPlace, usagesPlace, managerAt, unnamedAt, someUnnamed, sheetData, managersIn, noManager, managersOf}
+use Rattle.sheet.specs.Sheet.{managerCount, usageCount, managerPlace, usagesPlace, managerAt, someUnnamed, sheetData, managersIn, noManager, managersOf}
 
 -- of a list by number: a turn, and the end
 module _ {A : Type 0} (f : ℕ → A) (n : ℕ) where
@@ -93,20 +94,21 @@ module _ (s : List ℕ) where
   unfolding sheetData
   usage-end k h = number-end usage-at (usageCount s) k h
 
-  -- the loop that asks for an unnamed control: one, none yet, none at all
-  pub unnamed-here : {n k at : ℕ} {b : Bool} → n ≡ managerCount s → k < n → at ≡ managerPlace k → b ≡ unnamed (getD s (at + 2) 0) → b ≡ true → true ≡ someUnnamed s
-  unfolding someUnnamed
-  unnamed-here {n} {k} {at} en h ea eb e =
-      let f : unnamedAt s k ≡ true = ap (λ (x : ℕ). unnamed (getD s (x + 2) 0)) (sym ea) ∙ sym eb ∙ e in
-      sym (some-hit (unnamedAt s) k (managerCount s) (omega arith) f)
+  -- the loop that asks for an unnamed control, of those that are left: this one or a later one, and none at the end
+  abbrev pub unnamed-left : ℕ → Bool
+  unnamed-left k = someUnnamed (drop k (sheetData s .managers))
 
-  pub unnamed-not : (k : ℕ) {at : ℕ} {b : Bool} → someBelow (unnamedAt s) k ≡ false → at ≡ managerPlace k → b ≡ unnamed (getD s (at + 2) 0) → b ≡ false → someBelow (unnamedAt s) (k + 1) ≡ false
-  unnamed-not k {at} below ea eb e =
-      some-miss (unnamedAt s) k below (ap (λ (x : ℕ). unnamed (getD s (x + 2) 0)) (sym ea) ∙ sym eb ∙ e)
-
-  pub unnamed-none : {k : ℕ} → k ≡ managerCount s → someBelow (unnamedAt s) k ≡ false → false ≡ someUnnamed s
+  pub unnamed-turn :
+      (k : ℕ) {at : ℕ} {c : Control} {b : Bool} → k < managerCount s → at ≡ managerPlace k → c ≡ controlAt (getD s (at + 2) 0) → b ≡ unnamed c
+      → unnamed-left k ≡ b || unnamed-left (k + 1)
   unfolding someUnnamed
-  unnamed-none {k} e below = sym below ∙ ap (someBelow (unnamedAt s)) e
+  unnamed-turn k {at} {c} {b} h ea ec eb =
+      let is : unnamed (controlAt (getD s (managerPlace k + 2) 0)) ≡ b = ap (λ (x : ℕ). unnamed (controlAt (getD s (x + 2) 0))) (sym ea) ∙ ap unnamed (sym ec) ∙ sym eb in
+      ap someUnnamed (manager-turn k h) ∙ ap (λ (x : Bool). x || unnamed-left (k + 1)) is
+
+  pub unnamed-none : (k : ℕ) → managerCount s ≤ k → unnamed-left k ≡ false
+  unfolding someUnnamed
+  unnamed-none k h = ap someUnnamed (manager-end k h)
 
   -- a turn of the loop that gathers them
   pub gathered : {k i : ℕ} {m : SyncManager} {l : List SyncManager} → k < 16 → l ≡ managersOf s k → i ≡ k → m ≡ managerAt s (managerPlace k) → set l i m ≡ managersOf s (k + 1)

@@ -32,8 +32,8 @@ add-byte-at-2 c = omega arith
 byte-at-requires-3 : tie.Need-byte-at-requires-3
 byte-at-requires-3 c κs = tt
 
-named-requires : tie.Need-named-requires
-named-requires c κs = tt
+unpack-requires : tie.Need-unpack-requires
+unpack-requires c κs = tt
 
 add-byte-at-3 : tie.Need-add-byte-at-3
 add-byte-at-3 c = omega arith
@@ -60,7 +60,7 @@ returns c =
     let p = high .before in
     let s = now (p .before .before .args .sheet) in
     let at = p .manager-place .result in
-    let control = named .named .ensures ∙ ap controlAt (named .before .byte-at3 .ensures) in
+    let control = named .unpack .ensures ∙ ap controlAt (named .before .byte-at3 .ensures) in
     let flag = enabled .flag .ensures ∙ ap (λ (b : ℕ). flagAt b 0) (enabled .before .byte-at4 .ensures) in
     manager-fields s at (two-bytes s at (high .byte-at .ensures) (low .byte-at2 .ensures) (start .be16 .ensures)) control flag (c .byte-at5 .ensures)
     ∙ ap (managerAt s) (p .manager-place .ensures .0)
@@ -76,7 +76,7 @@ manager-spec =
     be16-requires
     add-byte-at-2
     byte-at-requires-3
-    named-requires
+    unpack-requires
     add-byte-at-3
     byte-at-requires-4
     flag-requires
