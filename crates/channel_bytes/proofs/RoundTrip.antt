@@ -22,8 +22,8 @@ use Rattle.channel_bytes.specs.declared.BufferState.the-variants.{First,
 use Rattle.channel_bytes.specs.declared.Control.{Control}
 use Rattle.channel_bytes.specs.declared.Status.{Status}
 use Rattle.channel_bytes.specs.declared.Enable.{Enable}
-use Rattle.channel_bytes.specs.Bytes.{modeNumber, modeAt, modeNamed, modeUnnamed, directionNumber, directionAt, directionNamed, directionUnnamed, wrongNumber, stateNumber, stateAt}
-use Rattle.channel_bytes.specs.Bytes.{controlAt, controlByte, misnumbered, statusAt, statusByte, enableAt, enableLow, enableHigh}
+use Rattle.channel_bytes.specs.Bytes.{modeNumber, modeAt, modeNamed, modeUnnamed, directionNumber, directionAt, directionNamed, directionUnnamed, isUnnamed, wrongNumber, stateNumber, stateAt}
+use Rattle.channel_bytes.specs.Bytes.{controlAt, controlByte, unnamed, misnumbered, statusAt, statusByte, enableAt, enableLow, enableHigh}
 use Rattle.channel_bytes.proofs.Bytes.{two-bits, control-laid, status-laid, low-laid, high-laid}
 
 -- a number above 3 is wrong, whichever are named
@@ -115,6 +115,23 @@ enable-read-write e =
       «channel_pdi_disabled» = flag-back (e .«channel_pdi_disabled») (h .0) i;
       «repeat_ack» = flag-back (e .«repeat_ack») (h .1 .0) i;
     }
+
+-- nor has a control whose mode and direction have names
+mode-numbered : (m : OperationMode) → isUnnamed (modeUnnamed m) ≡ false → wrongNumber modeNamed (modeUnnamed m) ≡ false
+mode-numbered mode.Normal h = refl
+mode-numbered mode.Mailbox h = refl
+mode-numbered (mode.Unnamed k) h = absurd (false≢true (sym h))
+
+direction-numbered : (d : Direction) → isUnnamed (directionUnnamed d) ≡ false → wrongNumber directionNamed (directionUnnamed d) ≡ false
+direction-numbered direction.MasterRead h = refl
+direction-numbered direction.MasterWrite h = refl
+direction-numbered (direction.Unnamed k) h = absurd (false≢true (sym h))
+
+pub named-numbered : (c : Control) → unnamed c ≡ false → misnumbered c ≡ false
+unfolding unnamed misnumbered
+named-numbered c h =
+    let both = or-none (isUnnamed (modeUnnamed (c .«operation_mode»))) (isUnnamed (directionUnnamed (c .direction))) h in
+    ap₂ _||_ (mode-numbered (c .«operation_mode») (both .0)) (direction-numbered (c .direction) (both .1))
 
 -- a control byte that is read and written is the byte with bit 7 cleared
 pub control-again : (b : ℕ) → b < 256 → controlByte (controlAt b) ≡ b % 128

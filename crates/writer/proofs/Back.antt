@@ -11,17 +11,19 @@ use borrow.Author.Tests.{le-ltb}
 use Rattle.wire.specs.Field.{bitsAt, flagAt, bit}
 use Rattle.wire.specs.Outcome.{accepted, when, decide}
 use Rattle.wire.proofs.Fields.{bit-back}
-use Rattle.wire.proofs.Lists.{some-none, each-at}
+use Rattle.wire.proofs.Lists.{some-none, of-none, each-at}
 use Rattle.wire.proofs.Packed.{Laid, flag, laid}
 use Rattle.grammar.proofs.Length.{only-high}
 use Rattle.grammar.proofs.Broken.{only-walk}
+use Rattle.channel_bytes.specs.Bytes.{unnamed}
+use Rattle.sheet.specs.declared.SyncManager.{SyncManager}
 use Rattle.sheet.specs.Device.{Data, pdosFrom}
-use Rattle.sheet.specs.Sheet.{usageCount, pdoCount, usagesPlace, pdosPlace, wrongLength, wrongVersion, pdosFit, someUsageWrong, broken, sheetData, readSheet}
+use Rattle.sheet.specs.Sheet.{usageCount, pdoCount, usagesPlace, pdosPlace, wrongLength, wrongVersion, pdosFit, someUsageWrong, broken, someUnnamed, sheetData, readSheet}
 use Rattle.writer.specs.Form.{flagsByte, bodyBytes, sheetOf}
-use Rattle.writer.proofs.Keeps.{Keeps}
+use Rattle.writer.proofs.Keeps.{KeepsManager, Keeps}
 use Rattle.writer.proofs.Stands.{stands-byte, stands-all}
 use Rattle.writer.proofs.Parts.{Parts, parts}
-use Rattle.writer.proofs.Managers.{managers-read, usages-named, controls-named}
+use Rattle.writer.proofs.Managers.{managers-read, usages-named}
 use Rattle.writer.proofs.Pdos.{pdos-read, pdos-fit}
 
 -- the flags' byte holds each flag
@@ -77,14 +79,16 @@ module _ (x : Data) (s : List ℕ) (k : Keeps x) (t : Parts x s) where
         pdos = (ap (λ (n : ℕ). pdosFrom s n (pdosPlace s)) (t .p) ∙ pdos-read (x .pdos) (pdosPlace s) (k .pdos) (t .pdos)) i;
       }
 
-  -- so it reads as that data
+  -- so it isn't refused with 5, and reads as that data
+  all-named : someUnnamed (sheetData s .managers) ≡ false
+  unfolding someUnnamed
+  all-named =
+      ap (λ (d : Data). someUnnamed (d .managers)) data-read
+      ∙ of-none (λ (m : SyncManager). unnamed (m .control)) KeepsManager (λ m h. h .named) (x .managers) (k .managers)
+
   parts-read : readSheet s ≡ accepted x
   unfolding readSheet
-  parts-read =
-      λ i.
-      decide
-      (when 2 (right-length i) ∷ when 3 (right-version i) ∷ when 4 (unbroken i) ∷ when 5 (controls-named s (x .managers) (t .n) (t .managers) i) ∷ [])
-      (data-read i)
+  parts-read = λ i. decide (when 2 (right-length i) ∷ when 3 (right-version i) ∷ when 4 (unbroken i) ∷ when 5 (all-named i) ∷ []) (data-read i)
 
 -- and so does the sheet that was written
 pub kept-reads : (x : Data) → Keeps x → readSheet (sheetOf x) ≡ accepted x

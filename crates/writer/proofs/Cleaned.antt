@@ -1,26 +1,25 @@
 -- What an accepted sheet reads as, written again: byte for byte the sheet, but that the bits which are ignored are 0.
 -- Assumes nothing.
-use mathlib.Core.Path.{_≡_, sym, _∙_, ap, ap₂, subst}
-use mathlib.Core.Bool.{Bool, false, _||_}
+use mathlib.Core.Path.{_≡_, sym, _∙_, ap, ap₂}
 use mathlib.Core.List.{List, [], _∷_, _++_, map}
 use Prim.Native.Nat.{ℕ, _+_, _%_, _<_}
 use native.Mathlib.Omega.{arith}
 use lib.ListN.{length, getD, take, drop, length-append, length-drop}
 use lib.Seq.{take-at, length-take-le}
-use lib.Dec.{T, eqb, eqb→eq}
+use lib.Dec.{eqb}
 use borrow.Author.Tests.{eqb-true, not-false}
 use Rattle.wire.specs.Field.{flagAt, bit}
 use Rattle.wire.specs.Image.{Bytes}
 use Rattle.wire.specs.Lists.{listOf}
 use Rattle.wire.specs.Number.{bigAt, bigOf}
-use Rattle.wire.proofs.Below.{below, agree}
-use Rattle.wire.proofs.Lists.{none-below, length-listOf, map-number}
+use Rattle.wire.proofs.Below.{agree}
+use Rattle.wire.proofs.Lists.{length-listOf, map-number}
 use Rattle.wire.proofs.Numbers.{big-back}
 use Rattle.area.specs.Area.{flat}
-use Rattle.channel_bytes.specs.Bytes.{controlAt, unnamed, controlByte}
+use Rattle.channel_bytes.proofs.RoundTrip.{control-again}
 use Rattle.grammar.proofs.Length.{exact}
 use Rattle.grammar.proofs.Broken.{kept}
-use Rattle.sheet.specs.Sheet.{managerCount, usageCount, pdoCount, managerPlace, usagesPlace, pdosPlace, managerAt, unnamedAt, someUnnamed, sheetData}
+use Rattle.sheet.specs.Sheet.{managerCount, usageCount, pdoCount, managerPlace, usagesPlace, pdosPlace, managerAt, sheetData}
 use Rattle.sheet.proofs.Kept.{Accepts}
 use Rattle.sheet.proofs.Managers.{manager-count, usage-count}
 use Rattle.sheet.proofs.Sound.{length-pdos}
@@ -29,13 +28,6 @@ use Rattle.writer.specs.Again.{cleanManager, cleaned}
 use Rattle.writer.proofs.Stored.{managers-long}
 use Rattle.writer.proofs.From.{from, from-length, stands}
 use Rattle.writer.proofs.Records.{fit-bytes}
-
--- a control byte with named fields comes back without bit 7
-control-clean : (b : ℕ) → b < 256 → unnamed b ≡ false → controlByte (controlAt b) ≡ b % 128
-unfolding controlAt controlByte unnamed
-control-clean b h e =
-    eqb→eq (controlByte (controlAt b)) (b % 128)
-    (subst (λ (r : Bool). T (r || eqb (controlByte (controlAt b)) (b % 128))) e (below (λ k. unnamed k || eqb (controlByte (controlAt k)) (k % 128)) 256 tt b h))
 
 -- EEPROM enable comes back as its bit 0
 enable-clean : (b : ℕ) → b < 256 → bit (flagAt b 0) ≡ b % 2
@@ -51,17 +43,16 @@ module _ (s : List ℕ) (h : Bytes s) (a : Accepts s) where
   clean k = cleanManager s (managerPlace k)
 
   -- a sync manager, read and written, and all of them
-  manager-clean : (k : ℕ) → k < managerCount s → managerBytes (managerAt s (managerPlace k)) ≡ clean k
-  unfolding someUnnamed
-  manager-clean k l =
+  manager-clean : (k : ℕ) → managerBytes (managerAt s (managerPlace k)) ≡ clean k
+  manager-clean k =
       let at = managerPlace k in
       let start = big-back at h in
-      let control = control-clean (getD s (at + 2) 0) (h .below (at + 2)) (none-below (unnamedAt s) (managerCount s) (a .named) k l) in
+      let control = control-again (getD s (at + 2) 0) (h .below (at + 2)) in
       let enable = enable-clean (getD s (at + 3) 0) (h .below (at + 3)) in
       λ i. start i ++ (control i ∷ enable i ∷ getD s (at + 4) 0 ∷ [])
 
   managers-clean : map managerBytes (listOf (λ k. managerAt s (managerPlace k)) (managerCount s)) ≡ listOf clean (managerCount s)
-  managers-clean = map-number managerBytes (λ k. managerAt s (managerPlace k)) clean (managerCount s) manager-clean
+  managers-clean = map-number managerBytes (λ k. managerAt s (managerPlace k)) clean (managerCount s) (λ k l. manager-clean k)
 
   -- what follows the head there, and how many bytes that is
   abbrev rest : List ℕ

@@ -1,4 +1,4 @@
--- Refusals 2 and 4 of a call, and its data: where neither holds the data keeps what data with a sheet keeps; and where it keeps that, neither holds.
+-- Refusals 2, 4 and 5 of a call, and its data: where none holds the data keeps what data with a sheet keeps; and where it keeps that, none holds.
 -- Assumes nothing.
 use mathlib.Core.Path.{_≡_, sym, subst}
 use mathlib.Core.Bool.{true, false}
@@ -12,9 +12,11 @@ use Rattle.wire.specs.Lists.{Each}
 use Rattle.wire.proofs.Bytes.{part-bytes}
 use Rattle.wire.proofs.Lists.{none-of, of-none, each-both}
 use Rattle.grammar.specs.Grammar.{pdosFit}
+use Rattle.channel_bytes.specs.Bytes.{unnamed}
 use Rattle.sheet.specs.declared.SyncManager.{SyncManager}
 use Rattle.sheet.specs.declared.Device.{Device}
 use Rattle.sheet.specs.Device.{Pdo, dataOf}
+use Rattle.sheet.specs.Sheet.{someUnnamed}
 use Rattle.sheet.proofs.Sound.{length-pdos}
 use Rattle.writer.specs.Writing.{recordsLong, recordsOf, tooLong, ruleBroken}
 use Rattle.writer.specs.Again.{InRange}
@@ -33,11 +35,18 @@ each-take P (suc n) (x ∷ l) p = (p .0, each-take P n l (p .1))
 abbrev pub StartInRange : SyncManager → Type 0
 StartInRange m = m .«start_addr» < 65536
 
+-- a mode and a direction with names, and both together
+abbrev Named : SyncManager → Type 0
+Named m = unnamed (m .control) ≡ false
+
+abbrev StartNamed : SyncManager → Type 0
+StartNamed m = StartInRange m × Named m
+
 module _ (d : Device) (s : List ℕ) (r : InRange d s) where
-  -- neither 2 nor 4
-  pub data-keeps : tooLong d s ≡ false → ruleBroken d (recordsOf d s) ≡ false → Keeps (dataOf d s)
-  unfolding tooLong dataOf
-  data-keeps short rule =
+  -- none of them
+  pub data-keeps : tooLong d s ≡ false → ruleBroken d (recordsOf d s) ≡ false → someUnnamed (take (d .n) (d .managers)) ≡ false → Keeps (dataOf d s)
+  unfolding tooLong someUnnamed dataOf
+  data-keeps short rule named =
       let k = kept d (recordsOf d s) rule in
       let n = recordsLong d s in
       let ms = take (d .n) (d .managers) in
@@ -51,8 +60,9 @@ module _ (d : Device) (s : List ℕ) (r : InRange d s) where
         send = r .send;
         few-managers = omega arith;
         managers =
-            each-both StartInRange (λ (m : SyncManager). m .«usage_type» ≤ 4) KeepsManager (λ m a b. record { start = a; usage = b }) ms
-            (each-take StartInRange (d .n) (d .managers) (r .starts))
+            each-both StartNamed (λ (m : SyncManager). m .«usage_type» ≤ 4) KeepsManager (λ m a b. record { start = a .0; named = a .1; usage = b }) ms
+            (each-both StartInRange Named StartNamed (λ m a b. (a, b)) ms (each-take StartInRange (d .n) (d .managers) (r .starts))
+            (none-of (λ (m : SyncManager). unnamed (m .control)) Named (λ m e. e) ms named))
             (none-of unnamedUse (λ (m : SyncManager). m .«usage_type» ≤ 4) (λ m e. ltb-false 4 (m .«usage_type») e) ms (k .managers));
         few-usages = omega arith;
         usages = none-of (ltb 3) (λ (u : ℕ). u ≤ 3) (ltb-false 3) us (k .usages);
@@ -64,8 +74,9 @@ module _ (d : Device) (s : List ℕ) (r : InRange d s) where
       }
 
   -- n and f at most 16 and the records whole: the data decides
-  pub keeps-data : d .n ≤ 16 → d .f ≤ 16 → pdosFit (recordsOf d s) (d .p) 0 ≡ true → Keeps (dataOf d s) → (tooLong d s ≡ false) × (ruleBroken d (recordsOf d s) ≡ false)
-  unfolding tooLong dataOf
+  pub keeps-data : d .n ≤ 16 → d .f ≤ 16 → pdosFit (recordsOf d s) (d .p) 0 ≡ true → Keeps (dataOf d s)
+      → (tooLong d s ≡ false) × (ruleBroken d (recordsOf d s) ≡ false) × (someUnnamed (take (d .n) (d .managers)) ≡ false)
+  unfolding tooLong someUnnamed dataOf
   keeps-data n f e k =
       let lb = body-length d s (r .managers) (r .usages) n f (r .bytes) e in (
         le-ltb 16384 (9 + 5 * d .n + d .f + recordsLong d s) (omega (arith, k .short)),
@@ -77,4 +88,5 @@ module _ (d : Device) (s : List ℕ) (r : InRange d s) where
               usages = of-none (ltb 3) (λ (u : ℕ). u ≤ 3) (le-ltb 3) (take (d .f) (d .usages)) (k .usages);
               whole = e;
             }),
+        of-none (λ (m : SyncManager). unnamed (m .control)) KeepsManager (λ m h. h .named) (take (d .n) (d .managers)) (k .managers),
       )

@@ -1,4 +1,4 @@
--- The theorems aren't empty: sheets that are read, and what is written of them, computed; and calls that keep the promise, one that writes and one that is refused.
+-- The theorems aren't empty: sheets that are read, and what is written of them, computed; and calls that keep the promise, one that writes and two that are refused.
 -- Assumes nothing.
 use mathlib.Core.Path.{_≡_, refl}
 use mathlib.Core.List.{List, [], _∷_, _++_}
@@ -27,7 +27,7 @@ abbrev pub smallest : List ℕ
 smallest = 0 ∷ 9 ∷ 1 ∷ replicate 8 0
 
 pub smallest-reads : readSheet smallest ≡ accepted (sheetData smallest)
-unfolding readSheet wrongLength broken someManagerWrong someUsageWrong pdosFit someUnnamed someBelow
+unfolding readSheet wrongLength broken someManagerWrong someUsageWrong pdosFit someUnnamed someBelow sheetData listOf
 smallest-reads = refl
 
 pub smallest-again : sheetOf (sheetData smallest) ≡ smallest
@@ -42,7 +42,7 @@ bay control enable usage =
 
 -- control 0xA6, enable 0xFE: it is accepted; control bit 7 and the enable bits that are ignored are 0 in what is written again, 0x26 and 0x00
 pub bay-reads : readSheet (bay 166 254 1) ≡ accepted (sheetData (bay 166 254 1))
-unfolding readSheet wrongLength broken someManagerWrong someUsageWrong kindFits pdosFit someUnnamed someBelow unnamed
+unfolding readSheet wrongLength broken someManagerWrong someUsageWrong kindFits pdosFit someUnnamed someBelow unnamed sheetData listOf controlAt
 bay-reads = refl
 
 pub bay-cleaned : cleaned (bay 166 254 1) ≡ bay 38 0 1
@@ -62,9 +62,9 @@ pub bytes-of : (l : List ℕ) → Each (λ (b : ℕ). b < 256) l → Bytes l
 bytes-of [] h = no-bytes
 bytes-of (b ∷ l) h = cons-bytes (h .0) (bytes-of l (h .1))
 
-pub bay-in-range : (usage : ℕ) → usage < 256 → InRange (deviceOf (bay 166 254 usage)) (bay 166 254 usage)
+pub bay-in-range : (control usage : ℕ) → control < 256 → usage < 256 → InRange (deviceOf (bay control 254 usage)) (bay control 254 usage)
 unfolding deviceOf listOf
-bay-in-range usage h =
+bay-in-range control usage g h =
     record {
       receive = omega arith;
       send = omega arith;
@@ -72,12 +72,12 @@ bay-in-range usage h =
       starts = omega arith;
       usages = refl;
       count = omega arith;
-      bytes = bytes-of (bay 166 254 usage) (omega arith);
+      bytes = bytes-of (bay control 254 usage) (omega arith);
     }
 
-abbrev pub call : (usage : ℕ) → usage < 256 → Call
-call usage h =
-    let s = bay 166 254 usage in
+abbrev pub call : (control usage : ℕ) → control < 256 → usage < 256 → Call
+call control usage g h =
+    let s = bay control 254 usage in
     let d = deviceOf s in
     let room : List ℕ = replicate 34 7 in
     let o = writing d s room in
@@ -87,16 +87,21 @@ call usage h =
       room = room;
       answer = written-back o;
       left = roomAfter o (sheetOf (dataOf d s)) room;
-      range = bay-in-range usage h;
+      range = bay-in-range control usage g h;
       promise = record { says = written-is o; holds = refl };
     }
 
 -- usage 1 has a name: the sheet is written, and the rest of the room stays
-pub call-writes : (h : 1 < 256) → (call 1 h .answer ≡ Len 30) × (call 1 h .left ≡ bay 38 0 1 ++ replicate 4 7)
-unfolding writing tooLong ruleBroken pdosEnd kindFits pdosFit deviceOf dataOf sheetOf bodyBytes listOf pdosFrom flat controlAt controlByte
-call-writes h = (refl, refl)
+pub call-writes : (g : 166 < 256) (h : 1 < 256) → (call 166 1 g h .answer ≡ Len 30) × (call 166 1 g h .left ≡ bay 38 0 1 ++ replicate 4 7)
+unfolding writing tooLong ruleBroken pdosEnd kindFits pdosFit deviceOf dataOf sheetOf bodyBytes listOf pdosFrom flat controlAt controlByte someUnnamed unnamed
+call-writes g h = (refl, refl)
 
 -- usage 5 has none: all of the room stays
-pub call-refused : (h : 5 < 256) → (call 5 h .answer ≡ Refused 4) × (call 5 h .left ≡ call 5 h .room)
+pub call-refused : (g : 166 < 256) (h : 5 < 256) → (call 166 5 g h .answer ≡ Refused 4) × (call 166 5 g h .left ≡ call 166 5 g h .room)
 unfolding writing tooLong ruleBroken pdosEnd deviceOf listOf
-call-refused h = (refl, refl)
+call-refused g h = (refl, refl)
+
+-- control 0x23 has a mode without a name: so it does
+pub call-nameless : (g : 35 < 256) (h : 1 < 256) → (call 35 1 g h .answer ≡ Refused 5) × (call 35 1 g h .left ≡ call 35 1 g h .room)
+unfolding writing tooLong ruleBroken pdosEnd kindFits pdosFit deviceOf listOf controlAt someUnnamed unnamed
+call-nameless g h = (refl, refl)

@@ -1,17 +1,20 @@
 -- What holds of device data for which there is a sheet: each number in its range, each value with a name, and no more bytes than a sheet has.
 -- Assumes nothing.
 use mathlib.Core.Path.{_≡_}
+use mathlib.Core.Bool.{false}
 use mathlib.Core.List.{[], _∷_}
 use Prim.Native.Nat.{ℕ, _+_, _<_, _≤_}
 use lib.ListN.{length, getD}
 use Rattle.wire.specs.Image.{Bytes}
 use Rattle.wire.specs.Lists.{Each}
+use Rattle.channel_bytes.specs.Bytes.{unnamed}
 use Rattle.sheet.specs.declared.SyncManager.{SyncManager}
 use Rattle.sheet.specs.Device.{Pdo, Data}
 use Rattle.writer.specs.Form.{bodyBytes}
 
 pub record KeepsManager (m : SyncManager) : Type 0 where
   pub start : m .«start_addr» < 65536
+  pub named : unnamed (m .control) ≡ false
   pub usage : m .«usage_type» ≤ 4
 
 -- kind 0 holds at most 255 bit lengths, each a byte; kinds 1 and 2 hold one, of two bytes

@@ -1,4 +1,4 @@
--- The sync managers that were written, read: each is the one that was written, and none is refused.
+-- The sync managers that were written, read: each is the one that was written, and none has a usage without a name.
 -- Assumes nothing.
 use mathlib.Core.Path.{_≡_, refl, _∙_, ap, subst}
 use mathlib.Core.Bool.{false}
@@ -15,10 +15,10 @@ use Rattle.wire.specs.Field.{flagAt}
 use Rattle.wire.proofs.Fields.{flag-bit}
 use Rattle.wire.proofs.Lists.{some-none, each-at, length-listOf, getD-listOf}
 use Rattle.area.specs.Area.{flat}
-use Rattle.channel_bytes.specs.Bytes.{controlAt, unnamed}
-use Rattle.channel_bytes.proofs.RoundTrip.{control-read-write, control-named}
+use Rattle.channel_bytes.specs.Bytes.{controlAt}
+use Rattle.channel_bytes.proofs.RoundTrip.{control-read-write, named-numbered}
 use Rattle.sheet.specs.declared.SyncManager.{SyncManager}
-use Rattle.sheet.specs.Sheet.{managerCount, managerPlace, someManagerWrong, managerAt, unnamedAt, someUnnamed, noManager}
+use Rattle.sheet.specs.Sheet.{managerCount, managerPlace, someManagerWrong, managerAt, noManager}
 use Rattle.writer.specs.Form.{managerBytes}
 use Rattle.writer.proofs.Keeps.{KeepsManager}
 use Rattle.writer.proofs.Stands.{Stands, first-stands, second-stands, stands-byte, stands-number}
@@ -42,7 +42,7 @@ manager-read m k h =
     λ i.
     record {
       «start_addr» = stands-number (m .«start_addr») _ (k .start) h i;
-      control = (ap controlAt (stands-byte (managerBytes m) 2 refl (omega arith) h) ∙ control-read-write (m .control)) i;
+      control = (ap controlAt (stands-byte (managerBytes m) 2 refl (omega arith) h) ∙ control-read-write (m .control) (named-numbered (m .control) (k .named))) i;
       enable = (ap (λ (b : ℕ). flagAt b 0) (stands-byte (managerBytes m) 3 refl (omega arith) h) ∙ flag-bit (m .enable)) i;
       «usage_type» = stands-byte (managerBytes m) 4 refl (omega arith) h i;
     }
@@ -70,10 +70,3 @@ module _ (s : List ℕ) (ms : List SyncManager) (n : managerCount s ≡ length m
       let e = stands-byte (managerBytes (getD ms k noManager)) 4 {p = managerPlace k + 4} refl (omega arith) (here k b) in
       let u = each-at KeepsManager ms k noManager (omega arith) each in
       le-ltb 4 (getD s (managerPlace k + 4) 0) (omega arith))
-
-  -- and each control
-  pub controls-named : someUnnamed s ≡ false
-  unfolding someUnnamed
-  controls-named =
-      some-none (unnamedAt s) (managerCount s)
-      (λ k b. ap unnamed (stands-byte (managerBytes (getD ms k noManager)) 2 refl (omega arith) (here k b)) ∙ control-named (getD ms k noManager .control))

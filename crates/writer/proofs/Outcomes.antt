@@ -13,6 +13,7 @@ use Rattle.wire.specs.Room.{over}
 use Rattle.wire.specs.declared.Written.the-variants.{Len, Refused}
 use Rattle.sheet.specs.declared.Device.{Device}
 use Rattle.sheet.specs.Device.{dataOf}
+use Rattle.sheet.specs.Sheet.{someUnnamed}
 use Rattle.sheet.proofs.Sound.{length-pdos}
 use Rattle.writer.specs.Form.{flagsByte, headBytes, bodyBytes, sheetOf}
 use Rattle.writer.specs.Writing.{pdosEnd, recordsLong, recordsOf, tooLong, ruleBroken, writing, Writes}
@@ -52,8 +53,12 @@ module _ (d : Device) (s : List ℕ) where
     unfolding writing
     refused-four a b = rw (a, b) (record { says = refl; holds = refl })
 
-    -- neither: the sheet is as long as the code says, and 12 is the last
-    module _ (r : InRange d s) {total : ℕ} (a : tooLong d s ≡ false) (b : ruleBroken d (recordsOf d s) ≡ false) (t : total ≡ 11 + 5 * d .n + d .f + recordsLong d s) where
+    pub refused-five : tooLong d s ≡ false → ruleBroken d (recordsOf d s) ≡ false → someUnnamed (take (d .n) (d .managers)) ≡ true → Writes d s room (Refused 5) room
+    unfolding writing
+    refused-five a b u = rw (a, b, u) (record { says = refl; holds = refl })
+
+    -- none of them: the sheet is as long as the code says, and 12 is the last
+    module _ (r : InRange d s) {total : ℕ} (a : tooLong d s ≡ false) (b : ruleBroken d (recordsOf d s) ≡ false) (u : someUnnamed (take (d .n) (d .managers)) ≡ false) (t : total ≡ 11 + 5 * d .n + d .f + recordsLong d s) where
       total-is : length (sheetOf (dataOf d s)) ≡ total
       total-is =
           let k = kept d (recordsOf d s) b in
@@ -62,7 +67,7 @@ module _ (d : Device) (s : List ℕ) where
 
       pub refused-twelve : ltb (length room) total ≡ true → Writes d s room (Refused 12) room
       unfolding writing
-      refused-twelve c = rw (a, b, ap (ltb (length room)) total-is ∙ c) (record { says = refl; holds = refl })
+      refused-twelve c = rw (a, b, u, ap (ltb (length room)) total-is ∙ c) (record { says = refl; holds = refl })
 
       -- what the code lays is the sheet
       laid-is : sheetLaid d total (recordsOf d s) ≡ sheetOf (dataOf d s)
@@ -83,4 +88,4 @@ module _ (d : Device) (s : List ℕ) where
       pub written-whole : {after : List ℕ} → ltb (length room) total ≡ false → after ≡ over (sheetLaid d total (recordsOf d s)) room → Writes d s room (Len total) after
       unfolding writing
       written-whole c h =
-          rw (a, b, ap (ltb (length room)) total-is ∙ c) (record { says = ap accepted (sym total-is); holds = h ∙ ap (λ (l : List ℕ). over l room) laid-is })
+          rw (a, b, u, ap (ltb (length room)) total-is ∙ c) (record { says = ap accepted (sym total-is); holds = h ∙ ap (λ (l : List ℕ). over l room) laid-is })

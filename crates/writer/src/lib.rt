@@ -192,7 +192,6 @@ fn too_short(room: &[u8], total: u16) -> bool
 pub fn write(device: Device, bytes: &[u8], room: &mut [u8]) -> Written
     ensures { λ r. ⌜ Writes device (now (bytes .entry)) (now (room .entry)) r (now (room .exit)) ⌝ }
 {
-    let managers = device.managers;
     let behind = wire::behind(bytes, device.pdos);
     let long = grammar::pdos_end(behind, device.p);
     let follow = length_of(device.n, device.f, long);
@@ -207,6 +206,7 @@ pub fn write(device: Device, bytes: &[u8], room: &mut [u8]) -> Written
     if broken {
         return Written::Refused(4);
     }
+    let managers = device.managers;
     if some_control_unnamed(managers, device.n) {
         return Written::Refused(5);
     }

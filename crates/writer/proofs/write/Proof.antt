@@ -7,11 +7,12 @@ use Prim.Native.Nat.{ℕ, _+_, _*_}
 use native.Mathlib.Omega.{arith}
 use denote.Ref.{now}
 use denote.Struct.Field.{u8-field}
-use lib.ListN.{length, length-map}
+use lib.ListN.{length, take, length-map}
 use borrow.Author.Tests.{ltb-false}
 use borrow.Author.Needs.{needs}
 use Rattle.wire.specs.Room.{over}
 use Rattle.sheet.specs.declared.Device.{Device}
+use Rattle.sheet.specs.Sheet.{someUnnamed}
 use Rattle.sheet.proofs.SyncManager.{the-type}
 use Rattle.writer.specs.Writing.{recordsLong, recordsOf, tooLong, ruleBroken}
 use Rattle.writer.specs.Laid.{sheetLaid}
@@ -19,7 +20,7 @@ use Rattle.writer.specs.Again.{InRange}
 use Rattle.writer.proofs.Range.{starts-fit}
 use Rattle.writer.proofs.Rules.{kept}
 use Rattle.writer.proofs.Lent.{records-long}
-use Rattle.writer.proofs.Outcomes.{long-refused, short-enough, length-is, records-are, refused-two, refused-four, refused-twelve, written-whole}
+use Rattle.writer.proofs.Outcomes.{long-refused, short-enough, length-is, records-are, refused-two, refused-four, refused-five, refused-twelve, written-whole}
 use Rattle.writer.proofs.write.Statement.{statement}
 use Rattle.writer.proofs.write.Tie as tie
 
@@ -113,43 +114,68 @@ returns-2 c =
     let f = r .before in
     refused-four (device f) (lent f) (now (begun f .before .args .room)) (short f) (rule r (c .if2 .taken))
 
+-- where 4 isn't given: what that leaves known, and how the room was
+module _ (e : tie.Else2) where
+  abbrev cut : tie.After-front
+  cut = e .before .before .before .before
+
+  whole : ruleBroken (device cut) (recordsOf (device cut) (lent cut)) ≡ false
+  whole = rule (e .before .before .before) (e .if2 .left)
+
+  abbrev room : List ℕ
+  room = now (begun cut .before .args .room)
+
+some-control-unnamed-requires : tie.Need-some-control-unnamed-requires
+some-control-unnamed-requires c κs = let e = c .before in kept (device (cut e)) (recordsOf (device (cut e)) (lent (cut e))) (whole e) .few-managers
+
+-- 5 where it was asked
+nameless : (c : tie.After-some-control-unnamed) {x : Bool} → c .some-control-unnamed .result ≡ x → someUnnamed (take (device (cut (c .before .before)) .n) (device (cut (c .before .before)) .managers)) ≡ x
+nameless c h = sym (c .some-control-unnamed .ensures) ∙ h
+
 same-length-2 : tie.Need-same-length-2
 same-length-2 c = search needs
 
 returns-3 : tie.Need-returns-3
 returns-3 c =
-    let e = c .before in
-    let r = e .before .before .before in
-    let f = r .before in
-    refused-twelve (device f) (lent f) (now (begun f .before .args .room)) (in-range (begun f)) (short f) (rule r (e .if2 .left)) (total f) (sym (e .before .too-short .ensures) ∙ c .if3 .taken)
-
-put-sheet-requires : tie.Need-put-sheet-requires
-put-sheet-requires c κs =
-    let e = c .before .before in
-    let r = e .before .before .before in
-    let f = r .before in
-    let k = kept (device f) (recordsOf (device f) (lent f)) (rule r (e .if2 .left)) in
-    let l = ap length (records f) ∙ records-long (device f) (lent f) (k .whole) in
-    let t = total f in
-    let h = ltb-false (length (now (begun f .before .args .room))) (follow f + 2) (sym (e .before .too-short .ensures) ∙ c .before .if3 .left) in
-    (k .few-managers, k .few-usages, omega arith, omega arith)
-
-cast-t17 : tie.Need-cast-t17
-cast-t17 c = search needs
+    let e = c .before .before .before in
+    refused-five (device (cut e)) (lent (cut e)) (room e) (short (cut e)) (whole e) (nameless (c .before) (c .if3 .taken))
 
 same-length-3 : tie.Need-same-length-3
 same-length-3 c = search needs
 
 returns-4 : tie.Need-returns-4
 returns-4 c =
+    let u = c .before in
+    let e = u .before .before .before in
+    refused-twelve (device (cut e)) (lent (cut e)) (room e) (in-range (begun (cut e))) (short (cut e)) (whole e) (nameless (u .before) (u .if3 .left)) (total (cut e))
+    (sym (e .before .too-short .ensures) ∙ c .if4 .taken)
+
+put-sheet-requires : tie.Need-put-sheet-requires
+put-sheet-requires c κs =
+    let e = c .before .before .before .before .before in
+    let f = cut e in
+    let k = kept (device f) (recordsOf (device f) (lent f)) (whole e) in
+    let l = ap length (records f) ∙ records-long (device f) (lent f) (k .whole) in
+    let t = total f in
+    let h = ltb-false (length (room e)) (follow f + 2) (sym (e .before .too-short .ensures) ∙ c .before .if4 .left) in
+    (k .few-managers, k .few-usages, omega arith, omega arith)
+
+cast-t19 : tie.Need-cast-t19
+cast-t19 c = search needs
+
+same-length-4 : tie.Need-same-length-4
+same-length-4 c = search needs
+
+returns-5 : tie.Need-returns-5
+returns-5 c =
     let put = c .before .before in
-    let three = put .before .before in
-    let e = three .before in
-    let r = e .before .before .before in
-    let f = r .before in
-    let room = now (begun f .before .args .room) in
-    written-whole (device f) (lent f) room (in-range (begun f)) (short f) (rule r (e .if2 .left)) (total f) (sym (e .before .too-short .ensures) ∙ three .if3 .left)
-    (put .put-sheet .ensures ∙ ap (λ (l : List ℕ). over (sheetLaid (device f) (follow f + 2) l) room) (records f))
+    let four = put .before .before in
+    let u = four .before in
+    let e = u .before .before .before in
+    let f = cut e in
+    written-whole (device f) (lent f) (room e) (in-range (begun f)) (short f) (whole e) (nameless (u .before) (u .if3 .left)) (total f)
+    (sym (e .before .too-short .ensures) ∙ four .if4 .left)
+    (put .put-sheet .ensures ∙ ap (λ (l : List ℕ). over (sheetLaid (device f) (follow f + 2) l) (room e)) (records f))
 
 pub write-spec : {M : Type 1} → statement M
 write-spec =
@@ -165,9 +191,12 @@ write-spec =
     too-short-requires
     same-length
     returns-2
+    some-control-unnamed-requires
     same-length-2
     returns-3
-    put-sheet-requires
-    cast-t17
     same-length-3
-    returns-4)
+    returns-4
+    put-sheet-requires
+    cast-t19
+    same-length-4
+    returns-5)
