@@ -8,9 +8,9 @@ use native.Mathlib.Omega.{arith}
 use lib.ListN.{take, length-take}
 use lib.Dec.{ltb}
 use borrow.Author.Tests.{le-ltb, ltb-false}
-use Rattle.wire.specs.Lists.{Each}
+use Rattle.wire.specs.Lists.{someOf, Each}
 use Rattle.wire.proofs.Bytes.{part-bytes}
-use Rattle.wire.proofs.Lists.{none-of, of-none, each-both}
+use Rattle.wire.proofs.Lists.{or-none, none-of, of-none}
 use Rattle.grammar.specs.Grammar.{pdosFit}
 use Rattle.channel_bytes.specs.Bytes.{unnamed}
 use Rattle.sheet.specs.declared.SyncManager.{SyncManager}
@@ -35,17 +35,19 @@ each-take P (suc n) (x ∷ l) p = (p .0, each-take P n l (p .1))
 abbrev pub StartInRange : SyncManager → Type 0
 StartInRange m = m .«start_addr» < 65536
 
--- a mode and a direction with names, and both together
-abbrev Named : SyncManager → Type 0
-Named m = unnamed (m .control) ≡ false
-
-abbrev StartNamed : SyncManager → Type 0
-StartNamed m = StartInRange m × Named m
+-- sync managers with such addresses, none of which has an unnamed mode, direction or usage, have a sheet
+pub managers-keep : (ms : List SyncManager) → Each StartInRange ms → someUnnamed ms ≡ false → someOf unnamedUse ms ≡ false → Each KeepsManager ms
+unfolding someUnnamed
+managers-keep [] starts named uses = tt
+managers-keep (m ∷ ms) starts named uses =
+    let n = or-none (unnamed (m .control)) (someUnnamed ms) named in
+    let u = or-none (unnamedUse m) (someOf unnamedUse ms) uses in
+    (record { start = starts .0; named = n .0; usage = ltb-false 4 (m .«usage_type») (u .0) }, managers-keep ms (starts .1) (n .1) (u .1))
 
 module _ (d : Device) (s : List ℕ) (r : InRange d s) where
   -- none of them
   pub data-keeps : tooLong d s ≡ false → ruleBroken d (recordsOf d s) ≡ false → someUnnamed (take (d .n) (d .managers)) ≡ false → Keeps (dataOf d s)
-  unfolding tooLong someUnnamed dataOf
+  unfolding tooLong dataOf
   data-keeps short rule named =
       let k = kept d (recordsOf d s) rule in
       let n = recordsLong d s in
@@ -59,11 +61,7 @@ module _ (d : Device) (s : List ℕ) (r : InRange d s) where
         receive = r .receive;
         send = r .send;
         few-managers = omega arith;
-        managers =
-            each-both StartNamed (λ (m : SyncManager). m .«usage_type» ≤ 4) KeepsManager (λ m a b. record { start = a .0; named = a .1; usage = b }) ms
-            (each-both StartInRange Named StartNamed (λ m a b. (a, b)) ms (each-take StartInRange (d .n) (d .managers) (r .starts))
-            (none-of (λ (m : SyncManager). unnamed (m .control)) Named (λ m e. e) ms named))
-            (none-of unnamedUse (λ (m : SyncManager). m .«usage_type» ≤ 4) (λ m e. ltb-false 4 (m .«usage_type») e) ms (k .managers));
+        managers = managers-keep ms (each-take StartInRange (d .n) (d .managers) (r .starts)) named (k .managers);
         few-usages = omega arith;
         usages = none-of (ltb 3) (λ (u : ℕ). u ≤ 3) (ltb-false 3) us (k .usages);
         few-pdos = omega (arith, length-pdos s (d .p) (d .pdos));
