@@ -17,6 +17,7 @@ use Rattle.area.specs.Area.{flat}
 use Rattle.channel_bytes.specs.Bytes.{controlAt, unnamed, controlByte}
 use Rattle.sheet.specs.declared.Answer.the-variants.{Accepted}
 use Rattle.sheet.specs.Device.{Data, pdosFrom, dataOf}
+use Rattle.sheet.specs.Sheet.{someUnnamed}
 use Rattle.writer.specs.Form.{bodyBytes, sheetOf}
 use Rattle.writer.proofs.Examples.{bytes-of}
 use Rattle.dump.specs.declared.Head.{Head}
@@ -54,7 +55,7 @@ bayData =
     }
 
 pub bay-reads : readDump (headWith 0) (bay 32) (replicate 14 9) ≡ accepted bayData
-unfolding readDump unended notRecords dumpData categories cutIn pdosIn listOf flat unnamed
+unfolding readDump unended notRecords dumpData categories cutIn pdosIn listOf flat someUnnamed unnamed controlAt
 bay-reads = refl
 
 -- its sheet: L 30, one sync manager, two usages, two PDOs
@@ -73,7 +74,7 @@ all-bytes l e = bytes-of l (none-of (ltb 255) (λ (b : ℕ). b < 256) (λ b z. l
 pub mark-alone :
     readDump (headWith 1) (255 ∷ 255 ∷ []) []
     ≡ accepted (record { mailbox = true; coeProtocol = false; complete = false; receive = 0; send = 0; managers = []; usages = []; pdos = [] })
-unfolding readDump unended notRecords dumpData categories cutIn pdosIn flat
+unfolding readDump unended notRecords dumpData categories cutIn pdosIn flat someUnnamed
 mark-alone = refl
 
 -- the bay's strings stand between others, and can be left out
@@ -119,12 +120,12 @@ pub refusals :
     × (readDump (headWith 8) (bay 35) [] ≡ refused 4)
     × (readDump (headWith 0) (bay 35) [] ≡ refused 5)
     × (readDump (headWith 0) (bay 32) (replicate 13 9) ≡ refused 12)
-unfolding readDump unended notRecords dumpData categories cutIn pdosIn listOf flat unnamed
+unfolding readDump unended notRecords dumpData categories cutIn pdosIn listOf flat someUnnamed unnamed controlAt
 refusals = (refl, refl, refl, refl, refl, refl)
 
 -- a call that reads the bay into a room of 16 bytes: two of them stay
 pub call : Call
-unfolding readDump unended notRecords dumpData categories cutIn pdosIn pdosFrom dataOf listOf flat unnamed
+unfolding readDump unended notRecords dumpData categories cutIn pdosIn pdosFrom dataOf listOf flat someUnnamed unnamed controlAt
 call =
     let o : Outcome Data = readDump (headWith 0) (bay 32) (replicate 16 9) in
     record {

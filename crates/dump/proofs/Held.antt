@@ -18,7 +18,7 @@ use Rattle.wire.proofs.Lists.{each-both}
 use Rattle.sheet.specs.declared.SyncManager.{SyncManager}
 use Rattle.sheet.specs.declared.Device.{Device}
 use Rattle.sheet.specs.Device.{Pdo, Data, dataOf}
-use Rattle.sheet.specs.Sheet.{noManager}
+use Rattle.sheet.specs.Sheet.{someUnnamed, noManager}
 use Rattle.writer.specs.Form.{pdoBytes}
 use Rattle.writer.specs.Writing.{pdosEnd, pdosFit, tooLong, ruleBroken}
 use Rattle.writer.specs.Writing as Writing
@@ -118,7 +118,7 @@ module _ (h : Head) (cs : List (List ℕ)) (k : Keeps (dumpData h cs)) (room : L
           bytes = room-holds;
         }
 
-    -- data that has a sheet is refused neither with 2 nor with 4
-    pub not-refused : (tooLong d s ≡ false) × (ruleBroken d (Writing.recordsOf d s) ≡ false)
+    -- data that has a sheet is refused with none of 2, 4 and 5
+    pub not-refused : (tooLong d s ≡ false) × (ruleBroken d (Writing.recordsOf d s) ≡ false) × (someUnnamed (take (d .n) (d .managers)) ≡ false)
     unfolding dumpData
     not-refused = keeps-data d s device-range (k .few-managers) (k .few-usages) whole (subst Keeps (sym data-back) k)

@@ -1,4 +1,5 @@
--- Device data that a dump gives, where no rule of a sheet is broken: it has a sheet, which is at most 1,892 bytes and reads as that data.
+-- Device data that a dump gives, where no rule of a sheet is broken and no mode or direction is unnamed: it has a sheet, which is at most 1,892 bytes
+-- and reads as that data.
 -- Assumes nothing.
 use mathlib.Core.Path.{_≡_, refl, sym, _∙_, ap}
 use mathlib.Core.Bool.{Bool, false, _||_}
@@ -11,18 +12,18 @@ use borrow.Author.Tests.{ltb-false}
 use Rattle.wire.specs.Image.{Bytes}
 use Rattle.wire.specs.Lists.{someOf, Each}
 use Rattle.wire.specs.Outcome.{accepted}
-use Rattle.wire.proofs.Lists.{or-none, none-of, each-both}
+use Rattle.wire.proofs.Lists.{or-none, none-of}
 use Rattle.area.specs.Area.{flat}
 use Rattle.sheet.specs.declared.SyncManager.{SyncManager}
 use Rattle.sheet.specs.Device.{Data}
-use Rattle.sheet.specs.Sheet.{readSheet}
+use Rattle.sheet.specs.Sheet.{someUnnamed, readSheet}
 use Rattle.writer.specs.Form.{bodyBytes, sheetOf}
 use Rattle.writer.proofs.Stored.{managers-long}
-use Rattle.writer.proofs.Keeps.{KeepsManager, Keeps}
+use Rattle.writer.proofs.Keeps.{Keeps}
 use Rattle.writer.proofs.Parts.{managersBytes, pdosBytes, sheet-length}
 use Rattle.writer.proofs.Back.{kept-reads}
 use Rattle.writer.proofs.Rules.{unnamedUse}
-use Rattle.writer.proofs.Conditions.{StartInRange}
+use Rattle.writer.proofs.Conditions.{managers-keep}
 use Rattle.dump.specs.declared.Head.{Head}
 use Rattle.dump.specs.Categories.{typeOf, categories, contentOf}
 use Rattle.dump.specs.Records.{managerFor, kindFor, pdosFor, pdosIn}
@@ -51,16 +52,12 @@ sheet-long x =
     let b = length-append (x .usages) (pdoRecords x) in
     omega (arith, sheet-length x, managers-long (x .managers))
 
--- a sync manager's usage has a name
-abbrev UseNamed : SyncManager → Type 0
-UseNamed m = m .«usage_type» ≤ 4
-
 -- what the rules say of counts and usages, one by one
 pub record KeepsRule (ms : List SyncManager) (us : List ℕ) (p : ℕ) : Type 0 where
   pub few-managers : length ms ≤ 16
   pub few-usages : length us ≤ 16
   pub few-pdos : p ≤ 255
-  pub managers : Each UseNamed ms
+  pub managers : someOf unnamedUse ms ≡ false
   pub usages : Each (λ (u : ℕ). u ≤ 3) us
 
 pub keeps-rule : (flags : ℕ) (ms : List SyncManager) (us : List ℕ) (p : ℕ) → ruleBroken flags ms us p ≡ false → KeepsRule ms us p
@@ -70,7 +67,7 @@ keeps-rule flags ms us p e =
       few-managers = ltb-false 16 (length ms) (o .0);
       few-usages = ltb-false 16 (length us) (o .1);
       few-pdos = ltb-false 255 p (o .2);
-      managers = none-of unnamedUse UseNamed (λ m. ltb-false 4 (m .«usage_type»)) ms (o .3);
+      managers = o .3;
       usages = none-of (ltb 3) (λ (u : ℕ). u ≤ 3) (ltb-false 3) us (o .4);
     }
   where
@@ -82,9 +79,10 @@ keeps-rule flags ms us p e =
         let q = or-none e f (p .1) in
         (n .0, u .0, p .0, q .0, q .1)
 
--- the data of a dump, where its bytes and the caller's sizes are in range and no rule is broken
+-- the data of a dump, where its bytes and the caller's sizes are in range, no rule is broken and no mode or direction is unnamed
 module _ (h : Head) (dump : List ℕ) (receive : h .«receive_size» .0 < 65536) (send : h .«send_size» .0 < 65536) (bytes : Bytes dump)
-    (rule : ruleBroken (h .flags) (map managerFor (managerRecords (categories dump))) (usagesFor (categories dump)) (length (pdosIn (categories dump))) ≡ false) where
+    (rule : ruleBroken (h .flags) (map managerFor (managerRecords (categories dump))) (usagesFor (categories dump)) (length (pdosIn (categories dump))) ≡ false)
+    (named : someUnnamed (map managerFor (managerRecords (categories dump))) ≡ false) where
   abbrev x : Data
   x = dumpData h (categories dump)
 
@@ -99,12 +97,7 @@ module _ (h : Head) (dump : List ℕ) (receive : h .«receive_size» .0 < 65536)
   unfolding dumpData
   sheet-short = omega (arith, kept, sheet-long x, records-long h (categories dump))
 
-  -- each sync manager has a sheet: bytes bound its start address, the rules its usage
-  managers-keep : Each KeepsManager ms
-  managers-keep =
-      each-both StartInRange UseNamed KeepsManager (λ m a b. record { start = a; usage = b }) ms (starts-in-range (categories dump) (categories-bytes dump bytes)) (kept .managers)
-
-  -- it has a sheet: bytes bound its numbers, the rules its counts and usages
+  -- it has a sheet: bytes bound its numbers, the rules its counts and usages, and its modes and directions have names
   pub dump-keeps : Keeps x
   unfolding dumpData
   dump-keeps =
@@ -112,7 +105,7 @@ module _ (h : Head) (dump : List ℕ) (receive : h .«receive_size» .0 < 65536)
         receive = receive;
         send = send;
         few-managers = kept .few-managers;
-        managers = managers-keep;
+        managers = managers-keep ms (starts-in-range (categories dump) (categories-bytes dump bytes)) named (kept .managers);
         few-usages = kept .few-usages;
         usages = kept .usages;
         few-pdos = omega (arith, kept);

@@ -15,8 +15,9 @@ use Rattle.wire.specs.Lists.{listOf, someBelow, someOf}
 use Rattle.wire.specs.Field.{flagAt}
 use Rattle.channel_bytes.specs.Bytes.{controlAt, unnamed}
 use Rattle.sheet.specs.declared.SyncManager.{SyncManager}
+use Rattle.sheet.specs.Sheet.{someUnnamed}
 use Rattle.dump.specs.Parts.{partsOf, restOf}
-use Rattle.dump.specs.Records.{managerLong, controlIn, managerFor, nonempty}
+use Rattle.dump.specs.Records.{managerLong, managerFor, nonempty}
 use Rattle.dump.proofs.Parts.{whole-fits, Walk, walk-start, walk-here, walk-turn, walk-end}
 use Rattle.dump.proofs.Numbered.{list-numbered, some-numbered}
 
@@ -52,9 +53,6 @@ module _ (l : List ℕ) where
   ended : (length l / 8 ≡ length (partsOf managerLong l)) × (drop (8 * (length l / 8)) l ≡ restOf managerLong l)
   ended = walk-end managerLong (whole-fits 8) (walked (length l / 8) (omega arith)) (none-long (8 * (length l / 8)) (omega arith))
 
-  pub managers-count : length (partsOf managerLong l) ≡ length l / 8
-  managers-count = sym (ended .0)
-
   pub managers-rest : length (restOf managerLong l) ≡ length l % 8
   managers-rest = let d = length-drop (8 * (length l / 8)) l in ap length (sym (ended .1)) ∙ omega arith
 
@@ -77,28 +75,31 @@ module _ (l : List ℕ) where
 
   -- how many there are
   pub managers-many : length (map managerFor (partsOf managerLong l)) ≡ length l / 8
-  managers-many = length-map (partsOf managerLong l) managerFor ∙ managers-count
+  managers-many = length-map (partsOf managerLong l) managerFor ∙ sym (ended .0)
 
   pub managers-numbered : map managerFor (partsOf managerLong l) ≡ listOf nth-manager (length l / 8)
   managers-numbered =
       list-numbered (map managerFor (partsOf managerLong l)) (managerFor []) (length l / 8) managers-many nth-manager manager-nth
 
-  -- a usage that has no name, and a control that has none
+  -- whether some has it, by the numbers
+  some-manager : (f : SyncManager → Bool) (q : ℕ → Bool) → ((k : ℕ) → f (nth-manager k) ≡ q k) → someOf f (map managerFor (partsOf managerLong l)) ≡ someBelow q (length l / 8)
+  some-manager f q is =
+      some-numbered (map managerFor (partsOf managerLong l)) (managerFor []) (length l / 8) managers-many f q (λ k h. ap f (manager-nth k h) ∙ is k)
+
+  -- a usage that has no name, and a control with an unnamed mode or direction
   abbrev pub usage-unnamed-at : ℕ → Bool
   usage-unnamed-at k = ltb 4 (getD l (8 * k + 7) 0)
 
   abbrev pub control-unnamed-at : ℕ → Bool
-  control-unnamed-at k = unnamed (getD l (8 * k + 4) 0)
+  control-unnamed-at k = unnamed (controlAt (getD l (8 * k + 4) 0))
 
   pub some-usage-numbered : someOf (λ m. ltb 4 (m .«usage_type»)) (map managerFor (partsOf managerLong l)) ≡ someBelow usage-unnamed-at (length l / 8)
-  some-usage-numbered =
-      some-numbered (map managerFor (partsOf managerLong l)) (managerFor []) (length l / 8) managers-many (λ m. ltb 4 (m .«usage_type»)) usage-unnamed-at
-      (λ k h. ap (λ (m : SyncManager). ltb 4 (m .«usage_type»)) (manager-nth k h) ∙ ap (ltb 4) (getD-drop (8 * k) l 7 0))
+  some-usage-numbered = some-manager (λ m. ltb 4 (m .«usage_type»)) usage-unnamed-at (λ k. ap (ltb 4) (getD-drop (8 * k) l 7 0))
 
-  pub some-control-numbered : someOf (λ r. unnamed (controlIn r)) (partsOf managerLong l) ≡ someBelow control-unnamed-at (length l / 8)
+  pub some-control-numbered : someUnnamed (map managerFor (partsOf managerLong l)) ≡ someBelow control-unnamed-at (length l / 8)
+  unfolding someUnnamed
   some-control-numbered =
-      some-numbered (partsOf managerLong l) [] (length l / 8) managers-count (λ r. unnamed (controlIn r)) control-unnamed-at
-      (λ k h. ap (λ (r : List ℕ). unnamed (controlIn r)) (manager-at k h) ∙ ap unnamed (getD-take 8 (drop (8 * k) l) 4 0 (omega arith) ∙ getD-drop (8 * k) l 4 0))
+      some-manager (λ m. unnamed (m .control)) control-unnamed-at (λ k. ap (λ (b : ℕ). unnamed (controlAt b)) (getD-drop (8 * k) l 4 0))
 
 -- whether something stands behind the last record, by the remainder
 pub managers-cut : {l m : List ℕ} → l ≡ m → (length l % 8 ≡ 0 → ⊥) → nonempty (restOf managerLong m) ≡ true

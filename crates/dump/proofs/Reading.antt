@@ -18,13 +18,13 @@ use Rattle.sheet.specs.declared.Answer.the-variants.{Accepted}
 use Rattle.sheet.specs.declared.Device.{Device}
 use Rattle.sheet.specs.declared.SheetRead.{SheetRead}
 use Rattle.sheet.specs.Device.{Data, dataOf}
-use Rattle.sheet.specs.Sheet.{answerOf, sheetReadOf}
+use Rattle.sheet.specs.Sheet.{someUnnamed, answerOf, sheetReadOf}
 use Rattle.writer.proofs.Keeps.{Keeps}
 use Rattle.dump.specs.declared.Head.{Head}
 use Rattle.dump.specs.Parts.{restOf}
 use Rattle.dump.specs.Categories.{categories, contentFor, unended}
 use Rattle.dump.specs.Records.{managerLong, managerFor, pdoLong, pdosIn, nonempty, notWhole, second, notRecords}
-use Rattle.dump.specs.Dump.{managerRecords, usagesFor, dumpData, ruleBroken, someUnnamed, pdoRecords, readDump, deviceWith, deviceAfter, recordsAfter, ReadsDump}
+use Rattle.dump.specs.Dump.{managerRecords, usagesFor, dumpData, ruleBroken, pdoRecords, readDump, deviceWith, deviceAfter, recordsAfter, ReadsDump}
 use Rattle.dump.specs.Looked.{fromType, frontContent, knownIn, moreThan, pdosFrom}
 use Rattle.dump.proofs.Looked.{front-is, single, records-looked, pdos-looked}
 use Rattle.dump.proofs.Kept.{records-long}
@@ -62,9 +62,12 @@ module _ (h : Head) (dump room : List ℕ) where
   abbrev x : Data
   x = dumpData h cs
 
-  -- the conditions of 4 and of 12
+  -- the conditions of 4, of 5 and of 12
   abbrev pub Broken : Bool
   Broken = ruleBroken (h .flags) (map managerFor (managerRecords cs)) (usagesFor cs) (length (pdosIn cs))
+
+  abbrev pub Unnamed : Bool
+  Unnamed = someUnnamed (map managerFor (managerRecords cs))
 
   abbrev pub Short : Bool
   Short = ltb (length room) (length (pdoRecords x))
@@ -92,12 +95,12 @@ module _ (h : Head) (dump room : List ℕ) where
   reads-4 e a b c = refuses e (rw (a, b, c))
 
   pub reads-5 :
-      {r : SheetRead} → r ≡ sheetReadOf (refused 5) → unended dump ≡ false → notRecords cs ≡ false → Broken ≡ false → someUnnamed cs ≡ true → ReadsDump h dump room r room
+      {r : SheetRead} → r ≡ sheetReadOf (refused 5) → unended dump ≡ false → notRecords cs ≡ false → Broken ≡ false → Unnamed ≡ true → ReadsDump h dump room r room
   unfolding readDump
   reads-5 e a b c d = refuses e (rw (a, b, c, d))
 
   pub reads-12 :
-      {r : SheetRead} → r ≡ sheetReadOf (refused 12) → unended dump ≡ false → notRecords cs ≡ false → Broken ≡ false → someUnnamed cs ≡ false → Short ≡ true
+      {r : SheetRead} → r ≡ sheetReadOf (refused 12) → unended dump ≡ false → notRecords cs ≡ false → Broken ≡ false → Unnamed ≡ false → Short ≡ true
       → ReadsDump h dump room r room
   unfolding readDump
   reads-12 e a b c d f = refuses e (rw (a, b, c, d, f))
@@ -108,15 +111,15 @@ module _ (h : Head) (dump room : List ℕ) where
     pub ended : unended dump ≡ false
     pub whole : notRecords cs ≡ false
     pub rule : Broken ≡ false
-    pub named : someUnnamed cs ≡ false
+    pub named : Unnamed ≡ false
     pub fits : Short ≡ false
 
   pub accepts : {y : Data} → readDump h dump room ≡ accepted y → Accepts y
   unfolding readDump
-  accepts {y} e = go (unended dump) (notRecords cs) Broken (someUnnamed cs) Short refl refl refl refl refl e
+  accepts {y} e = go (unended dump) (notRecords cs) Broken (Unnamed) Short refl refl refl refl refl e
     where
       go :
-          (a b c d s : Bool) → unended dump ≡ a → notRecords cs ≡ b → Broken ≡ c → someUnnamed cs ≡ d → Short ≡ s
+          (a b c d s : Bool) → unended dump ≡ a → notRecords cs ≡ b → Broken ≡ c → Unnamed ≡ d → Short ≡ s
           → cond a (refused 16) (cond b (refused 17) (cond c (refused 4) (cond d (refused 5) (cond s (refused 12) (accepted x))))) ≡ accepted y
           → Accepts y
       go true b c d s p q r t u z = absurd (never z)
@@ -133,7 +136,7 @@ module _ (h : Head) (dump room : List ℕ) where
 
   -- none of them: the data, and its records in the room
   pub reads-data :
-      {d : Device} {after : List ℕ} → unended dump ≡ false → notRecords cs ≡ false → Broken ≡ false → someUnnamed cs ≡ false → Short ≡ false → Keeps x
+      {d : Device} {after : List ℕ} → unended dump ≡ false → notRecords cs ≡ false → Broken ≡ false → Unnamed ≡ false → Short ≡ false → Keeps x
       → d ≡ deviceWith h (map managerFor (managerRecords cs)) (usagesFor cs) (length (pdosIn cs)) → after ≡ over (flat (map pdoBytes (pdosIn cs))) room
       → ReadsDump h dump room (record { answer = Accepted; device = d }) after
   unfolding readDump dumpData

@@ -25,17 +25,17 @@ use Rattle.writer.specs.Writing.{writing, Writes}
 use Rattle.dump.specs.declared.Head.{Head}
 use Rattle.dump.specs.Categories.{categories, unended}
 use Rattle.dump.specs.Records.{managerFor, pdosIn, notRecords}
-use Rattle.dump.specs.Dump.{managerRecords, usagesFor, dumpData, someUnnamed, pdoRecords, deviceAfter, recordsAfter, readDump, ReadsDump, sheeting, WritesSheet}
+use Rattle.dump.specs.Dump.{managerRecords, usagesFor, dumpData, pdoRecords, deviceAfter, recordsAfter, readDump, ReadsDump, sheeting, WritesSheet}
 use Rattle.dump.proofs.Kept.{records-long, keeps-rule, dump-keeps}
 use Rattle.dump.proofs.Held.{data-back, not-refused}
-use Rattle.dump.proofs.Reading.{Broken, Short, Accepts, accepts}
+use Rattle.dump.proofs.Reading.{Broken, Unnamed, Short, Accepts, accepts}
 
 -- zeros are bytes
 pub zeros : (n : ℕ) → Bytes (replicate n 0)
 zeros zero = no-bytes
 zeros (suc n) = cons-bytes (omega arith) (zeros n)
 
--- what reading accepted, with the room that it was lent: the writer refuses it neither with 2 nor with 4, and its sheet is that of the data
+-- what reading accepted, with the room that it was lent: the writer refuses it with none of 2, 4 and 5, and its sheet is that of the data
 module _ (h : Head) (dump own : List ℕ) (receive : h .«receive_size» .0 < 65536) (send : h .«send_size» .0 < 65536) (bytes : Bytes dump) (own-bytes : Bytes own) where
   abbrev x : Data
   x = dumpData h (categories dump)
@@ -44,11 +44,11 @@ module _ (h : Head) (dump own : List ℕ) (receive : h .«receive_size» .0 < 65
       → (writing (deviceAfter h (accepted x)) (recordsAfter (accepted x) own) room ≡ textIn (sheetOf x) room) × (sheetOf (dataOf (deviceAfter h (accepted x)) (recordsAfter (accepted x) own)) ≡ sheetOf x)
   unfolding writing dumpData
   only-room room g =
-      let k = dump-keeps h dump receive send bytes (g .rule) in
+      let k = dump-keeps h dump receive send bytes (g .rule) (g .named) in
       let fits = ltb-false (length own) (length (pdoRecords x)) (g .fits) in
       let n = not-refused h (categories dump) k own fits own-bytes in
       let is = ap sheetOf (data-back h (categories dump) k own fits) in
-      (rw (n .0, n .1) (ap (λ (l : List ℕ). textIn l room) is), is)
+      (rw (n .0, n .1, n .2) (ap (λ (l : List ℕ). textIn l room) is), is)
 
   -- so what is written of it is that sheet, by the rule for texts
   module _ {r : SheetRead} {after : List ℕ} (p : ReadsDump h dump own r after) (e : r .answer ≡ Accepted) where
@@ -86,7 +86,7 @@ module _ (h : Head) (dump own room : List ℕ) where
   -- what reading refuses is refused with that number
   refused-too : {n : ℕ} → length own ≡ 1785 → readDump h dump own ≡ refused n → sheeting h dump room ≡ refused n
   unfolding readDump sheeting
-  refused-too {n} long e = go (unended dump) (notRecords cs) (Broken h dump own) (someUnnamed cs) (Short h dump own) (roomy long) e
+  refused-too {n} long e = go (unended dump) (notRecords cs) (Broken h dump own) (Unnamed h dump own) (Short h dump own) (roomy long) e
     where
       with : {m : ℕ} → _≡_ {A = Outcome Data} (refused m) (refused n) → _≡_ {A = Outcome ℕ} (refused m) (refused n)
       with {m} z = let k : m ≡ n = cc in ap refused k

@@ -10,19 +10,17 @@ use lib.ListN.{length}
 use lib.Dec.{ltb}
 use borrow.Author.Tests.{le-ltb}
 use Rattle.wire.specs.Field.{flagAt}
-use Rattle.wire.specs.Lists.{someOf}
 use Rattle.wire.specs.Outcome.{Outcome, accepted, Refusal, when, first, decide}
 use Rattle.wire.specs.Room.{InRoom, textIn, roomAfter}
 use Rattle.wire.specs.declared.Written.{Written}
 use Rattle.wire.proofs.Unique.{written-back, written-determined, same-in-room}
 use Rattle.area.specs.Area.{flat}
-use Rattle.channel_bytes.specs.Bytes.{unnamed}
 use Rattle.grammar.specs.Length.{follow}
 use Rattle.sheet.specs.declared.Answer.the-variants.{Accepted}
 use Rattle.sheet.specs.declared.SheetRead.{SheetRead}
 use Rattle.sheet.specs.declared.Device.{Device}
 use Rattle.sheet.specs.Device.{Pdo, Data, dataOf}
-use Rattle.sheet.specs.Sheet.{readSheet}
+use Rattle.sheet.specs.Sheet.{someUnnamed, readSheet}
 use Rattle.writer.specs.Form.{pdoBytes, sheetOf}
 use Rattle.writer.specs.Writing.{Writes}
 use Rattle.writer.proofs.Parts.{sheet-length, parts}
@@ -30,7 +28,7 @@ use Rattle.writer.proofs.Theorems.{reads-back}
 use Rattle.dump.specs.declared.Head.{Head}
 use Rattle.dump.specs.Parts.{partsOf}
 use Rattle.dump.specs.Categories.{categories, contentFor, unended}
-use Rattle.dump.specs.Records.{usageFor, managerLong, controlIn, managerFor, pdosIn, notRecords}
+use Rattle.dump.specs.Records.{usageFor, managerLong, managerFor, pdosIn, notRecords}
 use Rattle.dump.specs.Dump.{dumpData, ruleBroken, readDump, Gives, sheeting, WritesSheet}
 use Rattle.dump.specs.Calls.{Call, given, sheetFrom, HasSheet, ComesBack, SheetCall, SheetInOneCall, Same, SameSheet, Between, SteppedOver, Behind, EndsThere}
 use Rattle.dump.proofs.Kept.{dump-keeps, sheet-short, sheet-reads}
@@ -55,10 +53,10 @@ module _ (c : Call) (e : c .read .answer ≡ Accepted) where
 pub has-sheet : HasSheet
 has-sheet c e =
     let r = c .range in
-    let rule = none c e .rule in
-    let k = dump-keeps (c .head) (c .dump) (r .receive) (r .send) (r .bytes) rule in
-    let short = sheet-short (c .head) (c .dump) (r .receive) (r .send) (r .bytes) rule in
-    let reads = sheet-reads (c .head) (c .dump) (r .receive) (r .send) (r .bytes) rule in
+    let n = none c e in
+    let k = dump-keeps (c .head) (c .dump) (r .receive) (r .send) (r .bytes) (n .rule) (n .named) in
+    let short = sheet-short (c .head) (c .dump) (r .receive) (r .send) (r .bytes) (n .rule) (n .named) in
+    let reads = sheet-reads (c .head) (c .dump) (r .receive) (r .send) (r .bytes) (n .rule) (n .named) in
     let s : sheetFrom c ≡ sheetOf (x c e) = ap sheetOf (is c e) in
     (ap readSheet s ∙ reads ∙ ap accepted (sym (is c e)), subst (λ (l : List ℕ). follow l ≤ 1890) (sym s) (omega (arith, short, parts (x c e) k .follow, sheet-length (x c e))))
 
@@ -80,7 +78,7 @@ sheet-in-one-call c w e eh ed =
     let text = writes-as c w e eh ed in (
       text,
       λ h.
-          let short = sheet-short (c .head) (c .dump) (c .range .receive) (c .range .send) (c .range .bytes) (none c e .rule) in
+          let short = sheet-short (c .head) (c .dump) (c .range .receive) (c .range .send) (c .range .bytes) (none c e .rule) (none c e .named) in
           let long : length s ≤ 1892 = subst (λ (x : Data). length (sheetOf x) ≤ 1892) (sym (is c e)) short in
           sym (written-determined (w .answer)) ∙ ap written-back (text .says ∙ ap (λ (b : Bool). decide (when 12 b ∷ []) (length s)) (le-ltb (length (w .room)) (length s) (omega arith))),
     )
@@ -109,7 +107,7 @@ refusalsBy h cut broken us ms ps =
     when 16 cut
     ∷ when 17 broken
     ∷ when 4 (ruleBroken (h .flags) (map managerFor (partsOf managerLong ms)) (map usageFor us) (length ps))
-    ∷ when 5 (someOf (λ r. unnamed (controlIn r)) (partsOf managerLong ms))
+    ∷ when 5 (someUnnamed (map managerFor (partsOf managerLong ms)))
     ∷ []
 
 abbrev outcomeBy : Head → List ℕ → (cut broken : Bool) → (fmmus managers : List ℕ) → List Pdo → Outcome Data

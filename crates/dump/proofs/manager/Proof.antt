@@ -13,8 +13,8 @@ word-requires c κs = tt
 byte-at-requires : tie.Need-byte-at-requires
 byte-at-requires c κs = tt
 
-named-requires : tie.Need-named-requires
-named-requires c κs = tt
+unpack-requires : tie.Need-unpack-requires
+unpack-requires c κs = tt
 
 byte-at-requires-2 : tie.Need-byte-at-requires-2
 byte-at-requires-2 c κs = tt
@@ -28,11 +28,11 @@ byte-at-requires-3 c κs = tt
 returns : tie.Need-returns
 returns c =
     let enabled = c .before in
-    let named = enabled .before .before in
+    let control = enabled .before .before in
     λ i.
     record {
-      «start_addr» = named .before .before .word .ensures i;
-      control = (named .named .ensures ∙ ap controlAt (named .before .byte-at .ensures)) i;
+      «start_addr» = control .before .before .word .ensures i;
+      control = (control .unpack .ensures ∙ ap controlAt (control .before .byte-at .ensures)) i;
       enable = (enabled .flag .ensures ∙ ap (λ (b : ℕ). flagAt b 0) (enabled .before .byte-at2 .ensures)) i;
       «usage_type» = c .byte-at3 .ensures i;
     }
@@ -43,7 +43,7 @@ manager-spec =
     (tie.spec
     word-requires
     byte-at-requires
-    named-requires
+    unpack-requires
     byte-at-requires-2
     flag-requires
     byte-at-requires-3

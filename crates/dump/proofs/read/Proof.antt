@@ -10,24 +10,23 @@ use lib.ListN.{length, length-map}
 use lib.Dec.{ltb}
 use borrow.Author.Tests.{lt-ltb, le-ltb, not-true, not-false}
 use borrow.Author.Needs.{needs}
-use Rattle.wire.specs.Lists.{someOf}
 use Rattle.wire.specs.Room.{over}
 use Rattle.area.specs.Area.{flat}
-use Rattle.channel_bytes.specs.Bytes.{unnamed}
 use Rattle.sheet.specs.Device.{Pdo}
+use Rattle.sheet.specs.Sheet.{someUnnamed}
 use Rattle.writer.specs.Form.{pdoBytes}
 use Rattle.writer.proofs.Keeps.{Keeps}
 use Rattle.dump.specs.declared.Head.{Head}
 use Rattle.dump.specs.Categories.{marked, categories, contentFor, unended}
 use Rattle.dump.specs.Parts.{partsOf, restOf}
-use Rattle.dump.specs.Records.{usageFor, managerLong, controlIn, managerFor, pdoLong, pdosIn, nonempty, notRecords}
-use Rattle.dump.specs.Dump.{managerRecords, usagesFor, dumpData, ruleBroken, someUnnamed, deviceWith}
+use Rattle.dump.specs.Records.{usageFor, managerLong, managerFor, pdoLong, pdosIn, nonempty, notRecords}
+use Rattle.dump.specs.Dump.{managerRecords, usagesFor, dumpData, ruleBroken, deviceWith}
 use Rattle.dump.specs.Calls.{InRange}
 use Rattle.dump.specs.Looked.{pdosFrom}
 use Rattle.dump.proofs.Placed.{pdos-counted}
 use Rattle.dump.proofs.Managers.{managers-many}
 use Rattle.dump.proofs.Kept.{keeps-rule, dump-keeps}
-use Rattle.dump.proofs.Reading.{Found, content-is, not-records-is, pdos-are, Broken, short-is, reads-16, reads-17, reads-4, reads-5, reads-12, reads-data}
+use Rattle.dump.proofs.Reading.{Found, content-is, not-records-is, pdos-are, Broken, Unnamed, short-is, reads-16, reads-17, reads-4, reads-5, reads-12, reads-data}
 use Rattle.dump.proofs.read.Statement.{statement}
 use Rattle.dump.proofs.read.Tie as tie
 
@@ -163,16 +162,17 @@ module _ (c : tie.After-rule-broken) where
       let v = ap length (usages-at s) in
       (omega (arith, count-at passed), omega arith, omega arith)
 
--- so the data has a sheet
-kept : (c : tie.After-behind5) → Broken (head c) (dump c) (room c) ≡ false → Keeps (dumpData (head c) (categories (dump c)))
-kept c b = let r = in-range (c .before .before .before .before .before .before .before .before) in dump-keeps (head c) (dump c) (r .receive) (r .send) (r .bytes) b
-
 -- 5
-controls : (c : tie.After-some-control-unnamed) {b : Bool} → c .some-control-unnamed .result ≡ b → someUnnamed (categories-at (asked (passed (c .before .before)))) ≡ b
+controls : (c : tie.After-some-control-unnamed) {b : Bool} → c .some-control-unnamed .result ≡ b
+    → someUnnamed (map managerFor (managerRecords (categories-at (asked (passed (c .before .before)))))) ≡ b
 controls c e =
-    sym (ap (λ (l : List ℕ). someOf (λ r. unnamed (controlIn r)) (partsOf managerLong l)) (managers-at (asked (passed (c .before .before)))))
+    sym (ap (λ (l : List ℕ). someUnnamed (map managerFor (partsOf managerLong l))) (managers-at (asked (passed (c .before .before)))))
     ∙ sym (c .some-control-unnamed .ensures)
     ∙ e
+
+-- where neither is given the data has a sheet
+kept : (c : tie.After-behind5) → Broken (head c) (dump c) (room c) ≡ false → Unnamed (head c) (dump c) (room c) ≡ false → Keeps (dumpData (head c) (categories (dump c)))
+kept c b n = let r = in-range (c .before .before .before .before .before .before .before .before) in dump-keeps (head c) (dump c) (r .receive) (r .send) (r .bytes) b n
 
 find-requires : tie.Need-find-requires
 find-requires c κs = tt
@@ -315,9 +315,10 @@ returns-6 c =
     let f = from r in
     let fits = short-is (head f) (dump f) (room f) (count-at p) ∙ le-ltb (length (room f)) (7 * (s .before .before .before .pdo-records .result .count + s .before .pdo-records2 .result .count)) (omega (arith, last .if5 .left)) in
     let b = rule r (e .if3 .left) in
+    let n = controls u (last .before .if4 .left) in
     let stored = put .put-records .ensures ∙ ap (λ (ps : List Pdo). over (flat (map pdoBytes ps)) (room f)) (pdos-at p) in
     let held = c .device-of .ensures ∙ (λ i. deviceWith (head f) (map managerFor (partsOf managerLong (managers-at s i))) (map usageFor (usages-at s i)) (count-at p i)) in
-    reads-data (head f) (dump f) (room f) (ended f) (whole p) b (controls u (last .before .if4 .left)) fits (kept f b) held stored
+    reads-data (head f) (dump f) (room f) (ended f) (whole p) b n fits (kept f b n) held stored
 
 pub read-spec : {M : Type 1} → statement M
 read-spec =
