@@ -10,11 +10,13 @@
     python3 samples/lesson.py exercise-6    the calls of docs/EXERCISES.md's exercise 6
     python3 samples/lesson.py exercise-7    that of exercise 7
     python3 samples/lesson.py exercise-10   those of exercise 10
+    python3 samples/lesson.py exercise-11   the images and sheets of exercise 11
     python3 samples/lesson.py portions      the sheet of bay.hex in portions, one of them into too short a room
     python3 samples/lesson.py write         the sheet of bay.hex written from its data, and what writing again changes
     python3 samples/lesson.py pairs-chosen  which FMMU each sync manager of a bay has by a list of pairs
     python3 samples/lesson.py pairs         two inputs on one FMMU by a pair, end to end and with a gap
     python3 samples/lesson.py pairs-refused pairs that can't be planned by, and how to mend them
+    python3 samples/lesson.py read-back     images read back and written again, with and without names, and what can't be written
     python3 samples/lesson.py refused       the smallest calls for the numbers that a sheet alone can't cause
 
 The program is built first where that is needed, which takes minutes the first time.
@@ -372,6 +374,60 @@ def exercise_10(ask):
     yield from outcomes(ask, [(in_words(lent) + told, by_pairs(lent, data)) for told, lent, data in tried])
 
 
+# ---- reading back: a sync manager's image holds start, length, control, status and enable
+
+
+def record_of(line):
+    """An answer of the letter Q as a record of y and Z, whose last two bytes mark a mode and a direction without a name."""
+    start, length, mode, direction, *rest = map(int, line.split())
+    return packed([start, length], [2, 2]) + bytes([mode, direction, *rest, mode not in (0, 2), direction not in (0, 1)])
+
+
+def read_again(ask, images):
+    """Of each image the text of what is read, and the image that is written of it."""
+    read = ask([(f"the image {data.hex(' ')}", Request("Q", channels=data)) for data in images])
+    records = [(f"the record of {data.hex(' ')}", record_of(line)) for data, [line] in zip(images, read)]
+    texts = ask([(name, Request("y", room=96, channels=record)) for name, record in records])
+    written = ask([(name, Request("Z", room=8, channels=record)) for name, record in records])
+    for [text], [line] in zip(texts, written):
+        length, _, room = text.partition(" ")
+        yield room[1 : 1 + int(length)], bytes.fromhex(line.split()[1])
+
+
+def sheets_read(ask, asked):
+    """Whether each sheet is accepted."""
+    for (name, _), [line] in zip(asked, ask([(name, Request("d", sheet=data)) for name, data in asked])):
+        yield f"{name}: {line if line.startswith('refused') else 'accepted'}"
+
+
+# the input SM3 of bay.hex with other control bytes, which stand at 4; in the sheet that of SM3 stands at 28
+CONTROLS = [0x20, 0x23, 0x29, 0xA3]
+HELD = [bytes([0x80, 0x11, 3, 0, control, 0, 1, 0]) for control in CONTROLS]
+COPIED = SAMPLE[:28] + b"\x23" + SAMPLE[29:]
+
+
+def with_mode(number):
+    """A record whose mode is unnamed and has this number, all else 0; what tells so stands behind its 21 bytes."""
+    return bytes(4) + bytes([number]) + bytes(16) + b"\1\0"
+
+
+def read_back(ask):
+    for control, (text, written) in zip(CONTROLS, read_again(ask, HELD)):
+        yield f"control {control:02x}: {text}; written again {written[4]:02x}"
+    yield from outcomes(ask, [("mode unnamed 2, made up and written", Request("Z", room=8, channels=with_mode(2)))])
+    yield from sheets_read(ask, [("bay.hex with control 23 for SM3", COPIED)])
+
+
+IMAGES = [bytes.fromhex(text) for text in ("0010400026000100", "001102006c000100", "80110100b1000000")]
+
+
+def exercise_11(ask):
+    for text, written in read_again(ask, IMAGES):
+        yield f"{text}; written again {written.hex(' ')}"
+    rows = {f"a sheet with control {data[4]:02x}": (0x1100, data[4], 1, 0) for data in IMAGES}
+    yield from sheets_read(ask, [(name, sheet(0, 0, 0, managers(row))) for name, row in rows.items()])
+
+
 # ---- refusals
 
 
@@ -388,6 +444,7 @@ CALLS = [
     ("a call for nothing on an FMMU area of 255 bytes", call(bytes(255), sheet=NO_PARTS)),
     ("writer::write of data whose f is 16,376", Request("v", room=KEPT, fmmus=device(f=16_376))),
     ("writer::write of data with a PDO and no lent bytes", Request("v", room=KEPT, fmmus=device(p=1))),
+    ("writer::write of data with a sync manager of mode 1", Request("v", room=KEPT, fmmus=device(rows=[(0, 1, 0, 0)]))),
     ("a call for 1 bit on an enabled entry of 65,535 bytes, keeping", call(FULL, KEEP, sheet=ONE_BIT)),
     ("PdiOffset::increment by 1 byte from offset 0xffffffff", Request("i", a=LIMIT, c=1)),
     ("a call for 1 bit from offset 0xffffffff", call(a=LIMIT, sheet=ONE_BIT)),
@@ -398,6 +455,7 @@ CALLS = [
     ("PdiSegment::fmt of (empty) into room of 6 bytes", Request("s", room=6)),
     ("writer::write of data with no parts into room of 10 bytes", Request("v", room=10, fmmus=device())),
     ("Fmmu::pack_to_slice of a record with start bit 8", Request("W", room=16, fmmus=START_BIT_8)),
+    ("SyncManagerChannel::pack_to_slice of a record with mode unnamed 0", Request("Z", room=8, channels=with_mode(0))),
     ("portions::end with room of 16,385 bytes", Request("t", room=KEPT - 1)),
     ("a call for nothing beside an enabled entry with both bits", call(BOTH_BITS, sheet=NO_PARTS)),
     ("a call for 1 bit on an enabled entry with neither bit", call(NEITHER_BIT, sheet=ONE_BIT)),
@@ -422,11 +480,13 @@ LESSONS = {
     "exercise-6": exercise_6,
     "exercise-7": exercise_7,
     "exercise-10": exercise_10,
+    "exercise-11": exercise_11,
     "portions": portions,
     "write": write,
     "pairs-chosen": pairs_chosen,
     "pairs": pairs,
     "pairs-refused": pairs_refused,
+    "read-back": read_back,
     "refused": refused,
 }
 

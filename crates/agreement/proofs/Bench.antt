@@ -1,5 +1,5 @@
 -- Bench cases P1 to P12: one test over the whole list, computed, and the law that makes it the rule at each row. The same of translation, counting, old entries,
--- pairs, and the two directions of a call.
+-- pairs, the two directions of a call, and unnamed modes.
 -- Assumes nothing.
 use mathlib.Core.Path.{_≡_, refl, ap, ap₂}
 use mathlib.Core.Bool.{Bool, true, false, _&&_}
@@ -7,7 +7,8 @@ use mathlib.Core.List.{List, [], _∷_}
 use Prim.Native.Nat.{ℕ}
 use lib.Dec.{T, eqb, eqb→eq}
 use Rattle.wire.specs.Outcome.{Outcome, refused, accepted}
-use Rattle.channel_bytes.specs.Bytes.{controlAt, unnamed, controlByte, statusAt, statusByte, enableAt, enableLow, enableHigh}
+use Rattle.wire.specs.Text.{digitsOf}
+use Rattle.channel_bytes.specs.Bytes.{controlAt, controlByte, unnamed, misnumbered, statusAt, statusByte, enableAt, enableLow, enableHigh}
 use Rattle.sync_manager_channel.specs.Image as channel
 use Rattle.channels.specs.Channels.{channelsAfter}
 use Rattle.fmmu.specs.Image.{fieldsOf, imageOf}
@@ -25,7 +26,7 @@ use Rattle.passes.specs.Call.{call}
 use Rattle.translation.specs.Translate.{carries, odd, says, firstSaid, translate}
 use Rattle.counting.specs.Count.{spotIn, count}
 use Rattle.agreement.specs.Bench.{Row, benchCases}
-use Rattle.agreement.specs.Cases.{translationCases, countingCases, oldCases, pairCases, callCases}
+use Rattle.agreement.specs.Cases.{translationCases, countingCases, oldCases, pairCases, callCases, unnamedCases}
 
 -- two answers are the same
 abbrev sameList : List ℕ → List ℕ → Bool
@@ -96,3 +97,7 @@ unfolding controlAt unnamed controlByte fieldsOf imageOf listOf someBelow pdosFr
     multiplierOf byCoe bitsOf piecesFrom piecesOf own given firstWith usesOf total totalOn sizeOf chunks flat plan someTooMany noEntry
     cleared tooLong badPairs entryFor inTheWay call statusAt statusByte enableAt enableLow enableHigh channel.imageOf channelsAfter
 call-cases = each-row callCases tt
+
+pub unnamed-cases : Each (λ (r : Row). r .computed ≡ r .expected) unnamedCases
+unfolding controlAt controlByte misnumbered statusAt statusByte enableAt enableLow enableHigh channel.channelOf channel.imageOf digitsOf
+unnamed-cases = each-row unnamedCases tt

@@ -1,6 +1,7 @@
--- Translation, counting, old entries, pairs and the two directions of a call at their limits, lists of rows as the bench's: who decides, where an entry and a range
--- end, what 11, 15 and 18 look at, which refusal comes first.
+-- Translation, counting, old entries, pairs, the two directions of a call and unnamed modes at their limits, lists of rows as the bench's: who decides, where an
+-- entry and a range end, what 11, 13, 15 and 18 look at, which refusal comes first.
 -- Assumes nothing.
+use mathlib.Core.Bool.{true, false}
 use mathlib.Core.List.{List, [], _∷_, _++_}
 use mathlib.Core.Option.{Option, none, some}
 use Prim.Native.Nat.{ℕ, suc, _+_, _-_, _*_, _/_, _%_}
@@ -8,6 +9,14 @@ use lib.ListN.{length, getD, set, replicate}
 use Rattle.wire.specs.Outcome.{Outcome, refused, accepted}
 use Rattle.wire.specs.Number.{littleOf}
 use Rattle.wire.specs.Lists.{listOf}
+use Rattle.channel_bytes.specs.declared.OperationMode.{OperationMode}
+use Rattle.channel_bytes.specs.declared.OperationMode.the-variants as mode
+use Rattle.channel_bytes.specs.declared.Direction.{Direction}
+use Rattle.channel_bytes.specs.declared.Direction.the-variants as direction
+use Rattle.channel_bytes.specs.Bytes.{controlAt, statusAt, enableAt}
+use Rattle.sync_manager_channel.specs.declared.SyncManagerChannel.{SyncManagerChannel}
+use Rattle.sync_manager_channel.specs.Image.{imageOf, readChannel, writeChannel}
+use Rattle.sync_manager_channel.specs.Text.{directionText, modeText}
 use Rattle.pdo.specs.declared.PdoDirection.the-variants.{MasterRead, MasterWrite}
 use Rattle.sheet.specs.Sheet.{sheetData}
 use Rattle.area.specs.Area.{entriesOf, flat}
@@ -24,7 +33,7 @@ use Rattle.passes.specs.Call.{call, entriesAfter, imagesAfter}
 use Rattle.translation.specs.Translate.{translate}
 use Rattle.counting.specs.Count.{Spot, count}
 use Rattle.agreement.specs.Clean.{zeroed}
-use Rattle.agreement.specs.Bench.{Row, row, inputsAt, bothAt, entryOf, ones, zeros, zeroChannels, lentAt, callBy, callOver, entryAfter, sampleSheet, bitsSheet, fullEntry, noBitsSheet}
+use Rattle.agreement.specs.Bench.{Row, row, number, control, rewritten, inputsAt, bothAt, entryOf, ones, zeros, zeroChannels, lentAt, callBy, callOver, entryAfter, sampleSheet, bitsSheet, fullEntry, noBitsSheet}
 
 -- a device address as a list: nothing where it is none
 abbrev pub shown : Option ℕ → List ℕ
@@ -332,4 +341,43 @@ callCases =
     ∷ row 32 (movedTo (cleanFrom 0) 3 1000 zeros) (accepted (4 ∷ 5 ∷ []))  -- each offset is left at its direction's end, one that wasn't read too
     ∷ row 33 (movedTo (clean OwnNumber Given 0) 3 1000 zeros) (accepted (4 ∷ 1001 ∷ []))  -- given, at its own
     ∷ row 34 (movedTo (cleanFrom 0) 3 1000 (atLast bothFull)) (accepted (3 ∷ 1000 ∷ []))  -- refused, both stay
+    ∷ []
+
+-- an image with this control byte
+abbrev pub imageWith : ℕ → List ℕ
+imageWith control = 0x80 ∷ 0x11 ∷ 1 ∷ 0 ∷ control ∷ 0 ∷ 1 ∷ 0 ∷ []
+
+-- its channel, but of this mode and direction; and what writing that into room of so many bytes answers
+abbrev pub channelWith : OperationMode → Direction → SyncManagerChannel
+channelWith m d =
+    record {
+      «physical_start_address» = 0x1180;
+      «length_bytes» = record { 0 = 1 };
+      control = record { «operation_mode» = m; direction = d; «ecat_event_enable» = false; «dls_user_event_enable» = true; «watchdog_enable» = false };
+      status = statusAt 0;
+      enable = enableAt 1 0;
+    }
+
+abbrev pub writtenInto : ℕ → OperationMode → Direction → Outcome (List ℕ)
+writtenInto room m d = number (writeChannel (channelWith m d) (replicate room 0))
+
+-- document 02, 8/13
+abbrev pub unnamedCases : List Row
+unnamedCases =
+    row 1 (control (controlAt 0x23)) (accepted (3 ∷ 0x23 ∷ []))  -- mode 3 is shown, and is written again
+    ∷ row 2 (control (controlAt 0xaf)) (accepted (3 ∷ 0x2f ∷ []))  -- so is direction 3 beside it; bit 7 is dropped
+    ∷ row 3 (rewritten (readChannel (imageWith 0x29))) (accepted (imageWith 0x29))  -- mode 1 and direction 2, in an image
+    ∷ row 4 (rewritten (readChannel (0 ∷ imageWith 0x23))) (refused 1)  -- nine bytes
+    ∷ row 5 (writtenInto 8 (mode.Unnamed 1) (direction.Unnamed 3)) (accepted (8 ∷ []))  -- numbers of two bits without a name
+    ∷ row 6 (writtenInto 8 (mode.Unnamed 3) (direction.Unnamed 2)) (accepted (8 ∷ []))
+    ∷ row 7 (writtenInto 8 (mode.Unnamed 0) direction.MasterRead) (refused 13)  -- modes that have names
+    ∷ row 8 (writtenInto 8 (mode.Unnamed 2) direction.MasterRead) (refused 13)
+    ∷ row 9 (writtenInto 8 mode.Normal (direction.Unnamed 0)) (refused 13)  -- directions that do
+    ∷ row 10 (writtenInto 8 mode.Normal (direction.Unnamed 1)) (refused 13)
+    ∷ row 11 (writtenInto 8 (mode.Unnamed 4) direction.MasterRead) (refused 13)  -- above 3
+    ∷ row 12 (writtenInto 8 mode.Normal (direction.Unnamed 255)) (refused 13)
+    ∷ row 13 (writtenInto 7 (mode.Unnamed 4) direction.MasterRead) (refused 1)  -- 1 before 13
+    ∷ row 14 (accepted (imageOf (channelWith (mode.Unnamed 255) (direction.Unnamed 6)))) (accepted (imageWith 0x2b))  -- the low two bits of each
+    ∷ row 15 (accepted (modeText (mode.Unnamed 255))) (accepted (44 ∷ 32 ∷ 109 ∷ 111 ∷ 100 ∷ 101 ∷ 32 ∷ 117 ∷ 110 ∷ 110 ∷ 97 ∷ 109 ∷ 101 ∷ 100 ∷ 32 ∷ 50 ∷ 53 ∷ 53 ∷ []))  -- any number is printed
+    ∷ row 16 (accepted (directionText (direction.Unnamed 3))) (accepted (44 ∷ 32 ∷ 100 ∷ 105 ∷ 114 ∷ 101 ∷ 99 ∷ 116 ∷ 105 ∷ 111 ∷ 110 ∷ 32 ∷ 117 ∷ 110 ∷ 110 ∷ 97 ∷ 109 ∷ 101 ∷ 100 ∷ 32 ∷ 51 ∷ []))
     ∷ []

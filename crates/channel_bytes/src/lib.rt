@@ -197,25 +197,21 @@ impl BufferState {
 fn mode_at(number: u8) -> OperationMode
     ensures { λ r. ⌜ r ≡ modeAt number ⌝ }
 {
-    if number == 0 {
-        return OperationMode::Normal;
+    match number {
+        0 => OperationMode::Normal,
+        2 => OperationMode::Mailbox,
+        _ => OperationMode::Unnamed(number),
     }
-    if number == 2 {
-        return OperationMode::Mailbox;
-    }
-    OperationMode::Unnamed(number)
 }
 
 fn direction_at(number: u8) -> Direction
     ensures { λ r. ⌜ r ≡ directionAt number ⌝ }
 {
-    if number == 0 {
-        return Direction::MasterRead;
+    match number {
+        0 => Direction::MasterRead,
+        1 => Direction::MasterWrite,
+        _ => Direction::Unnamed(number),
     }
-    if number == 1 {
-        return Direction::MasterWrite;
-    }
-    Direction::Unnamed(number)
 }
 
 impl Control {

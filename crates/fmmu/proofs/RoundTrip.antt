@@ -1,7 +1,7 @@
 -- The layout both ways: an entry written and read, and bytes read and written. The laws are those of every layout (Images, in wire/proofs),
 -- at the layout of an entry.
 -- Assumes nothing.
-use mathlib.Core.Path.{_≡_, refl, sym, _∙_, ap}
+use mathlib.Core.Path.{_≡_, sym, _∙_, ap}
 use mathlib.Core.Logic.{_↔_}
 use mathlib.Core.List.{List}
 use Prim.Native.Nat.{ℕ}

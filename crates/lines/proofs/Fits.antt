@@ -7,14 +7,13 @@ use Prim.Native.Nat.{ℕ, suc, _+_, _*_, _≤_}
 use native.Mathlib.Nat.{mul-suc, min-le-right}
 use native.Mathlib.Omega.{arith}
 use lib.ListN.{length, take, length-append, length-take}
-use Rattle.wire.specs.Outcome.{Outcome, refused, accepted}
 use Rattle.wire.specs.Text.{decimalOf}
 use Rattle.wire.proofs.Digits.{decimal-length}
 use Rattle.pdi.specs.declared.PdiSegment.{PdiSegment}
 use Rattle.pdi.specs.Segment.{segmentText}
 use Rattle.pdi.proofs.Text.{segment-length}
 use Rattle.sync_manager_channel.specs.declared.SyncManagerChannel.{SyncManagerChannel}
-use Rattle.sync_manager_channel.specs.Image.{readChannel}
+use Rattle.sync_manager_channel.specs.Image.{channelOf}
 use Rattle.sync_manager_channel.specs.Text.{channelText}
 use Rattle.sync_manager_channel.proofs.Text.{channel-length}
 use Rattle.fmmu.specs.declared.Fmmu.{Fmmu}
@@ -33,10 +32,9 @@ numbered-length name k =
     let d = decimal-length k in
     simp length-append (omega arith)
 
-channel-line : (k : ℕ) (o : Outcome SyncManagerChannel) → length (channelLine k o) ≤ 106
+channel-line : (k : ℕ) (s : SyncManagerChannel) → length (channelLine k s) ≤ 106
 unfolding channelLine
-channel-line k (refused n) = omega arith
-channel-line k (accepted s) =
+channel-line k s =
     let l = line-length (numbered (83 ∷ 77 ∷ []) k) (channelText s) in
     let f = numbered-length (83 ∷ 77 ∷ []) k in
     let t = channel-length s in
@@ -77,7 +75,7 @@ bay-length n inputs outputs fmmus channels =
     let few = length-take n images in
     let least = min-le-right n (length images) in
     let sixteen = length-chunks 8 16 (areaOf 128 channels) in
-    let s = lines-length imageLine 106 (λ k e. channel-line k (readChannel e)) 0 (take n images) in
+    let s = lines-length imageLine 106 (λ k e. channel-line k (channelOf e)) 0 (take n images) in
     let entries = length-chunks 16 16 (areaOf 256 fmmus) in
     let f = lines-length enabledLine 140 (λ k e. entry-line k (fieldsOf e)) 0 (entriesOf 16 (areaOf 256 fmmus)) in
     simp length-append (omega arith)

@@ -10,9 +10,7 @@ use lib.Seq.{drop-cons}
 use Rattle.wire.specs.Text.{Page, typedAll, Types}
 use Rattle.wire.proofs.Typing.{typed-append, types}
 use Rattle.sync_manager_channel.specs.declared.SyncManagerChannel.{SyncManagerChannel}
-use Rattle.sync_manager_channel.specs.declared.ChannelRead.{ChannelRead}
-use Rattle.sync_manager_channel.specs.declared.ChannelRead.the-variants.{Channel, Refused}
-use Rattle.sync_manager_channel.specs.Image.{readChannel, channelReadOf}
+use Rattle.sync_manager_channel.specs.Image.{channelOf}
 use Rattle.sync_manager_channel.specs.Text.{channelText}
 use Rattle.fmmu.specs.declared.Fmmu.{Fmmu}
 use Rattle.fmmu.specs.Image.{fieldsOf}
@@ -24,15 +22,12 @@ pub none : (p : Page) → Types p p []
 unfolding typedAll
 none p = record { is = refl }
 
--- an image that reads, and one that doesn't
-module _ (k : ℕ) (image : List ℕ) (r : ChannelRead) (reads : channelReadOf r ≡ readChannel image) where
-  pub image-typed : (s : SyncManagerChannel) {p q : Page} → r ≡ Channel s → Types p q (line (numbered (83 ∷ 77 ∷ []) k) (channelText s)) → Types p q (imageLine k image)
-  unfolding channelLine
-  image-typed s is t = types (ap (channelLine k) (sym (ap channelReadOf is) ∙ reads)) t
-
-  pub image-left-out : (n : ℕ) {p : Page} → r ≡ Refused n → Types p p (imageLine k image)
-  unfolding channelLine
-  image-left-out n {p} is = types (ap (channelLine k) (sym (ap channelReadOf is) ∙ reads)) (none p)
+-- the line of what an image says
+pub image-typed :
+    (k : ℕ) (image : List ℕ) (s : SyncManagerChannel) {p q : Page} → s ≡ channelOf image → Types p q (line (numbered (83 ∷ 77 ∷ []) k) (channelText s))
+    → Types p q (imageLine k image)
+unfolding channelLine
+image-typed k image s says t = types (ap (channelLine k) says) t
 
 -- an entry that is enabled, and one that isn't
 module _ (k : ℕ) (image : List ℕ) (f : Fmmu) (fields : f ≡ fieldsOf image) where

@@ -3,7 +3,6 @@
 use mathlib.Core.Path.{refl}
 use mathlib.Core.List.{[], _∷_}
 use Prim.Native.Nat.{ℕ}
-use lib.ListN.{getD}
 use Rattle.wire.specs.Outcome.{when}
 use Rattle.wire.proofs.Order.{passed-first}
 use Rattle.wire.proofs.Images.{Layout, Calls}
@@ -11,10 +10,10 @@ use Rattle.wire.proofs.Built.{little, _followed-by_, as-record}
 use Rattle.channel_bytes.specs.declared.Control.{Control}
 use Rattle.channel_bytes.specs.declared.Status.{Status}
 use Rattle.channel_bytes.specs.declared.Enable.{Enable}
-use Rattle.channel_bytes.specs.Bytes.{unnamed}
+use Rattle.channel_bytes.specs.Bytes.{misnumbered}
 use Rattle.channel_bytes.proofs.Layouts.{control-layout, status-layout, enable-layout}
 use Rattle.sync_manager_channel.specs.declared.SyncManagerChannel.{SyncManagerChannel}
-use Rattle.sync_manager_channel.specs.Image.{Fits}
+use Rattle.sync_manager_channel.specs.Image.{InRange, Fits}
 
 -- a channel's values, in the order of the image
 abbrev Values : Type 0
@@ -33,16 +32,13 @@ layout =
     (little 2 followed-by little 2 followed-by control-layout followed-by status-layout followed-by enable-layout)
 
 pub fits-layout : (s : SyncManagerChannel) → Fits s → layout .Fits s
-fits-layout s h = (h .start, (h .length, (tt, (tt, tt))))
+fits-layout s h = (h .range .start, (h .range .length, (h .numbered, (tt, tt))))
 
--- 5 is what reading refuses, and writing refuses nothing, besides 1
+-- 13 is what writing refuses, besides 1
 abbrev pub calls : Calls layout
 calls =
     record {
-      unread = λ l. when 5 (unnamed (getD l 4 0)) ∷ [];
-      unwritten = λ s. [];
-      InRange = Fits;
-      reads = λ l a. rw (a .1 .1 .0);
-      accepts = λ l s e. (tt, (tt, (passed-first (when 5 (unnamed (getD l 4 0))) [] (layout .fields l 0) s e .0, (tt, tt))));
-      fits = λ s k h e. fits-layout s h;
+      unwritten = λ s. when 13 (misnumbered (s .control)) ∷ [];
+      InRange = InRange;
+      fits = λ s k t e. fits-layout s (record { range = t; numbered = passed-first (when 13 (misnumbered (s .control))) [] 8 k e .0 });
     }

@@ -2,22 +2,20 @@
 -- at the layout of a channel.
 -- Assumes nothing.
 use mathlib.Core.Path.{_≡_, sym, _∙_, ap}
-use mathlib.Core.Bool.{false}
 use mathlib.Core.Logic.{_↔_}
 use mathlib.Core.List.{List}
 use Prim.Native.Nat.{ℕ}
-use lib.ListN.{length, getD}
+use lib.ListN.{length}
 use Rattle.wire.specs.Image.{Bytes, Image, Clear}
 use Rattle.wire.specs.Outcome.{accepted}
 use Rattle.wire.specs.Room.{InRoom}
 use Rattle.wire.specs.declared.Written.{Written}
 use Rattle.wire.specs.declared.Written.the-variants.{Len}
 use Rattle.wire.proofs.Images as images
-use Rattle.channel_bytes.specs.Bytes.{unnamed}
 use Rattle.sync_manager_channel.specs.declared.SyncManagerChannel.{SyncManagerChannel}
 use Rattle.sync_manager_channel.specs.declared.ChannelRead.{ChannelRead}
 use Rattle.sync_manager_channel.specs.declared.ChannelRead.the-variants.{Channel}
-use Rattle.sync_manager_channel.specs.Image.{channelOf, imageOf, reserved, Fits, readChannel, writeChannel, channelReadOf}
+use Rattle.sync_manager_channel.specs.Image.{channelOf, imageOf, reserved, InRange, Fits, readChannel, writeChannel, channelReadOf}
 use Rattle.sync_manager_channel.proofs.Layouts.{layout, calls, fits-layout}
 use Rattle.sync_manager_channel.proofs.Unique.{channel-back, channel-determined}
 
@@ -34,22 +32,17 @@ pub read-write : (s : SyncManagerChannel) → Fits s → channelOf (imageOf s) �
 unfolding channelOf imageOf
 read-write s h = images.read-write layout s (fits-layout s h)
 
--- and its image is accepted
-pub written-named : (s : SyncManagerChannel) → unnamed (getD (imageOf s) 4 0) ≡ false
-unfolding imageOf
-written-named s = images.image-accepted layout s .1 .1 .0
-
--- so reading what was written accepts it and gives it back
+-- so reading what was written gives it back
 pub read-written : (s : SyncManagerChannel) → Fits s → readChannel (imageOf s) ≡ accepted s
 unfolding channelOf imageOf
-read-written s h = images.read-written layout calls s (fits-layout s h)
+read-written s h = images.read-written layout s (fits-layout s h)
 
 -- what eight bytes say fits
 pub fields-fit : (l : List ℕ) → Image 8 l → Fits (channelOf l)
 unfolding channelOf
 fields-fit l h =
     let p = layout .fit l 0 (h .bytes) in
-    record { start = p .0; length = p .1 .0 }
+    record { range = record { start = p .0; length = p .1 .0 }; numbered = p .1 .1 .0 }
 
 -- reading drops the reserved bits: what was read, written and read again is what was read
 pub reading-drops-reserved : (l : List ℕ) → Image 8 l → channelOf (imageOf (channelOf l)) ≡ channelOf l
@@ -61,20 +54,20 @@ pub writing-clears-reserved : (s : SyncManagerChannel) → Clear reserved (image
 unfolding imageOf
 writing-clears-reserved s = images.writing-clears-reserved layout s
 
--- accepted bytes, read and written, come back exactly if their reserved bits are 0
-pub write-read : (l : List ℕ) → Image 8 l → unnamed (getD l 4 0) ≡ false → (imageOf (channelOf l) ≡ l) ↔ Clear reserved l
+-- eight bytes, read and written, come back exactly if their reserved bits are 0
+pub write-read : (l : List ℕ) → Image 8 l → (imageOf (channelOf l) ≡ l) ↔ Clear reserved l
 unfolding channelOf imageOf
-write-read l h n = images.write-read layout l h (tt, (tt, (n, (tt, tt))))
+write-read l h = images.write-read layout l h
 
 -- the same by what reading answers
 pub accepted-comes-back : (l : List ℕ) (s : SyncManagerChannel) → Bytes l → accepted s ≡ readChannel l → (imageOf s ≡ l) ↔ Clear reserved l
 unfolding channelOf imageOf
-accepted-comes-back l s h e = images.accepted-comes-back layout calls l s h e
+accepted-comes-back l s h e = images.accepted-comes-back layout l s h e
 
 -- a channel that `pack_to_slice` has written, by its promise, comes back from that room by the promise of `unpack_from_slice`;
 -- its numbers are in range at every call (`in-range`, beside the proof of `pack_to_slice`)
 pub written-comes-back :
-    (s : SyncManagerChannel) (k : ℕ) {room after : List ℕ} {w : Written} {r : ChannelRead} → Fits s → InRoom (writeChannel room) (imageOf s) room w after → w ≡ Len k
+    (s : SyncManagerChannel) (k : ℕ) {room after : List ℕ} {w : Written} {r : ChannelRead} → InRange s → InRoom (writeChannel s room) (imageOf s) room w after → w ≡ Len k
     → channelReadOf r ≡ readChannel after → r ≡ Channel s
 unfolding channelOf imageOf
-written-comes-back s k {r = r} h x is e = sym (channel-determined r) ∙ ap channel-back (e ∙ images.written-comes-back layout calls s k h x is)
+written-comes-back s k {r = r} t x is e = sym (channel-determined r) ∙ ap channel-back (e ∙ images.written-comes-back layout calls s k t x is)

@@ -7,19 +7,22 @@ use lib.ListN.{length, length-append}
 use Rattle.wire.specs.Text.{enabledText}
 use Rattle.wire.proofs.Digits.{digits-length, decimal-length}
 use Rattle.channel_bytes.specs.declared.OperationMode.{OperationMode}
-use Rattle.channel_bytes.specs.declared.OperationMode.the-variants.{Normal, Mailbox}
+use Rattle.channel_bytes.specs.declared.OperationMode.the-variants as mode
 use Rattle.channel_bytes.specs.declared.Direction.{Direction}
-use Rattle.channel_bytes.specs.declared.Direction.the-variants.{MasterRead, MasterWrite}
+use Rattle.channel_bytes.specs.declared.Direction.the-variants as direction
 use Rattle.sync_manager_channel.specs.declared.SyncManagerChannel.{SyncManagerChannel}
 use Rattle.sync_manager_channel.specs.Text.{areaText, directionName, modeName, settingsText, channelText}
 
-direction-length : (d : Direction) → length (directionName d) ≤ 11
-direction-length MasterRead = omega arith
-direction-length MasterWrite = omega arith
+-- the longest name is `unnamed ` with a number
+direction-length : (d : Direction) → length (directionName d) ≤ 13
+direction-length direction.MasterRead = omega arith
+direction-length direction.MasterWrite = omega arith
+direction-length (direction.Unnamed k) = let n = decimal-length k in omega arith
 
-mode-length : (m : OperationMode) → length (modeName m) ≤ 7
-mode-length Normal = omega arith
-mode-length Mailbox = omega arith
+mode-length : (m : OperationMode) → length (modeName m) ≤ 13
+mode-length mode.Normal = omega arith
+mode-length mode.Mailbox = omega arith
+mode-length (mode.Unnamed k) = let n = decimal-length k in omega arith
 
 enabled-length : (b : Bool) → length (enabledText b) ≤ 8
 enabled-length true = omega arith

@@ -25,7 +25,7 @@ channel-determined (Channel s) = refl
 channel-determined (Refused n) = refl
 
 pub unpack-pins : Pins unpack.Post (λ κs r s. r)
-unpack-pins κs a x y s t p q = same-by channelReadOf channel-back channel-determined p q
+unpack-pins κs a x y s t p q = same p q
 
 pub unpack-from-slice-pins : Pins unpack-from-slice.Post (λ κs r s. r)
 unpack-from-slice-pins κs a x y s t p q = same-by channelReadOf channel-back channel-determined p q

@@ -133,12 +133,7 @@ fn put_direction(room: &mut [u8], at: usize, direction: Direction) -> usize
     match direction {
         Direction::MasterRead => wire::put_bytes(room, at, b", direction MasterRead"),
         Direction::MasterWrite => wire::put_bytes(room, at, b", direction MasterWrite"),
-        Direction::Unnamed(number) => wire::put_decimal(
-            room,
-            at,
-            b", direction unnamed ",
-            number as u16,
-        ),
+        Direction::Unnamed(n) => wire::put_decimal(room, at, b", direction unnamed ", n as u16),
     }
 }
 
@@ -149,11 +144,6 @@ fn put_mode(room: &mut [u8], at: usize, mode: OperationMode) -> usize
     match mode {
         OperationMode::Normal => wire::put_bytes(room, at, b", mode Normal"),
         OperationMode::Mailbox => wire::put_bytes(room, at, b", mode Mailbox"),
-        OperationMode::Unnamed(number) => wire::put_decimal(
-            room,
-            at,
-            b", mode unnamed ",
-            number as u16,
-        ),
+        OperationMode::Unnamed(n) => wire::put_decimal(room, at, b", mode unnamed ", n as u16),
     }
 }
