@@ -9,15 +9,18 @@ enum { MAILBOX = 1, COE = 2, COMPLETE_ACCESS = 4 };
 enum { MAILBOX_WRITE = 1, MAILBOX_READ = 2, DATA_WRITE = 3, DATA_READ = 4 };
 enum { OUTPUTS = 1, INPUTS = 2, STATUS = 3 };
 enum { COE_PDO = 0, EEPROM_READ = 1, EEPROM_WRITE = 2 };
-enum { UNNAMED = 0x09 }; /* bits of a control byte: modes 1 and 3 and directions 2 and 3 have no name */
+/* bits of a control byte: modes 1 and 3 and directions 2 and 3 have no name */
+enum { UNNAMED_MODE = 0x01, UNNAMED_DIRECTION = 0x08, UNNAMED = UNNAMED_MODE | UNNAMED_DIRECTION };
 
-enum mode { NORMAL_MODE = 0, MAILBOX_MODE = 2 };
-enum direction { MASTER_READ = 0, MASTER_WRITE = 1 };
+/* A mode or a direction: one that has a name, held as the name's number, or the case with a number, which may be any. */
+struct choice {
+    bool unnamed;
+    uint8_t number;
+};
 
 struct manager_data {
     uint16_t start;
-    enum mode mode;
-    enum direction direction;
+    struct choice mode, direction;
     bool ecat_event, dls_user_event, watchdog;
     bool enable;
     uint8_t usage;
@@ -33,25 +36,26 @@ struct device_data {
     uint8_t p;
 };
 
-/* A sync manager whose control byte has names. */
-static inline struct manager_data manager_of(uint16_t start, uint8_t control, bool enable, uint8_t usage)
+/* A sync manager of any control byte; its bit 7 is dropped. */
+static inline void set_manager(struct manager_data *manager, uint16_t start, uint8_t control, bool enable, uint8_t usage)
 {
-    return (struct manager_data){
-        .start = start,
-        .mode = control & 2 ? MAILBOX_MODE : NORMAL_MODE,
-        .direction = control & 4 ? MASTER_WRITE : MASTER_READ,
-        .ecat_event = control & 0x10,
-        .dls_user_event = control & 0x20,
-        .watchdog = control & 0x40,
-        .enable = enable,
-        .usage = usage,
-    };
+    manager->start = start;
+    manager->mode.unnamed = control & UNNAMED_MODE;
+    manager->mode.number = control & 3;
+    manager->direction.unnamed = control & UNNAMED_DIRECTION;
+    manager->direction.number = control >> 2 & 3;
+    manager->ecat_event = control & 0x10;
+    manager->dls_user_event = control & 0x20;
+    manager->watchdog = control & 0x40;
+    manager->enable = enable;
+    manager->usage = usage;
 }
 
+/* The control byte; of a number its low two bits. */
 static inline uint8_t control_of(const struct manager_data *manager)
 {
-    return (uint8_t)(manager->mode | manager->direction << 2 | manager->ecat_event << 4 | manager->dls_user_event << 5 |
-                     manager->watchdog << 6);
+    return (uint8_t)((manager->mode.number & 3) | (manager->direction.number & 3) << 2 | manager->ecat_event << 4 |
+                     manager->dls_user_event << 5 | manager->watchdog << 6);
 }
 
 static inline uint16_t pair(const uint8_t *at)

@@ -121,7 +121,7 @@ static __attribute__((noinline)) int read_dump(const uint8_t *dump, size_t lengt
         if (at[7] > DATA_READ)
             return 4;
         unnamed |= (at[4] & UNNAMED) != 0;
-        data->managers[k] = manager_of((uint16_t)word(at), at[4], at[6] & 1, at[7]);
+        set_manager(&data->managers[k], (uint16_t)word(at), at[4], at[6] & 1, at[7]);
     }
     at = dump + found.usages.at;
     for (size_t k = 0; k < data->f; k++) {

@@ -556,15 +556,20 @@ static size_t pdos_length(const uint8_t *records, size_t length, unsigned p, boo
     return at;
 }
 
-static bool has_unnamed(const struct device_data *data)
+/* 4 where a usage has no name; else 5 where a mode or a direction is the case with a number; else 0. */
+static int unnamed(const struct device_data *data)
 {
-    for (size_t k = 0; k < data->n; k++)
-        if (data->managers[k].usage > DATA_READ)
-            return true;
+    bool control = false;
+    for (size_t k = 0; k < data->n; k++) {
+        const struct manager_data *manager = &data->managers[k];
+        if (manager->usage > DATA_READ)
+            return 4;
+        control |= manager->mode.unnamed | manager->direction.unnamed;
+    }
     for (size_t k = 0; k < data->f; k++)
         if (data->usages[k] > STATUS)
-            return true;
-    return false;
+            return 4;
+    return control ? 5 : 0;
 }
 
 static uint8_t *put_manager(uint8_t *at, const struct manager_data *manager)
@@ -587,8 +592,9 @@ static __attribute__((noinline)) int write_sheet(const struct device_data *data,
     size_t following = 9 + 5 * data->n + data->f + pdos;
     if (data->n > MOST_FOLLOWING || data->f > MOST_FOLLOWING || following > MOST_FOLLOWING)
         return 2;
-    if (broken || has_unnamed(data))
-        return 4;
+    int number = broken ? 4 : unnamed(data);
+    if (number)
+        return number;
     *total = 2 + following;
     if (size < *total)
         return 12;
@@ -629,7 +635,7 @@ static int read_data(void)
     memcpy(data.usages, device.usages, sizeof data.usages);
     for (unsigned k = 0; k < device.n; k++) {
         const struct manager *manager = &device.managers[k];
-        data.managers[k] = manager_of(manager->start, manager->control, manager->enable, manager->usage);
+        set_manager(&data.managers[k], manager->start, manager->control, manager->enable, manager->usage);
     }
     return 0;
 }

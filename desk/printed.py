@@ -8,7 +8,7 @@ from desk.talk import Trouble
 SEGMENT = re.compile(r"(inputs|outputs) (?:\(empty\)|0x(?P<start>[0-9a-f]{8})\.\.0x(?P<end>[0-9a-f]{8}))")
 CHANNEL = re.compile(
     r"SM(?P<number>\d+): start 0x(?P<start>[0-9a-f]{4}), size 0x[0-9a-f]{4} \((?P<size>\d+)\), "
-    r"direction \w+, mode \w+, (?P<state>\w+)"
+    r"direction [\w ]+, mode [\w ]+, (?P<state>\w+)"
 )
 ENTRY = re.compile(
     r"FMMU(?P<number>\d+): logical start 0x(?P<logical>[0-9a-f]{8}):0, size (?P<size>\d+), logical end bit 7, "

@@ -99,5 +99,5 @@ unfolding controlAt unnamed controlByte fieldsOf imageOf listOf someBelow pdosFr
 call-cases = each-row callCases tt
 
 pub unnamed-cases : Each (λ (r : Row). r .computed ≡ r .expected) unnamedCases
-unfolding controlAt controlByte misnumbered statusAt statusByte enableAt enableLow enableHigh channel.channelOf channel.imageOf digitsOf
+unfolding controlAt controlByte unnamed misnumbered statusAt statusByte enableAt enableLow enableHigh channel.channelOf channel.imageOf digitsOf
 unnamed-cases = each-row unnamedCases tt

@@ -4,11 +4,12 @@
 use mathlib.Core.List.{List, [], _∷_, _++_}
 use Prim.Native.Nat.{ℕ, _/_, _%_}
 use lib.ListN.{getD, set, replicate}
+use Rattle.wire.specs.Field.{bit}
 use Rattle.wire.specs.Outcome.{Outcome, refused, accepted}
 use Rattle.pdi.specs.Unit.{roundedUp}
 use Rattle.pdi.specs.Offset.{incremented, incrementedByteAligned}
 use Rattle.channel_bytes.specs.declared.Control.{Control}
-use Rattle.channel_bytes.specs.Bytes.{modeNumber, controlAt, controlByte}
+use Rattle.channel_bytes.specs.Bytes.{modeNumber, controlAt, controlByte, unnamed}
 use Rattle.sync_manager_channel.specs.declared.SyncManagerChannel.{SyncManagerChannel}
 use Rattle.sync_manager_channel.specs.Image.{readChannel, imageOf}
 use Rattle.sheet.specs.Sheet.{sheetData}
@@ -37,9 +38,9 @@ abbrev pub number : Outcome ℕ → Outcome (List ℕ)
 number (refused n) = refused n
 number (accepted x) = accepted (x ∷ [])
 
--- a control that is read, and written again: its mode's number and the byte
+-- a control that is read, and written again: its mode's number, whether a mode or direction is unnamed, and the byte
 abbrev pub control : Control → Outcome (List ℕ)
-control c = accepted (modeNumber (c .«operation_mode») ∷ controlByte c ∷ [])
+control c = accepted (modeNumber (c .«operation_mode») ∷ bit (unnamed c) ∷ controlByte c ∷ [])
 
 -- a call: where the inputs start and end, and where both do
 abbrev pub inputsAt : Outcome Both → Outcome (List ℕ)
@@ -146,7 +147,7 @@ benchCases =
     ∷ row 9 (inputsAt (callOver noBitsSheet zeros)) (accepted (0 ∷ 0 ∷ []))
     ∷ row 10 (entryAfter 0 (bitsSheet 0) zeros) (accepted (0 ∷ 0 ∷ 0 ∷ 0 ∷ 0 ∷ 0 ∷ 0 ∷ 7 ∷ 0x80 ∷ 0x11 ∷ 0 ∷ 1 ∷ 1 ∷ 0 ∷ 0 ∷ 0 ∷ []))
     ∷ row 11 (inputsAt (callOver (set (bitsSheet 8) 13 0x23) zeros)) (refused 5)
-    ∷ row 12 (control (controlAt 0xa2)) (accepted (2 ∷ 0x22 ∷ []))
+    ∷ row 12 (control (controlAt 0xa2)) (accepted (2 ∷ 0 ∷ 0x22 ∷ []))
     ∷ row 12 (rewritten (readChannel (0x80 ∷ 0x11 ∷ 1 ∷ 0 ∷ 0xa2 ∷ 0 ∷ 1 ∷ 0 ∷ []))) (accepted (0x80 ∷ 0x11 ∷ 1 ∷ 0 ∷ 0x22 ∷ 0 ∷ 1 ∷ 0 ∷ []))
     ∷ row 12 (imageAfter 0 (set (bitsSheet 8) 13 0xa2)) (accepted (0x80 ∷ 0x11 ∷ 1 ∷ 0 ∷ 0x22 ∷ 0 ∷ 1 ∷ 0 ∷ []))
     ∷ []

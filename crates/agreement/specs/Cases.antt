@@ -364,8 +364,8 @@ writtenInto room m d = number (writeChannel (channelWith m d) (replicate room 0)
 -- document 02, 8/13
 abbrev pub unnamedCases : List Row
 unnamedCases =
-    row 1 (control (controlAt 0x23)) (accepted (3 ∷ 0x23 ∷ []))  -- mode 3 is shown, and is written again
-    ∷ row 2 (control (controlAt 0xaf)) (accepted (3 ∷ 0x2f ∷ []))  -- so is direction 3 beside it; bit 7 is dropped
+    row 1 (control (controlAt 0x23)) (accepted (3 ∷ 1 ∷ 0x23 ∷ []))  -- mode 3 is shown, and is written again
+    ∷ row 2 (control (controlAt 0xaf)) (accepted (3 ∷ 1 ∷ 0x2f ∷ []))  -- so is direction 3 beside it; bit 7 is dropped
     ∷ row 3 (rewritten (readChannel (imageWith 0x29))) (accepted (imageWith 0x29))  -- mode 1 and direction 2, in an image
     ∷ row 4 (rewritten (readChannel (0 ∷ imageWith 0x23))) (refused 1)  -- nine bytes
     ∷ row 5 (writtenInto 8 (mode.Unnamed 1) (direction.Unnamed 3)) (accepted (8 ∷ []))  -- numbers of two bits without a name

@@ -1,7 +1,7 @@
 -- Control, status and enable both ways: fields written and read, and bytes read and written.
 -- Assumes nothing.
 use mathlib.Core.Path.{_≡_, refl, sym, _∙_, ap, ap₂}
-use mathlib.Core.Bool.{Bool, false, false≢true, _||_}
+use mathlib.Core.Bool.{Bool, true, false, false≢true, cond, not, _&&_, _||_}
 use mathlib.Core.Logic.{_↔_}
 use mathlib.Core.Option.{some}
 use Prim.Native.Nat.{ℕ, zero, suc, _/_, _%_, _<_}
@@ -133,14 +133,41 @@ named-numbered c h =
     let both = or-none (isUnnamed (modeUnnamed (c .«operation_mode»))) (isUnnamed (directionUnnamed (c .direction))) h in
     ap₂ _||_ (mode-numbered (c .«operation_mode») (both .0)) (direction-numbered (c .direction) (both .1))
 
+-- so a control comes back from its byte exactly if it has no wrong number, which is 13
+pub control-comes-back : (c : Control) → (controlAt (controlByte c) ≡ c) ↔ (misnumbered c ≡ false)
+control-comes-back c = (λ e. ap misnumbered (sym e) ∙ control-numbered (controlByte c), control-read-write c)
+
+-- the case that tests of a number lead to: with a name, or the one with the number
+mode-decided : (x y : Bool) (n : ℕ) → isUnnamed (modeUnnamed (cond x mode.Normal (cond y mode.Mailbox (mode.Unnamed n)))) ≡ not (x || y)
+mode-decided true y n = refl
+mode-decided false true n = refl
+mode-decided false false n = refl
+
+direction-decided : (x y : Bool) (n : ℕ) → isUnnamed (directionUnnamed (cond x direction.MasterRead (cond y direction.MasterWrite (direction.Unnamed n)))) ≡ not (x || y)
+direction-decided true y n = refl
+direction-decided false true n = refl
+direction-decided false false n = refl
+
+not-both : (x y : Bool) → not x || not y ≡ not (x && y)
+not-both true y = refl
+not-both false y = refl
+
+-- what a byte says is unnamed, which is 5 in a sheet, exactly if its mode or its direction has no name
+pub control-unnamed : (b : ℕ) → unnamed (controlAt b) ≡ not (modeNamed (bitsAt b 0 2) && directionNamed (bitsAt b 2 2))
+unfolding controlAt unnamed
+control-unnamed b =
+    let m = bitsAt b 0 2 in
+    let d = bitsAt b 2 2 in
+    ap₂ _||_ (mode-decided (eqb m 0) (eqb m 2) m) (direction-decided (eqb d 0) (eqb d 1) d) ∙ not-both (modeNamed m) (directionNamed d)
+
 -- a control byte that is read and written is the byte with bit 7 cleared
 pub control-again : (b : ℕ) → b < 256 → controlByte (controlAt b) ≡ b % 128
 unfolding controlAt controlByte
 control-again = agree (λ b. controlByte (controlAt b)) (λ b. b % 128) 256 tt
 
 -- so each of the 128 with bit 7 clear comes back
-pub control-comes-back : (b : ℕ) → b < 128 → controlByte (controlAt b) ≡ b
-control-comes-back b h = control-again b (omega arith) ∙ omega arith
+pub byte-comes-back : (b : ℕ) → b < 128 → controlByte (controlAt b) ≡ b
+byte-comes-back b h = control-again b (omega arith) ∙ omega arith
 
 -- a control byte comes back exactly if bit 7 is 0
 pub control-write-read : (b : ℕ) → b < 256 → (controlByte (controlAt b) ≡ b) ↔ (bitsAt b 7 1 ≡ 0)

@@ -36,7 +36,7 @@ pub struct Enable {
     pub repeat_ack: bool,
 }
 
-// A number without a name is shown as it stands in the byte.
+// The case with a number is for one that has no name; whoever makes one may put any number there.
 pub enum OperationMode {
     Normal,
     Mailbox,

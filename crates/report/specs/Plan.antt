@@ -1,13 +1,15 @@
 -- The mailbox pass and the call for both directions over two areas: offset and group 0, no oversampling, no pairs; refused by the first that refuses.
 -- Assumes nothing.
 use mathlib.Core.Path.{_≡_}
-use mathlib.Core.List.{List, [], _++_}
+use mathlib.Core.List.{List, [], _∷_, _++_}
 use Prim.Native.Nat.{ℕ}
 use lib.ListN.{getD}
 use Rattle.wire.specs.Lists.{listOf}
 use Rattle.wire.specs.Outcome.{Outcome, refused, accepted}
 use Rattle.pdi.specs.declared.PdiSegment.{PdiSegment}
 use Rattle.pdi.specs.Segment.{segmentText}
+use Rattle.sync_manager_channel.specs.Image.{channelOf}
+use Rattle.sync_manager_channel.specs.Text.{channelText}
 use Rattle.area.specs.Area.{entriesOf, flat}
 use Rattle.sheet.specs.Sheet.{sheetData, managerCount}
 use Rattle.pdo.specs.Bits.{multipliersOf}
@@ -21,7 +23,7 @@ use Rattle.passes.specs.Old.{clean}
 use Rattle.passes.specs.Start.{offsets, Both}
 use Rattle.passes.specs.Call.{call, entriesAfter, imagesAfter}
 use Rattle.mailboxes.specs.Mailbox.{Recorded, mailboxPass, mailboxArea}
-use Rattle.lines.specs.Text.{line, inputsFront, outputsFront, imageLine, lines, enabledLine, refusedText, bayText}
+use Rattle.lines.specs.Text.{line, numbered, inputsFront, outputsFront, lines, enabledLine, refusedText, bayText}
 
 -- what comes after an accepted answer; a refusal stays the answer
 abbrev pub andThen : {A B : Type 0} → Outcome A → (A → Outcome B) → Outcome B
@@ -79,12 +81,15 @@ outcomeText n (accepted b) = bayText n (b .inputs) (b .outputs) (b .left .fmmus)
 unfoldable pub reportText : List ℕ → Areas → List ℕ
 reportText sheet a = outcomeText (managerCount sheet) (planBay sheet a)
 
--- the same with the n lines one by one: that of k is of the k-th image, whatever the areas held before
+-- the same with the n lines one by one: that of k is `SMk: ` and the text of what the k-th image says, whatever the areas held before
+abbrev pub channelLineOf : ℕ → List ℕ → List ℕ
+channelLineOf k e = line (numbered (83 ∷ 77 ∷ []) k) (channelText (channelOf e))
+
 unfoldable pub plainText : ℕ → Bay → List ℕ
 plainText n b =
     line inputsFront (segmentText (b .inputs))
     ++ line outputsFront (segmentText (b .outputs))
-    ++ flat (listOf (λ k. imageLine k (getD (entriesOf 8 (b .left .channels)) k [])) n)
+    ++ flat (listOf (λ k. channelLineOf k (getD (entriesOf 8 (b .left .channels)) k [])) n)
     ++ lines enabledLine 0 (entriesOf 16 (b .left .fmmus))
 
 -- every one of the n lines is printed wherever the plan is accepted, over any areas

@@ -2,16 +2,19 @@
 -- at the layout of a channel.
 -- Assumes nothing.
 use mathlib.Core.Path.{_≡_, sym, _∙_, ap}
+use mathlib.Core.Bool.{false}
 use mathlib.Core.Logic.{_↔_}
 use mathlib.Core.List.{List}
 use Prim.Native.Nat.{ℕ}
-use lib.ListN.{length}
+use lib.ListN.{length, getD}
 use Rattle.wire.specs.Image.{Bytes, Image, Clear}
 use Rattle.wire.specs.Outcome.{accepted}
 use Rattle.wire.specs.Room.{InRoom}
 use Rattle.wire.specs.declared.Written.{Written}
 use Rattle.wire.specs.declared.Written.the-variants.{Len}
 use Rattle.wire.proofs.Images as images
+use Rattle.channel_bytes.specs.Bytes.{misnumbered}
+use Rattle.channel_bytes.proofs.RoundTrip.{control-numbered}
 use Rattle.sync_manager_channel.specs.declared.SyncManagerChannel.{SyncManagerChannel}
 use Rattle.sync_manager_channel.specs.declared.ChannelRead.{ChannelRead}
 use Rattle.sync_manager_channel.specs.declared.ChannelRead.the-variants.{Channel}
@@ -31,6 +34,14 @@ image-length s = image-is s .long
 pub read-write : (s : SyncManagerChannel) → Fits s → channelOf (imageOf s) ≡ s
 unfolding channelOf imageOf
 read-write s h = images.read-write layout s (fits-layout s h)
+
+-- and of those in range no other does: 13 is what wouldn't come back
+pub comes-back-exactly : (s : SyncManagerChannel) → InRange s → (channelOf (imageOf s) ≡ s) ↔ (misnumbered (s .control) ≡ false)
+unfolding channelOf
+comes-back-exactly s h = (
+  λ e. ap (λ (x : SyncManagerChannel). misnumbered (x .control)) (sym e) ∙ control-numbered (getD (imageOf s) 4 0),
+  λ n. read-write s (record { range = h; numbered = n }),
+)
 
 -- so reading what was written gives it back
 pub read-written : (s : SyncManagerChannel) → Fits s → readChannel (imageOf s) ≡ accepted s
