@@ -72,17 +72,32 @@ fn number8(record: &[u8], at: usize) -> usize {
     numbers::joined(parts::number4(bytes, 0), parts::number4(bytes, 4)) as usize
 }
 
-// A control byte's mode and direction, but where four bytes give a number: whether the mode is the case with a number, that number, and the
-// same of the direction.
-fn control(byte: u8, given: &[u8]) -> Control {
-    let mut control = Control::unpack(byte);
+// Of four bytes: whether the mode is the case with a number, that number, and the same of the direction; else they are as the control byte says.
+fn mode(said: OperationMode, given: &[u8]) -> OperationMode {
     if records::set(given, 0) {
-        control.operation_mode = OperationMode::Unnamed(wire::byte_at(given, 1));
+        return OperationMode::Unnamed(wire::byte_at(given, 1));
     }
+    said
+}
+
+fn direction(said: Direction, given: &[u8]) -> Direction {
     if records::set(given, 2) {
-        control.direction = Direction::Unnamed(wire::byte_at(given, 3));
+        return Direction::Unnamed(wire::byte_at(given, 3));
     }
-    control
+    said
+}
+
+fn control(byte: u8, given: &[u8]) -> Control {
+    let said = Control::unpack(byte);
+    let said_mode = said.operation_mode;
+    let said_direction = said.direction;
+    Control {
+        operation_mode: mode(said_mode, given),
+        direction: direction(said_direction, given),
+        ecat_event_enable: said.ecat_event_enable,
+        dls_user_event_enable: said.dls_user_event_enable,
+        watchdog_enable: said.watchdog_enable,
+    }
 }
 
 // A sync manager of five bytes, and of four behind all of the record.

@@ -17,6 +17,9 @@ abbrev μ-loop : tie.MeasureT-loop
 slice-aggregate-manager : tie.Need-slice-aggregate-manager Inv-loop μ-loop
 slice-aggregate-manager c = search needs
 
+slice-aggregate-manager-2 : tie.Need-slice-aggregate-manager-2 Inv-loop μ-loop
+slice-aggregate-manager-2 c = search needs
+
 manager-requires : tie.Need-manager-requires Inv-loop μ-loop
 manager-requires c κs = search needs
 
@@ -31,6 +34,15 @@ add-part c = omega arith
 
 part-requires : tie.Need-part-requires Inv-loop μ-loop
 part-requires c κs = search needs
+
+mul-part-2 : tie.Need-mul-part-2 Inv-loop μ-loop
+mul-part-2 c = omega arith
+
+add-part-2 : tie.Need-add-part-2 Inv-loop μ-loop
+add-part-2 c = omega arith
+
+part-requires-2 : tie.Need-part-requires-2 Inv-loop μ-loop
+part-requires-2 c κs = search needs
 
 manager-requires-2 : tie.Need-manager-requires-2 Inv-loop μ-loop
 manager-requires-2 c κs = search needs
@@ -60,11 +72,15 @@ managers-spec =
     Inv-loop
     μ-loop
     slice-aggregate-manager
+    slice-aggregate-manager-2
     manager-requires
     loop-holds
     mul-part
     add-part
     part-requires
+    mul-part-2
+    add-part-2
+    part-requires-2
     manager-requires-2
     mul-list
     array-set-from-list
