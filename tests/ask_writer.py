@@ -79,7 +79,8 @@ def told(lent=b"", room=64, **fields):
 def by_fields(data):
     """The fields of a sheet that is accepted; its PDO records lie in it."""
     read = read_sheet(data)
-    fields = dict(flags=read.flags, receive=read.receive, send=read.send, rows=read.managers, usages=read.usages)
+    rows = [manager.row() for manager in read.managers]
+    fields = dict(flags=read.flags, receive=read.receive, send=read.send, rows=rows, usages=read.usages)
     return fields | dict(pdos=11 + 5 * len(read.managers) + len(read.usages), p=len(read.pdos))
 
 
