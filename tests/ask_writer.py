@@ -120,10 +120,10 @@ def flags_and_sizes():
 
 
 def bytes_of_managers():
-    """Every control byte, named or not, with start addresses and enable bytes of many values."""
-    for first in range(0, 256, 16):
-        rows = [(4_099 * k % 65_536, k, (0, 1, 2, 128, 255)[k % 5], k // 3 % 5) for k in range(first, first + 16)]
-        yield f"controls {first} to {first + 15}", told(room=91, rows=rows)
+    """Every control byte that has names, with start addresses and enable bytes of many values; ask_unnamed.py has the others."""
+    for first in range(0, 64, 16):
+        rows = [(4_099 * k % 65_536, NAMED[k], (0, 1, 2, 128, 255)[k % 5], k // 3 % 5) for k in range(first, first + 16)]
+        yield f"controls {NAMED[first]} to {NAMED[first + 15]}", told(room=91, rows=rows)
 
 
 # ---- counts
