@@ -15,6 +15,7 @@
     python3 samples/lesson.py pairs-chosen  which FMMU each sync manager of a bay has by a list of pairs
     python3 samples/lesson.py pairs         two inputs on one FMMU by a pair, end to end and with a gap
     python3 samples/lesson.py pairs-refused pairs that can't be planned by, and how to mend them
+    python3 samples/lesson.py unnamed       a sync manager whose mode has no name, read back from a device and written again
     python3 samples/lesson.py refused       the smallest calls for the numbers that a sheet alone can't cause
 
 The program is built first where that is needed, which takes minutes the first time.
@@ -27,9 +28,10 @@ from pathlib import Path
 ROOT = Path(__file__).resolve().parent.parent
 sys.path.append(str(ROOT / "tests"))
 
-from build import BOXES, FIVE, SAMPLE, SAMPLE_DATA, STALE, area, coe, device, eeprom, entry, managers, on_coe, on_eeprom, sheet
+from build import BOXES, FIVE, SAMPLE, SAMPLE_DATA, STALE, area, channel, coe, device, eeprom, entry, managers
+from build import on_coe, on_eeprom, sheet
 from portions import KEPT
-from registers import LIMIT, Fmmu, segment_text
+from registers import LIMIT, Fmmu, Unnamed, segment_text
 from stored import sample
 from stream import AFTER_INPUTS, BY_PAIRS, FMMU_RECORD, KEEP, Request, packed
 
@@ -372,6 +374,35 @@ def exercise_10(ask):
     yield from outcomes(ask, [(in_words(lent) + told, by_pairs(lent, data)) for told, lent, data in tried])
 
 
+# ---- a mode without a name
+
+# SM3 of bay.hex as a device gave it back, its control 0x23; and a sheet that says the same
+READ_BACK = bytes.fromhex("80 11 03 00 23 00 01 00")
+MODE_3 = sheet(0, 0, 0, managers((0x1180, 0x23, 1, 4)))
+
+
+def in_mode(number):
+    """The same as a record, its mode the case with a number."""
+    return channel(Unnamed(number), 0, start=0x1180, size=3)
+
+
+def unnamed(ask):
+    asked = [
+        ("unnamed: read back", Request("Q", channels=READ_BACK)),
+        ("unnamed: its text", Request("y", room=96, channels=in_mode(3))),
+        *[(f"unnamed: {number} written", Request("Z", room=8, channels=in_mode(number))) for number in (3, 2, 4)],
+        ("unnamed: in a sheet", Request("d", sheet=MODE_3)),
+    ]
+    [[read], [text], [again], [named], [above], [told]] = ask(asked)
+    mode, direction = read.split()[2:4]
+    yield f"{READ_BACK.hex(' ')} read back: mode {mode}, direction {direction}"
+    yield f"its text: {text.partition('|')[2].rstrip('~|')}"
+    yield f"mode unnamed 3, written: {bytes.fromhex(again.split()[1]).hex(' ')}"
+    yield f"mode unnamed 2, written: {' '.join(named.split()[:2])}"
+    yield f"mode unnamed 4, written: {' '.join(above.split()[:2])}"
+    yield f"control 23 in a sheet: {told}"
+
+
 # ---- refusals
 
 
@@ -382,12 +413,14 @@ BIT_EACH = on_eeprom(eeprom(1, 0, 0x1A00, 1), eeprom(2, 1, 0x1600, 1), rows=mana
 THREE_BITS = on_eeprom(*[eeprom(1, k, 0x1A00 + k, 1) for k in range(3)], rows=managers(*[BIT_IN] * 3))
 NO_PARTS = sheet(0, 0, 0)
 FULL, BOTH_BITS, NEITHER_BIT = (area(entry(0, length, 0, rights)) for length, rights in ((65_535, 1), (0, 3), (0, 0)))
+MODE_0 = device(rows=[(0, 0, 0, 0)], numbers={0: (0, None)})
 START_BIT_8 = packed([0, 0, 8, 0, 0, 0, 0, 0, 0], FMMU_RECORD)
 CALLS = [
     ("Fmmu::unpack_from_slice of no bytes", Request("R")),
     ("a call for nothing on an FMMU area of 255 bytes", call(bytes(255), sheet=NO_PARTS)),
     ("writer::write of data whose f is 16,376", Request("v", room=KEPT, fmmus=device(f=16_376))),
     ("writer::write of data with a PDO and no lent bytes", Request("v", room=KEPT, fmmus=device(p=1))),
+    ("writer::write of data with mode unnamed 0", Request("v", room=KEPT, fmmus=MODE_0)),
     ("a call for 1 bit on an enabled entry of 65,535 bytes, keeping", call(FULL, KEEP, sheet=ONE_BIT)),
     ("PdiOffset::increment by 1 byte from offset 0xffffffff", Request("i", a=LIMIT, c=1)),
     ("a call for 1 bit from offset 0xffffffff", call(a=LIMIT, sheet=ONE_BIT)),
@@ -398,6 +431,7 @@ CALLS = [
     ("PdiSegment::fmt of (empty) into room of 6 bytes", Request("s", room=6)),
     ("writer::write of data with no parts into room of 10 bytes", Request("v", room=10, fmmus=device())),
     ("Fmmu::pack_to_slice of a record with start bit 8", Request("W", room=16, fmmus=START_BIT_8)),
+    ("SyncManagerChannel::pack_to_slice of a record with mode unnamed 0", Request("Z", room=8, channels=channel(Unnamed(0), 0))),
     ("portions::end with room of 16,385 bytes", Request("t", room=KEPT - 1)),
     ("a call for nothing beside an enabled entry with both bits", call(BOTH_BITS, sheet=NO_PARTS)),
     ("a call for 1 bit on an enabled entry with neither bit", call(NEITHER_BIT, sheet=ONE_BIT)),
@@ -427,6 +461,7 @@ LESSONS = {
     "pairs-chosen": pairs_chosen,
     "pairs": pairs,
     "pairs-refused": pairs_refused,
+    "unnamed": unnamed,
     "refused": refused,
 }
 
