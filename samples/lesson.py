@@ -29,9 +29,10 @@ from pathlib import Path
 ROOT = Path(__file__).resolve().parent.parent
 sys.path.append(str(ROOT / "tests"))
 
-from build import BOXES, FIVE, SAMPLE, SAMPLE_DATA, STALE, area, coe, device, eeprom, entry, managers, on_coe, on_eeprom, sheet
+from build import BOXES, FIVE, SAMPLE, SAMPLE_DATA, STALE, area, channel, coe, device, eeprom, entry, managers
+from build import on_coe, on_eeprom, sheet
 from portions import KEPT
-from registers import LIMIT, Fmmu, segment_text
+from registers import LIMIT, Fmmu, Unnamed, segment_text
 from stored import sample
 from stream import AFTER_INPUTS, BY_PAIRS, FMMU_RECORD, KEEP, Request, packed
 
@@ -406,15 +407,10 @@ HELD = [bytes([0x80, 0x11, 3, 0, control, 0, 1, 0]) for control in CONTROLS]
 COPIED = SAMPLE[:28] + b"\x23" + SAMPLE[29:]
 
 
-def with_mode(number):
-    """A record whose mode is unnamed and has this number, all else 0; what tells so stands behind its 21 bytes."""
-    return bytes(4) + bytes([number]) + bytes(16) + b"\1\0"
-
-
 def read_back(ask):
     for control, (text, written) in zip(CONTROLS, read_again(ask, HELD)):
         yield f"control {control:02x}: {text}; written again {written[4]:02x}"
-    yield from outcomes(ask, [("mode unnamed 2, made up and written", Request("Z", room=8, channels=with_mode(2)))])
+    yield from outcomes(ask, [("mode unnamed 2, made up and written", Request("Z", room=8, channels=channel(Unnamed(2), 0)))])
     yield from sheets_read(ask, [("bay.hex with control 23 for SM3", COPIED)])
 
 
@@ -438,13 +434,14 @@ BIT_EACH = on_eeprom(eeprom(1, 0, 0x1A00, 1), eeprom(2, 1, 0x1600, 1), rows=mana
 THREE_BITS = on_eeprom(*[eeprom(1, k, 0x1A00 + k, 1) for k in range(3)], rows=managers(*[BIT_IN] * 3))
 NO_PARTS = sheet(0, 0, 0)
 FULL, BOTH_BITS, NEITHER_BIT = (area(entry(0, length, 0, rights)) for length, rights in ((65_535, 1), (0, 3), (0, 0)))
+MODE_0 = device(rows=[(0, 0, 0, 0)], numbers={0: (0, None)})
 START_BIT_8 = packed([0, 0, 8, 0, 0, 0, 0, 0, 0], FMMU_RECORD)
 CALLS = [
     ("Fmmu::unpack_from_slice of no bytes", Request("R")),
     ("a call for nothing on an FMMU area of 255 bytes", call(bytes(255), sheet=NO_PARTS)),
     ("writer::write of data whose f is 16,376", Request("v", room=KEPT, fmmus=device(f=16_376))),
     ("writer::write of data with a PDO and no lent bytes", Request("v", room=KEPT, fmmus=device(p=1))),
-    ("writer::write of data with a sync manager of mode 1", Request("v", room=KEPT, fmmus=device(rows=[(0, 1, 0, 0)]))),
+    ("writer::write of data with mode unnamed 0", Request("v", room=KEPT, fmmus=MODE_0)),
     ("a call for 1 bit on an enabled entry of 65,535 bytes, keeping", call(FULL, KEEP, sheet=ONE_BIT)),
     ("PdiOffset::increment by 1 byte from offset 0xffffffff", Request("i", a=LIMIT, c=1)),
     ("a call for 1 bit from offset 0xffffffff", call(a=LIMIT, sheet=ONE_BIT)),
@@ -455,7 +452,7 @@ CALLS = [
     ("PdiSegment::fmt of (empty) into room of 6 bytes", Request("s", room=6)),
     ("writer::write of data with no parts into room of 10 bytes", Request("v", room=10, fmmus=device())),
     ("Fmmu::pack_to_slice of a record with start bit 8", Request("W", room=16, fmmus=START_BIT_8)),
-    ("SyncManagerChannel::pack_to_slice of a record with mode unnamed 0", Request("Z", room=8, channels=with_mode(0))),
+    ("SyncManagerChannel::pack_to_slice of a record with mode unnamed 0", Request("Z", room=8, channels=channel(Unnamed(0), 0))),
     ("portions::end with room of 16,385 bytes", Request("t", room=KEPT - 1)),
     ("a call for nothing beside an enabled entry with both bits", call(BOTH_BITS, sheet=NO_PARTS)),
     ("a call for 1 bit on an enabled entry with neither bit", call(NEITHER_BIT, sheet=ONE_BIT)),

@@ -94,7 +94,6 @@ def whole_images():
         yield f"sync manager image of {size}", Request("Q", channels=(named + named)[:size])
     for control in (0x01, 0x03, 0x08, 0x0C, 0x23, 0xA2, 0xFF):
         yield f"sync manager image, control {control:02x}", Request("Q", channels=bytes([0, 0, 0, 0, control, 0, 0, 0]))
-    yield "1 and 5", Request("Q", channels=ones[:7])
     yield "document 01's FMMU1", Request("R", fmmus=bytes.fromhex("00000000050000078011000101000000"))
     yield "document 01's SM0", Request("Q", channels=bytes.fromhex("0010800026000100"))
 

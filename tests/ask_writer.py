@@ -79,7 +79,8 @@ def told(lent=b"", room=64, **fields):
 def by_fields(data):
     """The fields of a sheet that is accepted; its PDO records lie in it."""
     read = read_sheet(data)
-    fields = dict(flags=read.flags, receive=read.receive, send=read.send, rows=read.managers, usages=read.usages)
+    rows = [manager.row() for manager in read.managers]
+    fields = dict(flags=read.flags, receive=read.receive, send=read.send, rows=rows, usages=read.usages)
     return fields | dict(pdos=11 + 5 * len(read.managers) + len(read.usages), p=len(read.pdos))
 
 
@@ -119,10 +120,10 @@ def flags_and_sizes():
 
 
 def bytes_of_managers():
-    """Every control byte, named or not, with start addresses and enable bytes of many values."""
-    for first in range(0, 256, 16):
-        rows = [(4_099 * k % 65_536, k, (0, 1, 2, 128, 255)[k % 5], k // 3 % 5) for k in range(first, first + 16)]
-        yield f"controls {first} to {first + 15}", told(room=91, rows=rows)
+    """Every control byte that has names, with start addresses and enable bytes of many values; ask_unnamed.py has the others."""
+    for first in range(0, 64, 16):
+        rows = [(4_099 * k % 65_536, NAMED[k], (0, 1, 2, 128, 255)[k % 5], k // 3 % 5) for k in range(first, first + 16)]
+        yield f"controls {NAMED[first]} to {NAMED[first + 15]}", told(room=91, rows=rows)
 
 
 # ---- counts

@@ -46,9 +46,13 @@ def most(at):
 ROOM, SHEET, TABLE, FMMUS, CHANNELS = (most(at) for at in (2, 20, 22, 24, 26))
 FMMU_RECORD = number(r"^An FMMU record is (\d+) bytes")
 CHANNEL_RECORD = number(r"^A sync manager record is (\d+) bytes")
+CHANNEL_NUMBERED = number(r"^A sync manager record is \d+ bytes, or (\d+)")
 DEVICE_RECORD = number(r"^A device record is (\d+) bytes")
-RECORDS = {letter: ("fmmus", FMMU_RECORD) for letter in "fW"} | {letter: ("channels", CHANNEL_RECORD) for letter in "yZ"}
-RECORDS["v"] = "fmmus", DEVICE_RECORD
+DEVICE_NUMBERED = number(r"^A device record is \d+ bytes, or (\d+)")
+# the part in which a letter's record stands, and how long it may be
+RECORDS = {letter: ("fmmus", (FMMU_RECORD,)) for letter in "fW"}
+RECORDS |= {letter: ("channels", (CHANNEL_RECORD, CHANNEL_NUMBERED)) for letter in "yZ"}
+RECORDS["v"] = "fmmus", (DEVICE_RECORD, DEVICE_NUMBERED)
 
 
 def between(name, request, *lines):
@@ -78,8 +82,8 @@ def longest(letter):
 
 def zeros(letter):
     """A record of zeros, where the entry point takes one."""
-    part, size = RECORDS.get(letter, ("fmmus", 0))
-    return {part: bytes(size)}
+    part, sizes = RECORDS.get(letter, ("fmmus", (0,)))
+    return {part: bytes(sizes[0])}
 
 
 def parts():
@@ -103,10 +107,16 @@ def parts():
 
 
 def records():
-    for letter, (part, size) in RECORDS.items():
-        for wrong in (0, size - 1, size + 1):
+    for letter, (part, sizes) in RECORDS.items():
+        near = {size + more for size in sizes for more in (-1, 1)}
+        for wrong in sorted(near.union((0, FMMUS)).difference(sizes)):
             yield refused(f"{letter}, a record of {wrong}", Request(letter, **{part: bytes(wrong)}).bytes() + GOOD)
     yield between("a channel of ones", Request("Z", room=8, channels=b"\xff" * CHANNEL_RECORD), "ok ffffffff76fbc303")
+    numbered = Request("Z", room=8, channels=b"\xff" * CHANNEL_NUMBERED)
+    yield between("a channel of ones, numbered", numbered, f"refused 13 {'ff' * 8}")
+    text = "start 0xffff, size 0xffff (65535), direction unnamed 255, mode unnamed 255, enabled"
+    yield between("a text of ones, numbered", numbered._replace(letter="y", room=len(text)), f"{len(text)} |{text}|")
+    yield between("a channel of zeros, numbered", Request("Z", room=8, channels=bytes(CHANNEL_NUMBERED)), f"ok {'00' * 8}")
     yield between("an entry of ones", Request("W", room=16, fmmus=b"\xff" * FMMU_RECORD), f"refused 13 {'ff' * 16}")
     yield between("no room for a text", Request("f", fmmus=bytes(FMMU_RECORD)), "refused 12 ||")
     yield between("no room for an image", Request("Z", channels=bytes(CHANNEL_RECORD)), "refused 1 -")
@@ -223,6 +233,10 @@ def by_fields():
     ones, none = Request("v", room=ROOM, fmmus=b"\xff" * DEVICE_RECORD), Request("v", room=ROOM, **zeros("v"))
     yield between("a device of ones", ones, "refused 2 0")
     yield between("a device of zeros", none, SMALLEST)
+    yield between("a device of ones, numbered", ones._replace(fmmus=b"\xff" * DEVICE_NUMBERED), "refused 2 0")
+    yield between("a device of zeros, numbered", none._replace(fmmus=bytes(DEVICE_NUMBERED)), SMALLEST)
+    one = Request("v", room=ROOM, fmmus=device(rows=[(0, 0, 0, 0)], numbers={0: (None, 255)}))
+    yield between("a device with an unnamed direction", one, "refused 5 0")
     yield between("no room for a device", none._replace(room=0), "refused 12 0")
     last = Request("v", room=16, sheet=bytes(SHEET), fmmus=device(pdos=SHEET - 5, p=1))
     yield between("a PDO at the end of the longest lent bytes", last, "16 000e0100000000000000010000000000 0")
@@ -319,10 +333,26 @@ def plans():
         yield between(f"a plan by pairs, {name}", request, line)
 
 
+def printed():
+    """What L is given: its parts lie over areas of zeros, and what is longer is cut."""
+    unused, five = on_eeprom(rows=managers((0, 0, 0, 0))), b"\0\0\0\0\x23"
+    for name, fmmus, channels, mode in (
+        ("no parts", b"", b"", "Normal"),
+        ("five bytes of an image", b"", five, "unnamed 3"),
+        ("parts at their most", bytes(FMMUS), five.ljust(CHANNELS, b"\0"), "unnamed 3"),
+        ("bytes that are cut", bytes(256).ljust(FMMUS, b"\xff"), bytes(128).ljust(CHANNELS, b"\xff"), "Normal"),
+    ):
+        plan = Request("L", sheet=unused, fmmus=fmmus, channels=channels)
+        line = f"SM0: start 0x0000, size 0x0000 (0), direction MasterRead, mode {mode}, disabled"
+        yield between(f"lockerplan, {name}", plan, "inputs (empty)", "outputs (empty)", line)
+    ones = Request("L", sheet=unused, fmmus=b"\xff" * FMMUS, channels=b"\xff" * CHANNELS)
+    yield between("lockerplan refuses over areas", ones, "refused 15")
+
+
 def streams():
     """Each stream with its name and the lines that answer it."""
     of_sheets = calls, in_portions, written_again, by_fields, of_dumps
-    groups = (cut_short, parts, records, repetitions, refusals, *of_sheets, lists, by_call, plans)
+    groups = (cut_short, parts, records, repetitions, refusals, *of_sheets, lists, by_call, plans, printed)
     for group in groups:
         yield from group()
 

@@ -1,8 +1,8 @@
-"""Making sheets, dumps and register areas for the requests."""
+"""Making sheets, dumps, records and register areas for the requests."""
 
 import dump
-from registers import FMMU, image
-from stream import DEVICE_RECORD, MANAGER, packed
+from registers import FMMU, Unnamed, image
+from stream import CHANNEL_CASES, CHANNEL_RECORD, DEVICE_CASES, DEVICE_RECORD, MANAGER, packed
 
 # document 01's sample
 SAMPLE = bytes.fromhex(
@@ -52,15 +52,28 @@ def on_eeprom(*pdos, rows=TWO, usages=(), **words):
     return sheet(0, 0, 0, rows, usages, pdos, **words)
 
 
-def device(rows=(), usages=(), pdos=0, p=0, flags=0, receive=0, send=0, n=None, f=None, rest=0):
+def channel(mode, direction, events=(0, 1, 0), start=0x1000, size=128, enable=1):
+    """A record of the letters y and Z; a mode or direction that is `Unnamed` is the case with that number."""
+    cases = [isinstance(case, Unnamed) for case in (mode, direction)]
+    record = packed([start, size, mode, direction, *events, *[0] * 6, enable, *[0] * 5], CHANNEL_RECORD)
+    return record + packed(cases, CHANNEL_CASES) if any(cases) else record
+
+
+def device(rows=(), usages=(), pdos=0, p=0, flags=0, receive=0, send=0, n=None, f=None, rest=0, numbers=None):
     """A record of the letter v; n and f are how many rows and usages there are, if not told otherwise.
 
-    Each byte of the places past the rows and the usages holds `rest`.
+    Each byte of the places past the rows and the usages holds `rest`. `numbers`, where it is given, says by a row's place which
+    number its mode and its direction have as the case with a number; None is what the control byte says.
     """
     head = [flags & 1, flags >> 1 & 1, flags >> 2 & 1, receive, send]
     counts = [len(rows) if n is None else n, len(usages) if f is None else f, pdos, p]
     places = b"".join(managers(*rows)).ljust(80, bytes([rest])) + bytes(usages).ljust(16, bytes([rest]))
-    return packed([*head, *counts], DEVICE_RECORD[:9]) + places
+    record = packed([*head, *counts], DEVICE_RECORD[:9]) + places
+    if numbers is None:
+        return record
+    given = [number for k in range(len(rows)) for number in numbers.get(k, (None, None))]
+    cases = b"".join(bytes(2) if number is None else bytes([1, number]) for number in given)
+    return record + cases.ljust(sum(DEVICE_CASES), bytes([rest]))
 
 
 # ---- dumps of the category area: little-endian

@@ -7,7 +7,7 @@ bytes are little-endian. A room is a bytearray, and is changed only where someth
 from typing import NamedTuple
 
 import writer
-from registers import demand, unnamed
+from registers import control_of, demand
 from sheet import Device, Manager, Pdo, Sheet, read_sheet
 
 FMMUS, MANAGERS, TX_PDOS, RX_PDOS = 40, 41, 50, 51  # the categories that are read; all others are stepped over
@@ -65,7 +65,7 @@ def usage_of(byte):
 def manager_of(record):
     """Start (2), length (2), control, status, enable, type: what the sheet holds of them."""
     start, control, enable, usage = little(record[:2]), record[4], record[6], record[7]
-    return Manager(start, control & 0x7F, enable & 1, usage)
+    return Manager(start, control_of(control), enable & 1, usage)
 
 
 def pdo_of(kind, record):
@@ -88,7 +88,7 @@ def read_dump(dump, head):
             pdos += [pdo_of(KINDS[kind], record) for record in records(data, pdo_size)]
     demand({4: head.flags > 7 or len(managers) > 16 or len(usages) > 16 or len(pdos) > 255})
     demand({4: any(manager.usage > 4 for manager in managers) or any(usage > 3 for usage in usages)})
-    demand({5: any(unnamed(manager.control) for manager in managers)})
+    demand({5: any(manager.control.unnamed() for manager in managers)})
     sheet = Sheet(*head, managers, usages, pdos)
     data = writer.sheet_bytes(sheet)
     assert read_sheet(data) == sheet and len(data) <= LONGEST  # it keeps every rule of a sheet

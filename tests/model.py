@@ -57,13 +57,13 @@ def byte_answer(layout, data):
 
 
 def control_answer(byte):
-    reg.demand({5: reg.unnamed(byte)})
-    return byte_answer(reg.CONTROL, bytes([byte]))
+    control = reg.control_of(byte)
+    return f"{listed(control)} {reg.control_byte(control):02x}"
 
 
 def device_text(sheet):
     flags = [sheet.flag(flag) for flag in (MAILBOX, COE, COMPLETE_ACCESS)]
-    managers = [f"{m.start}/{m.control:02x}/{m.enable}/{m.usage}" for m in sheet.managers]
+    managers = [f"{m.start}/{reg.control_byte(m.control):02x}/{m.enable}/{m.usage}" for m in sheet.managers]
     return listed(
         [*flags, sheet.receive, sheet.send, "managers", *managers, "usages", *sheet.usages, "pdos", len(sheet.pdos)]
     )
@@ -145,6 +145,12 @@ def again_answer(q):
         return "none"
     inputs, outputs, _, _ = planning.plan(q.sheet, q.table, Settings(mode=mode_of(q), pairs=q.lent()[0]))
     return listed([*inputs, *outputs])
+
+
+def program_answer(q):
+    """The parts lie over areas of zeros; what is longer is cut."""
+    areas = q.fmmus[:256].ljust(256, b"\0"), q.channels[:128].ljust(128, b"\0")
+    return "\n".join(planning.lockerplan(q.sheet, areas))
 
 
 # ---- a sheet that comes in portions
@@ -294,7 +300,7 @@ ANSWERS = {
     "T": lambda q: or_none(planning.translate(q.write, q.fmmus, q.c)),
     "C": count_answer,
     "A": both_answer,
-    "L": lambda q: "\n".join(planning.lockerplan(q.sheet)),
+    "L": program_answer,
     "B": again_answer,
     "t": calls_answer,
     "H": portions_answer,

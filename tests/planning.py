@@ -10,8 +10,8 @@ from enum import Enum
 from typing import NamedTuple
 
 from pairs import FmmuMode, above_last, entry_for, meet, parted
-from registers import CHANNEL, CONTROL, FMMU, LIMIT, MOST_BITS, Fmmu, Refused
-from registers import demand, demand_in_order, fields, image, read_channel, read_fmmu, segment_text, size_of
+from registers import CHANNEL, FMMU, LIMIT, MOST_BITS, Fmmu, Refused
+from registers import demand, demand_in_order, image, read_channel, read_fmmu, segment_text, size_of
 from sheet import COMPLETE_ACCESS, DATA_READ, DATA_WRITE, MAILBOX, MAILBOX_READ, MAILBOX_WRITE, read_sheet
 
 LAST_ADDRESS = 65_535
@@ -68,7 +68,7 @@ def entries_of(fmmus):
 def write_manager(channels, k, manager, size):
     """The image rule: sheet address and control, the size, status 0, enabled only with ENABLE and a size."""
     enable = 1 if manager.enable and size > 0 else 0
-    values = [manager.start, size, *fields(CONTROL, [manager.control]), *[0] * 6, enable, *[0] * 5]
+    values = [manager.start, size, *manager.control, *[0] * 6, enable, *[0] * 5]
     channels[8 * k : 8 * k + 8] = image(CHANNEL, values, 8)
 
 
@@ -287,18 +287,21 @@ def count(write, offset, data, table, address):
 # ---- the program
 
 
-def plan(data, table=(), settings=Settings()):
-    """The mailbox pass and the call over zero areas, from offset 0: the two segments and both areas."""
-    fmmus, channels = bytearray(256), bytearray(128)
+ZERO_AREAS = bytes(256), bytes(128)
+
+
+def plan(data, table=(), settings=Settings(), areas=ZERO_AREAS):
+    """The mailbox pass and the call over both areas, from offset 0: the two segments, and the areas that are left."""
+    fmmus, channels = map(bytearray, areas)
     configure_mailboxes(data, channels)
     inputs, outputs = configure_fmmus([0, 0], settings, data, table, fmmus, channels)
     return inputs, outputs, fmmus, channels
 
 
-def lockerplan(data):
-    """The lines that the program prints for a sheet."""
+def lockerplan(data, areas=ZERO_AREAS):
+    """The lines that the program prints for a sheet: the text of each of its n sync managers, whatever its image holds."""
     try:
-        inputs, outputs, fmmus, channels = plan(data)
+        inputs, outputs, fmmus, channels = plan(data, areas=areas)
     except Refused as refused:
         return [f"refused {refused.args[0]}"]
     lines = [f"inputs {segment_text(*inputs)}", f"outputs {segment_text(*outputs)}"]

@@ -1,6 +1,6 @@
 """Document 01's leaves: rounding, offsets, segments, the two register images and their texts.
 
-Worked out from document 01 and ETG1000.4 alone: nothing here is read from the code that it is held against.
+Worked out from document 01, ETG1000.4 and document 02's 8/13 alone: nothing here is read from the code that it is held against.
 """
 
 from typing import NamedTuple
@@ -102,10 +102,52 @@ def image(layout, values, size):
     return bits.to_bytes(size, "little")
 
 
-def unnamed(control):
-    """Whether a control byte's mode or direction has no name."""
-    mode, direction, *_ = fields(CONTROL, [control])
-    return mode not in MODES or direction not in DIRECTIONS
+# ---- modes and directions: a number that has a name, or the case with a number (8/13)
+
+
+class Unnamed(int):
+    """The number of the case with a number. It is a plain value, so any can be made up, also one that has a name."""
+
+
+def case_of(names, number):
+    """What a byte's two bits say."""
+    return number if number in names else Unnamed(number)
+
+
+def word(names, case):
+    return f"unnamed {case}" if isinstance(case, Unnamed) else names[case]
+
+
+def wrong_number(names, case):
+    """13: an unnamed number that is named or above 3."""
+    return isinstance(case, Unnamed) and (case in names or case > 3)
+
+
+class Control(NamedTuple):
+    mode: int
+    direction: int
+    ecat_event: int
+    dls_event: int
+    watchdog: int
+
+    def unnamed(self):
+        """5: the mode or the direction is the case with a number, whatever the number."""
+        return isinstance(self.mode, Unnamed) or isinstance(self.direction, Unnamed)
+
+
+def control_of(byte):
+    """Bit 7 is dropped."""
+    mode, direction, *events = fields(CONTROL, [byte])
+    return Control(case_of(MODES, mode), case_of(DIRECTIONS, direction), *events)
+
+
+def control_byte(control):
+    """By value, so there is no refusal: of an unnamed number the low two bits."""
+    mode, direction, *events = control
+    return image(CONTROL, [mode % 4, direction % 4, *events], 1)[0]
+
+
+# ---- the two records
 
 
 class Fmmu(NamedTuple):
@@ -155,7 +197,7 @@ class Channel(NamedTuple):
     def text(self):
         return (
             f"start 0x{self.physical_start:04x}, size 0x{self.length:04x} ({self.length}), "
-            f"direction {DIRECTIONS[self.direction]}, mode {MODES[self.mode]}, "
+            f"direction {word(DIRECTIONS, self.direction)}, mode {word(MODES, self.mode)}, "
             f"{'enabled' if self.enable else 'disabled'}"
         )
 
@@ -167,8 +209,8 @@ def read_fmmu(data):
 
 def read_channel(data):
     demand({1: len(data) != 8})
-    demand({5: unnamed(data[4])})
-    return Channel(*fields(CHANNEL, data))
+    record = Channel(*fields(CHANNEL, data))
+    return record._replace(mode=case_of(MODES, record.mode), direction=case_of(DIRECTIONS, record.direction))
 
 
 def write_fmmu(record, room):
@@ -177,8 +219,10 @@ def write_fmmu(record, room):
 
 
 def write_channel(record, room):
-    demand({1: len(room) != 8})
+    wrong = wrong_number(MODES, record.mode) or wrong_number(DIRECTIONS, record.direction)
+    demand({1: len(room) != 8, 13: wrong})
     room[:] = image(CHANNEL, record, 8)
+    assert read_channel(room) == record  # a record that writing accepts comes back
 
 
 def write_text(text, room):

@@ -19,6 +19,7 @@ import ask_portions
 import ask_registers
 import ask_sheets
 import ask_sides
+import ask_unnamed
 import ask_writer
 import model
 from ask_call import asked, front
@@ -108,7 +109,7 @@ def others():
 def ask():
     """Each request with its name, in the order of the stream."""
     sheets, calls = (ask_sheets, ask_portions, ask_writer, ask_dump), (ask_call, ask_both, ask_old, ask_pairs, ask_eighteen)
-    files = (ask_registers, *sheets, *calls, ask_sides)
+    files = (ask_registers, *sheets, *calls, ask_sides, ask_unnamed)
     for part in (*(file.ask for file in files), lessons, programs, crate, others):
         yield from part()
 

@@ -5,7 +5,7 @@ Worked out from document 01 alone: nothing here is read from the code that it is
 
 from typing import NamedTuple
 
-from registers import demand, unnamed
+from registers import Control, control_byte, control_of, demand
 
 MAILBOX, COE, COMPLETE_ACCESS = 1, 2, 4  # the flags
 MAILBOX_WRITE, MAILBOX_READ, DATA_WRITE, DATA_READ = 1, 2, 3, 4  # what a sync manager is used for
@@ -13,9 +13,13 @@ MAILBOX_WRITE, MAILBOX_READ, DATA_WRITE, DATA_READ = 1, 2, 3, 4  # what a sync m
 
 class Manager(NamedTuple):
     start: int
-    control: int
+    control: Control
     enable: int
     usage: int
+
+    def row(self):
+        """The same with its control as the byte."""
+        return self.start, control_byte(self.control), self.enable, self.usage
 
 
 class Pdo(NamedTuple):
@@ -81,7 +85,7 @@ class Front:
 def take_manager(front):
     start, control, enable, usage = front.number(2), front.number(), front.number(), front.number()
     demand({4: usage > 4})
-    return Manager(start, control & 0x7F, enable & 1, usage)
+    return Manager(start, control_of(control), enable & 1, usage)
 
 
 def take_usage(front):
@@ -114,5 +118,5 @@ def read_sheet(data):
     demand({2: len(data) < 2 or len(data) != follow + 2 or not 9 <= follow <= 16_384})
     demand({3: data[2] != 1})
     sheet = take_parts(data)
-    demand({5: any(unnamed(manager.control) for manager in sheet.managers)})
+    demand({5: any(manager.control.unnamed() for manager in sheet.managers)})
     return sheet

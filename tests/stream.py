@@ -2,15 +2,17 @@
 
 from typing import NamedTuple
 
-from registers import CONTROL, DIRECTIONS, MODES, Channel, Fmmu, fields, image
+from registers import Channel, Fmmu, Unnamed, control_of
 from sheet import COE, COMPLETE_ACCESS, MAILBOX, Device, Manager
 
 HEAD = [1, 1, 2, 4, 4, 4, 4, 2, 2, 2, 2]  # bytes of each number of a request's head
 MOST = [20_480, 20_480, 256, 512, 512]  # room, bytes of the sheet, records of the table, bytes of the two parts
 FMMU_RECORD = [4, 2, 1, 1, 2, 1, 1, 1, 1]
 CHANNEL_RECORD = [2, 2] + [1] * 17
+CHANNEL_CASES = [1, 1]  # behind it, if at all: whether the mode is the case with a number, whether the direction is
 MANAGER = [2, 1, 1, 1]  # start address, control, enable, usage
 DEVICE_RECORD = [1, 1, 1, 2, 2, 8, 8, 8, 1] + MANAGER * 16 + [1] * 16
+DEVICE_CASES = [1, 1, 1, 1] * 16  # behind it, if at all: of each sync manager both of these, each with its number behind it
 
 AFTER_INPUTS, KEEP, BY_PAIRS = 1, 2, 4  # what byte 1 of the letters p, M and B is a sum of
 
@@ -93,6 +95,13 @@ def calls(data):
         data = data[4 + size :]
 
 
+def record_and_cases(data, record, cases):
+    """The numbers of a record, and those of what may stand behind it, which else are 0."""
+    if len(data) not in (sum(record), sum(record + cases)):
+        raise BadRequest
+    return numbers(data, record), numbers(data[sum(record) :], cases)
+
+
 def fmmu_record(data):
     if len(data) != sum(FMMU_RECORD):
         raise BadRequest
@@ -101,28 +110,31 @@ def fmmu_record(data):
 
 
 def channel_record(data):
-    if len(data) != sum(CHANNEL_RECORD):
-        raise BadRequest
-    record = Channel(*numbers(data, CHANNEL_RECORD))
-    start, length, mode, *flags = record
+    values, (mode_unnamed, direction_unnamed) = record_and_cases(data, CHANNEL_RECORD, CHANNEL_CASES)
+    record = Channel(*values)
+    start, length, mode, direction, *flags = record
+    mode = Unnamed(mode) if mode_unnamed else 2 if mode else 0
+    direction = Unnamed(direction) if direction_unnamed else int(direction > 0)
     flags = [int(flag > 0) for flag in flags]
-    return Channel(start, length, 2 if mode else 0, *flags)._replace(buffer_state=record.buffer_state % 4)
+    return Channel(start, length, mode, direction, *flags)._replace(buffer_state=record.buffer_state % 4)
 
 
-def named(control):
-    """A control byte in which a mode or direction without a name is 0, and bit 7 too."""
-    mode, direction, *events = fields(CONTROL, [control])
-    known = [mode if mode in MODES else 0, direction if direction in DIRECTIONS else 0]
-    return image(CONTROL, [*known, *events], 1)[0]
+def control_with(byte, mode_unnamed, mode, direction_unnamed, direction):
+    """What a control byte says, but where a number is given."""
+    control = control_of(byte)
+    if mode_unnamed:
+        control = control._replace(mode=Unnamed(mode))
+    if direction_unnamed:
+        control = control._replace(direction=Unnamed(direction))
+    return control
 
 
 def device_record(data):
-    if len(data) != sum(DEVICE_RECORD):
-        raise BadRequest
-    mailbox, coe, complete, receive, send, n, f, pdos, p, *places = numbers(data, DEVICE_RECORD)
+    values, cases = record_and_cases(data, DEVICE_RECORD, DEVICE_CASES)
+    mailbox, coe, complete, receive, send, n, f, pdos, p, *places = values
     flags = sum(flag for flag, told in ((MAILBOX, mailbox), (COE, coe), (COMPLETE_ACCESS, complete)) if told)
     managers = []
     for k in range(0, 64, 4):
         start, control, enable, usage = places[k : k + 4]
-        managers.append(Manager(start, named(control), int(enable > 0), usage))
+        managers.append(Manager(start, control_with(control, *cases[k : k + 4]), int(enable > 0), usage))
     return Device(flags, receive, send, n, f, pdos, p, managers, places[64:])

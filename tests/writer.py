@@ -1,4 +1,4 @@
-"""Document 02's 2/13: device data in, sheet out, into room that is lent.
+"""Document 02's 2/13, with 8/13: device data in, sheet out, into room that is lent.
 
 Worked out from documents 01 and 02: nothing here is read from the code that it is held against. They don't say what the length
 of data that breaks a rule is; that is a decision (docs/DECISIONS.md). A room is a bytearray, and is changed only where a sheet
@@ -24,7 +24,7 @@ def pdo_bytes(pdo):
 def sheet_bytes(sheet):
     counts = [len(part) for part in (sheet.managers, sheet.usages, sheet.pdos)]
     head = packed([1, sheet.flags, sheet.receive, sheet.send, *counts], [1, 1, 2, 2, 1, 1, 1])
-    managers = b"".join(packed(manager, MANAGER) for manager in sheet.managers)
+    managers = b"".join(packed(manager.row(), MANAGER) for manager in sheet.managers)
     body = head + managers + bytes(sheet.usages) + b"".join(map(pdo_bytes, sheet.pdos))
     return packed([len(body)], [2]) + body
 
@@ -63,9 +63,10 @@ def sheet_of(device, lent):
     demand({4: any(manager.usage > 4 for manager in managers) or any(usage > 3 for usage in usages)})
     front = Front(lent[device.pdos :])
     pdos = [take_pdo(front) for _ in range(device.p)]
+    demand({5: any(manager.control.unnamed() for manager in managers)})
     return Sheet(device.flags, device.receive, device.send, managers, usages, pdos)
 
 
 def write(device, lent, room):
-    """The length of the sheet that is written; refused with 2, 4 and then 12."""
+    """The length of the sheet that is written; refused with 2, 4, 5 and then 12."""
     return write_sheet(sheet_of(device, lent), room)
