@@ -19,10 +19,10 @@ getD-any (x ∷ l) zero d e h = refl
 getD-any (x ∷ l) (suc k) d e h = getD-any l k d e (le-of-suc-le-suc h)
 
 -- as much of a list as it has
-pub take-least : (n : ℕ) (l : List ℕ) → take (min n (length l)) l ≡ take n l
+pub take-least : {A : Type 0} (n : ℕ) (l : List A) → take (min n (length l)) l ≡ take n l
 take-least zero l = rw zero-min refl
 take-least (suc n) [] = take-nil (min (suc n) 0)
-take-least (suc n) (x ∷ l) = rw suc-min-suc (ap (λ (t : List ℕ). x ∷ t) (take-least n l))
+take-least {A} (suc n) (x ∷ l) = rw suc-min-suc (ap (λ (t : List A). x ∷ t) (take-least n l))
 
 -- what stands from a place on, cut at the end
 pub behind-is : (at : ℕ) (l : List ℕ) {k : ℕ} → k ≡ min at (length l) → take (length l - k) (drop k l) ≡ drop at l

@@ -97,20 +97,31 @@ fn put_sheet(d: Device, records: &[u8], total: u16, room: &mut [u8])
     area::store(records, room, place + d.f);
 }
 
-// Whether a sync manager's usage has no name, of the first n.
-fn some_manager_unnamed(list: [SyncManager; 16], n: usize) -> bool
-    requires { ⌜ n ≤ 16 ⌝ }
-    ensures { λ r. ⌜ r ≡ someOf (λ m. ltb 4 (m .«usage_type»)) (take n list) ⌝ }
+// What 4 and 5 ask of sync managers: whether a usage has no name, and whether a mode or a direction is unnamed.
+struct Judged {
+    usage_unnamed: bool,
+    control_unnamed: bool,
+}
+
+// Of the first n, both in one go.
+fn judge(list: [SyncManager; 16], n: usize) -> Judged
+    ensures { λ r. ⌜ (r .«usage_unnamed» ≡ someOf (λ m. ltb 4 (m .«usage_type»)) (take n list)) × (r .«control_unnamed» ≡ someUnnamed (take n list)) ⌝ }
 {
+    let count = wire::least(n, 16);
+    let mut usage_unnamed = false;
+    let mut control_unnamed = false;
     let mut k = 0;
-    while k < n {
+    while k < count {
         let m = list[k];
-        if 4 < m.usage_type {
-            return true;
-        }
+        let control = m.control;
+        usage_unnamed = usage_unnamed | (4 < m.usage_type);
+        control_unnamed = control_unnamed | control.unnamed();
         k += 1;
     }
-    false
+    Judged {
+        usage_unnamed,
+        control_unnamed,
+    }
 }
 
 // Whether an FMMU's usage has no name, of the first f.
@@ -121,23 +132,6 @@ fn some_usage_unnamed(list: [u8; 16], f: usize) -> bool
     let mut k = 0;
     while k < f {
         if 3 < list[k] {
-            return true;
-        }
-        k += 1;
-    }
-    false
-}
-
-// Whether a sync manager has an unnamed mode or direction, of the first n.
-fn some_control_unnamed(list: [SyncManager; 16], n: usize) -> bool
-    requires { ⌜ n ≤ 16 ⌝ }
-    ensures { λ r. ⌜ r ≡ someUnnamed (take n list) ⌝ }
-{
-    let mut k = 0;
-    while k < n {
-        let m = list[k];
-        let control = m.control;
-        if control.unnamed() {
             return true;
         }
         k += 1;
@@ -159,11 +153,11 @@ fn length_of(n: usize, f: usize, long: usize) -> u16
     wire::least(9 + 5 * n + f + long, 16385) as u16
 }
 
-// 4: whether another rule of the sheet is broken.
-fn rule_broken(d: Device, records: &[u8]) -> bool
+// 4: whether another rule of the sheet is broken, the sync managers' usages having been looked at.
+fn rule_broken(d: Device, unnamed: bool, records: &[u8]) -> bool
+    requires { ⌜ unnamed ≡ someOf (λ m. ltb 4 (m .«usage_type»)) (take (d .n) (d .managers)) ⌝ }
     ensures { λ r. ⌜ r ≡ ruleBroken d (now (records .entry)) ⌝ }
 {
-    let managers = d.managers;
     let usages = d.usages;
     if 16 < d.n {
         return true;
@@ -171,7 +165,7 @@ fn rule_broken(d: Device, records: &[u8]) -> bool
     if 16 < d.f {
         return true;
     }
-    if some_manager_unnamed(managers, d.n) {
+    if unnamed {
         return true;
     }
     if some_usage_unnamed(usages, d.f) {
@@ -200,14 +194,15 @@ pub fn write(device: Device, bytes: &[u8], room: &mut [u8]) -> Written
     }
     let records = wire::front(behind, long);
     let total = follow + 2;
-    // both are asked before one is given
-    let broken = rule_broken(device, records);
+    let managers = device.managers;
+    // all are asked before one is given
+    let judged = judge(managers, device.n);
+    let broken = rule_broken(device, judged.usage_unnamed, records);
     let short = too_short(room, total);
     if broken {
         return Written::Refused(4);
     }
-    let managers = device.managers;
-    if some_control_unnamed(managers, device.n) {
+    if judged.control_unnamed {
         return Written::Refused(5);
     }
     if short {

@@ -9,25 +9,22 @@ use Rattle.writer.proofs.rule_broken.Statement.{statement}
 use Rattle.writer.proofs.rule_broken.Tie as tie
 
 returns : tie.Need-returns
-returns c = let a = c .before .before .before .before .before .args in sym (many-managers (a .d) (now (a .records)) (c .if1 .taken))
+returns c = let a = c .before .before .before .before .args in sym (many-managers (a .d) (now (a .records)) (c .if1 .taken))
 
 returns-2 : tie.Need-returns-2
-returns-2 c = let a = c .before .before .before .before .before .before .before .args in sym (many-usages (a .d) (now (a .records)) (c .if2 .taken))
-
-some-manager-unnamed-requires : tie.Need-some-manager-unnamed-requires
-some-manager-unnamed-requires c κs = search needs
+returns-2 c = let a = c .before .before .before .before .before .before .args in sym (many-usages (a .d) (now (a .records)) (c .if2 .taken))
 
 returns-3 : tie.Need-returns-3
 returns-3 c =
-    let a = c .before .before .before .before .before .before .before .before .before .args in
-    sym (unnamed-manager (a .d) (now (a .records)) (sym (c .before .some-manager-unnamed .ensures) ∙ c .if3 .taken))
+    let s = c .before .before .before .before .before .before .before in
+    sym (unnamed-manager (s .args .d) (now (s .args .records)) (sym (s .pre) ∙ c .if3 .taken))
 
 some-usage-unnamed-requires : tie.Need-some-usage-unnamed-requires
 some-usage-unnamed-requires c κs = search needs
 
 returns-4 : tie.Need-returns-4
 returns-4 c =
-    let a = c .before .before .before .before .before .before .before .before .before .before .before .args in
+    let a = c .before .before .before .before .before .before .before .before .before .args in
     sym (unnamed-usage (a .d) (now (a .records)) (sym (c .before .some-usage-unnamed .ensures) ∙ c .if4 .taken))
 
 are-pdos-requires : tie.Need-are-pdos-requires
@@ -37,12 +34,12 @@ returns-5 : tie.Need-returns-5
 returns-5 c =
     let four = c .before in
     let three = four .before .before in
-    let two = three .before .before in
+    let two = three .before in
     let one = two .before .before in
-    let a = one .before .before .before .before .before .args in
-    let m = sym (three .before .some-manager-unnamed .ensures) ∙ three .if3 .left in
+    let s = one .before .before .before .before in
+    let m = sym (s .pre) ∙ three .if3 .left in
     let u = sym (four .before .some-usage-unnamed .ensures) ∙ four .if4 .left in
-    ap not (c .are-pdos .ensures) ∙ sym (only-records (a .d) (now (a .records)) (one .if1 .left) (two .if2 .left) m u)
+    ap not (c .are-pdos .ensures) ∙ sym (only-records (s .args .d) (now (s .args .records)) (one .if1 .left) (two .if2 .left) m u)
 
 pub rule-broken-spec : {M : Type 1} → statement M
 rule-broken-spec =
@@ -50,7 +47,6 @@ rule-broken-spec =
     (tie.spec
     returns
     returns-2
-    some-manager-unnamed-requires
     returns-3
     some-usage-unnamed-requires
     returns-4

@@ -72,9 +72,16 @@ module _ (c : tie.After-front) where
       let b = l .before .before in
       records-are device lent (b .behind .ensures) (l .before .pdos-end .ensures .0) (l .length-of .ensures) (c .front .ensures)
 
--- whether a rule is broken, of the records themselves
-rule : (c : tie.After-rule-broken) {x : Bool} → c .rule-broken .result ≡ x → ruleBroken (device (c .before)) (recordsOf (device (c .before)) (lent (c .before))) ≡ x
-rule c e = ap (ruleBroken (device (c .before))) (sym (records (c .before))) ∙ sym (c .rule-broken .ensures) ∙ e
+-- the sync managers were looked at in between; whether a rule is broken, of the records themselves
+abbrev cut : tie.After-rule-broken → tie.After-front
+cut c = c .before .before .before
+
+rule : (c : tie.After-rule-broken) {x : Bool} → c .rule-broken .result ≡ x → ruleBroken (device (cut c)) (recordsOf (device (cut c)) (lent (cut c))) ≡ x
+rule c e = ap (ruleBroken (device (cut c))) (sym (records (cut c))) ∙ sym (c .rule-broken .ensures) ∙ e
+
+-- and whether a mode or a direction is unnamed
+nameless : (c : tie.After-rule-broken) {x : Bool} → c .before .judge .result .«control_unnamed» ≡ x → someUnnamed (take (device (cut c) .n) (device (cut c) .managers)) ≡ x
+nameless c e = sym (c .before .judge .ensures .1) ∙ e
 
 behind-requires : tie.Need-behind-requires
 behind-requires c κs = search needs
@@ -99,8 +106,11 @@ front-requires c κs = search needs
 add-total : tie.Need-add-total
 add-total c = search needs
 
+judge-requires : tie.Need-judge-requires
+judge-requires c κs = search needs
+
 rule-broken-requires : tie.Need-rule-broken-requires
-rule-broken-requires c κs = search needs
+rule-broken-requires c κs = c .judge .ensures .0
 
 too-short-requires : tie.Need-too-short-requires
 too-short-requires c κs = search needs
@@ -111,34 +121,18 @@ same-length c = search needs
 returns-2 : tie.Need-returns-2
 returns-2 c =
     let r = c .before .before .before in
-    let f = r .before in
+    let f = cut r in
     refused-four (device f) (lent f) (now (begun f .before .args .room)) (short f) (rule r (c .if2 .taken))
-
--- where 4 isn't given: what that leaves known, and how the room was
-module _ (e : tie.Else2) where
-  abbrev cut : tie.After-front
-  cut = e .before .before .before .before
-
-  whole : ruleBroken (device cut) (recordsOf (device cut) (lent cut)) ≡ false
-  whole = rule (e .before .before .before) (e .if2 .left)
-
-  abbrev room : List ℕ
-  room = now (begun cut .before .args .room)
-
-some-control-unnamed-requires : tie.Need-some-control-unnamed-requires
-some-control-unnamed-requires c κs = let e = c .before in kept (device (cut e)) (recordsOf (device (cut e)) (lent (cut e))) (whole e) .few-managers
-
--- 5 where it was asked
-nameless : (c : tie.After-some-control-unnamed) {x : Bool} → c .some-control-unnamed .result ≡ x → someUnnamed (take (device (cut (c .before .before)) .n) (device (cut (c .before .before)) .managers)) ≡ x
-nameless c h = sym (c .some-control-unnamed .ensures) ∙ h
 
 same-length-2 : tie.Need-same-length-2
 same-length-2 c = search needs
 
 returns-3 : tie.Need-returns-3
 returns-3 c =
-    let e = c .before .before .before in
-    refused-five (device (cut e)) (lent (cut e)) (room e) (short (cut e)) (whole e) (nameless (c .before) (c .if3 .taken))
+    let e = c .before in
+    let r = e .before .before .before in
+    let f = cut r in
+    refused-five (device f) (lent f) (now (begun f .before .args .room)) (short f) (rule r (e .if2 .left)) (nameless r (c .if3 .taken))
 
 same-length-3 : tie.Need-same-length-3
 same-length-3 c = search needs
@@ -146,18 +140,21 @@ same-length-3 c = search needs
 returns-4 : tie.Need-returns-4
 returns-4 c =
     let u = c .before in
-    let e = u .before .before .before in
-    refused-twelve (device (cut e)) (lent (cut e)) (room e) (in-range (begun (cut e))) (short (cut e)) (whole e) (nameless (u .before) (u .if3 .left)) (total (cut e))
+    let e = u .before in
+    let r = e .before .before .before in
+    let f = cut r in
+    refused-twelve (device f) (lent f) (now (begun f .before .args .room)) (in-range (begun f)) (short f) (rule r (e .if2 .left)) (nameless r (u .if3 .left)) (total f)
     (sym (e .before .too-short .ensures) ∙ c .if4 .taken)
 
 put-sheet-requires : tie.Need-put-sheet-requires
 put-sheet-requires c κs =
-    let e = c .before .before .before .before .before in
-    let f = cut e in
-    let k = kept (device f) (recordsOf (device f) (lent f)) (whole e) in
+    let e = c .before .before .before in
+    let r = e .before .before .before in
+    let f = cut r in
+    let k = kept (device f) (recordsOf (device f) (lent f)) (rule r (e .if2 .left)) in
     let l = ap length (records f) ∙ records-long (device f) (lent f) (k .whole) in
     let t = total f in
-    let h = ltb-false (length (room e)) (follow f + 2) (sym (e .before .too-short .ensures) ∙ c .before .if4 .left) in
+    let h = ltb-false (length (now (begun f .before .args .room))) (follow f + 2) (sym (e .before .too-short .ensures) ∙ c .before .if4 .left) in
     (k .few-managers, k .few-usages, omega arith, omega arith)
 
 cast-t19 : tie.Need-cast-t19
@@ -171,11 +168,13 @@ returns-5 c =
     let put = c .before .before in
     let four = put .before .before in
     let u = four .before in
-    let e = u .before .before .before in
-    let f = cut e in
-    written-whole (device f) (lent f) (room e) (in-range (begun f)) (short f) (whole e) (nameless (u .before) (u .if3 .left)) (total f)
+    let e = u .before in
+    let r = e .before .before .before in
+    let f = cut r in
+    let room = now (begun f .before .args .room) in
+    written-whole (device f) (lent f) room (in-range (begun f)) (short f) (rule r (e .if2 .left)) (nameless r (u .if3 .left)) (total f)
     (sym (e .before .too-short .ensures) ∙ four .if4 .left)
-    (put .put-sheet .ensures ∙ ap (λ (l : List ℕ). over (sheetLaid (device f) (follow f + 2) l) (room e)) (records f))
+    (put .put-sheet .ensures ∙ ap (λ (l : List ℕ). over (sheetLaid (device f) (follow f + 2) l) room) (records f))
 
 pub write-spec : {M : Type 1} → statement M
 write-spec =
@@ -187,11 +186,11 @@ write-spec =
     returns
     front-requires
     add-total
+    judge-requires
     rule-broken-requires
     too-short-requires
     same-length
     returns-2
-    some-control-unnamed-requires
     same-length-2
     returns-3
     same-length-3
