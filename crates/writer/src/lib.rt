@@ -200,7 +200,7 @@ pub fn write(device: Device, bytes: &[u8], room: &mut [u8]) -> Written
     }
     let records = wire::front(behind, long);
     let total = follow + 2;
-    // both are asked before one is given
+    // 4 and 12 are both asked here, and the tests below give the numbers in their order
     let broken = rule_broken(device, records);
     let short = too_short(room, total);
     if broken {
