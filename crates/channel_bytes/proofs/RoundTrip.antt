@@ -116,7 +116,7 @@ enable-read-write e =
       «repeat_ack» = flag-back (e .«repeat_ack») (h .1 .0) i;
     }
 
--- nor has a control whose mode and direction have names
+-- a mode and a direction with a name have no wrong number, nor has a control of such
 mode-numbered : (m : OperationMode) → isUnnamed (modeUnnamed m) ≡ false → wrongNumber modeNamed (modeUnnamed m) ≡ false
 mode-numbered mode.Normal h = refl
 mode-numbered mode.Mailbox h = refl

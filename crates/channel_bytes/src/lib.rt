@@ -70,7 +70,7 @@ fn wrong_number(number: u8, one: u8, other: u8) -> bool
 }
 
 impl OperationMode {
-    // The number that stands for it; in two choices, through which a byte that is read and written again stays a mask.
+    // The number that stands for it; in two choices, so that the compiler makes a mask of reading a byte and writing it again.
     pub fn number(self) -> u8
         ensures { λ r. ⌜ r ≡ modeNumber self ⌝ }
     {

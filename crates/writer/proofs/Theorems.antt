@@ -134,7 +134,7 @@ module _ (c : Call) where
   refused-with : (n : ℕ) → writing (c .device) (c .bytes) (c .room) ≡ refused n → c .answer ≡ Refused n
   refused-with n o = sym (written-determined (c .answer)) ∙ ap written-back (c .promise .says ∙ o)
 
-  -- not neither: one of them was given
+  -- where not all three fail to hold, one of them was given
   given-by :
       (x y z : Bool) → long ≡ x → broken ≡ y → nameless ≡ z → (long ≡ false → broken ≡ false → nameless ≡ false → ⊥)
       → (c .answer ≡ Refused 2) ⊎ ((c .answer ≡ Refused 4) ⊎ (c .answer ≡ Refused 5))

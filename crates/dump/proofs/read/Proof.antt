@@ -170,7 +170,7 @@ controls c e =
     ∙ sym (c .some-control-unnamed .ensures)
     ∙ e
 
--- where neither is given the data has a sheet
+-- where neither 4 nor 5 holds the data has a sheet
 kept : (c : tie.After-behind5) → Broken (head c) (dump c) (room c) ≡ false → Unnamed (head c) (dump c) (room c) ≡ false → Keeps (dumpData (head c) (categories (dump c)))
 kept c b n = let r = in-range (c .before .before .before .before .before .before .before .before) in dump-keeps (head c) (dump c) (r .receive) (r .send) (r .bytes) b n
 
