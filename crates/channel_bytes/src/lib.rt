@@ -94,7 +94,7 @@ impl OperationMode {
     }
 
     // Whether it is the case with a number.
-    fn unnamed(self) -> bool
+    fn is_unnamed(self) -> bool
         ensures { λ r. ⌜ r ≡ isUnnamed (modeUnnamed self) ⌝ }
     {
         match self {
@@ -141,7 +141,7 @@ impl Direction {
     }
 
     // Whether it is the case with a number.
-    fn unnamed(self) -> bool
+    fn is_unnamed(self) -> bool
         ensures { λ r. ⌜ r ≡ isUnnamed (directionUnnamed self) ⌝ }
     {
         match self {
@@ -234,10 +234,10 @@ impl Control {
     {
         let mode = self.operation_mode;
         let direction = self.direction;
-        if mode.unnamed() {
+        if mode.is_unnamed() {
             return true;
         }
-        direction.unnamed()
+        direction.is_unnamed()
     }
 
     // 13: whether an unnamed number is one that is named, or above 3.

@@ -66,8 +66,8 @@ module _ (h : Head) (dump room : List ℕ) where
   abbrev pub Broken : Bool
   Broken = ruleBroken (h .flags) (map managerFor (managerRecords cs)) (usagesFor cs) (length (pdosIn cs))
 
-  abbrev pub Unnamed : Bool
-  Unnamed = someUnnamed (map managerFor (managerRecords cs))
+  abbrev pub Nameless : Bool
+  Nameless = someUnnamed (map managerFor (managerRecords cs))
 
   abbrev pub Short : Bool
   Short = ltb (length room) (length (pdoRecords x))
@@ -95,12 +95,12 @@ module _ (h : Head) (dump room : List ℕ) where
   reads-4 e a b c = refuses e (rw (a, b, c))
 
   pub reads-5 :
-      {r : SheetRead} → r ≡ sheetReadOf (refused 5) → unended dump ≡ false → notRecords cs ≡ false → Broken ≡ false → Unnamed ≡ true → ReadsDump h dump room r room
+      {r : SheetRead} → r ≡ sheetReadOf (refused 5) → unended dump ≡ false → notRecords cs ≡ false → Broken ≡ false → Nameless ≡ true → ReadsDump h dump room r room
   unfolding readDump
   reads-5 e a b c d = refuses e (rw (a, b, c, d))
 
   pub reads-12 :
-      {r : SheetRead} → r ≡ sheetReadOf (refused 12) → unended dump ≡ false → notRecords cs ≡ false → Broken ≡ false → Unnamed ≡ false → Short ≡ true
+      {r : SheetRead} → r ≡ sheetReadOf (refused 12) → unended dump ≡ false → notRecords cs ≡ false → Broken ≡ false → Nameless ≡ false → Short ≡ true
       → ReadsDump h dump room r room
   unfolding readDump
   reads-12 e a b c d f = refuses e (rw (a, b, c, d, f))
@@ -111,15 +111,15 @@ module _ (h : Head) (dump room : List ℕ) where
     pub ended : unended dump ≡ false
     pub whole : notRecords cs ≡ false
     pub rule : Broken ≡ false
-    pub named : Unnamed ≡ false
+    pub named : Nameless ≡ false
     pub fits : Short ≡ false
 
   pub accepts : {y : Data} → readDump h dump room ≡ accepted y → Accepts y
   unfolding readDump
-  accepts {y} e = go (unended dump) (notRecords cs) Broken (Unnamed) Short refl refl refl refl refl e
+  accepts {y} e = go (unended dump) (notRecords cs) Broken Nameless Short refl refl refl refl refl e
     where
       go :
-          (a b c d s : Bool) → unended dump ≡ a → notRecords cs ≡ b → Broken ≡ c → Unnamed ≡ d → Short ≡ s
+          (a b c d s : Bool) → unended dump ≡ a → notRecords cs ≡ b → Broken ≡ c → Nameless ≡ d → Short ≡ s
           → cond a (refused 16) (cond b (refused 17) (cond c (refused 4) (cond d (refused 5) (cond s (refused 12) (accepted x))))) ≡ accepted y
           → Accepts y
       go true b c d s p q r t u z = absurd (never z)
@@ -136,7 +136,7 @@ module _ (h : Head) (dump room : List ℕ) where
 
   -- none of them: the data, and its records in the room
   pub reads-data :
-      {d : Device} {after : List ℕ} → unended dump ≡ false → notRecords cs ≡ false → Broken ≡ false → Unnamed ≡ false → Short ≡ false → Keeps x
+      {d : Device} {after : List ℕ} → unended dump ≡ false → notRecords cs ≡ false → Broken ≡ false → Nameless ≡ false → Short ≡ false → Keeps x
       → d ≡ deviceWith h (map managerFor (managerRecords cs)) (usagesFor cs) (length (pdosIn cs)) → after ≡ over (flat (map pdoBytes (pdosIn cs))) room
       → ReadsDump h dump room (record { answer = Accepted; device = d }) after
   unfolding readDump dumpData

@@ -28,7 +28,7 @@ use Rattle.dump.specs.Records.{managerFor, pdosIn, notRecords}
 use Rattle.dump.specs.Dump.{managerRecords, usagesFor, dumpData, pdoRecords, deviceAfter, recordsAfter, readDump, ReadsDump, sheeting, WritesSheet}
 use Rattle.dump.proofs.Kept.{records-long, keeps-rule, dump-keeps}
 use Rattle.dump.proofs.Held.{data-back, not-refused}
-use Rattle.dump.proofs.Reading.{Broken, Unnamed, Short, Accepts, accepts}
+use Rattle.dump.proofs.Reading.{Broken, Nameless, Short, Accepts, accepts}
 
 -- zeros are bytes
 pub zeros : (n : ℕ) → Bytes (replicate n 0)
@@ -86,7 +86,7 @@ module _ (h : Head) (dump own room : List ℕ) where
   -- what reading refuses is refused with that number
   refused-too : {n : ℕ} → length own ≡ 1785 → readDump h dump own ≡ refused n → sheeting h dump room ≡ refused n
   unfolding readDump sheeting
-  refused-too {n} long e = go (unended dump) (notRecords cs) (Broken h dump own) (Unnamed h dump own) (Short h dump own) (roomy long) e
+  refused-too {n} long e = go (unended dump) (notRecords cs) (Broken h dump own) (Nameless h dump own) (Short h dump own) (roomy long) e
     where
       with : {m : ℕ} → _≡_ {A = Outcome Data} (refused m) (refused n) → _≡_ {A = Outcome ℕ} (refused m) (refused n)
       with {m} z = let k : m ≡ n = cc in ap refused k

@@ -81,7 +81,7 @@ outcomeText n (accepted b) = bayText n (b .inputs) (b .outputs) (b .left .fmmus)
 unfoldable pub reportText : List ℕ → Areas → List ℕ
 reportText sheet a = outcomeText (managerCount sheet) (planBay sheet a)
 
--- the same with the n lines one by one: that of k is `SMk: ` and the text of what the k-th image says, whatever the areas held before
+-- the same with the n lines one by one, each spelled out: that of k is `SMk: ` and the text of what the k-th image says, whatever the areas held before
 abbrev pub channelLineOf : ℕ → List ℕ → List ℕ
 channelLineOf k e = line (numbered (83 ∷ 77 ∷ []) k) (channelText (channelOf e))
 

@@ -26,7 +26,7 @@ use Rattle.dump.specs.Looked.{pdosFrom}
 use Rattle.dump.proofs.Placed.{pdos-counted}
 use Rattle.dump.proofs.Managers.{managers-many}
 use Rattle.dump.proofs.Kept.{keeps-rule, dump-keeps}
-use Rattle.dump.proofs.Reading.{Found, content-is, not-records-is, pdos-are, Broken, Unnamed, short-is, reads-16, reads-17, reads-4, reads-5, reads-12, reads-data}
+use Rattle.dump.proofs.Reading.{Found, content-is, not-records-is, pdos-are, Broken, Nameless, short-is, reads-16, reads-17, reads-4, reads-5, reads-12, reads-data}
 use Rattle.dump.proofs.read.Statement.{statement}
 use Rattle.dump.proofs.read.Tie as tie
 
@@ -171,7 +171,7 @@ controls c e =
     ∙ e
 
 -- where neither 4 nor 5 holds the data has a sheet
-kept : (c : tie.After-behind5) → Broken (head c) (dump c) (room c) ≡ false → Unnamed (head c) (dump c) (room c) ≡ false → Keeps (dumpData (head c) (categories (dump c)))
+kept : (c : tie.After-behind5) → Broken (head c) (dump c) (room c) ≡ false → Nameless (head c) (dump c) (room c) ≡ false → Keeps (dumpData (head c) (categories (dump c)))
 kept c b n = let r = in-range (c .before .before .before .before .before .before .before .before) in dump-keeps (head c) (dump c) (r .receive) (r .send) (r .bytes) b n
 
 find-requires : tie.Need-find-requires
