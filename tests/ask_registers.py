@@ -82,6 +82,7 @@ def images():
         yield "its text", Request("f", fmmus=record, room=112)
     for place, bit, record in single_field_bits(CHANNEL, CHANNEL_RECORD):
         yield f"sync manager field {place}, bit {bit}", Request("Z", channels=record, room=8)
+        yield "its image by value", Request("V", channels=record)
         yield "its text", Request("y", channels=record, room=80)
 
 

@@ -54,9 +54,12 @@ def written():
             events, turn = (turn & 1, turn >> 1 & 1, turn >> 2 & 1), turn + 5
             record = channel(mode, direction, events, 0x1234, 0x5678, turn % 2)
             yield f"{said(mode, direction)}, written", Request("Z", channels=record, room=8)
+            yield "its image by value", Request("V", channels=record)
     for number in map(Unnamed, ABOVE):
-        for mode, direction in ((number, 0), (2, number)):
-            yield f"{said(mode, direction)}, written", Request("Z", channels=channel(mode, direction), room=8)
+        for mode, direction in ((number, 0), (2, number), (number, number)):
+            record = channel(mode, direction)
+            yield f"{said(mode, direction)}, written", Request("Z", channels=record, room=8)
+            yield "its image by value", Request("V", channels=record)
 
 
 GOOD = {
@@ -86,6 +89,7 @@ def by_other_bytes():
     ones = b"\xff" * sum(CHANNEL_RECORD)
     for behind in ((0, 0), (1, 0), (0, 1)):
         yield f"a sync manager record of ones, behind it {behind}", Request("Z", channels=ones + bytes(behind), room=8)
+        yield "its image by value", Request("V", channels=ones + bytes(behind))
 
 
 # ---- texts

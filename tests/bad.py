@@ -51,7 +51,7 @@ DEVICE_RECORD = number(r"^A device record is (\d+) bytes")
 DEVICE_NUMBERED = number(r"^A device record is \d+ bytes, or (\d+)")
 # the part in which a letter's record stands, and how long it may be
 RECORDS = {letter: ("fmmus", (FMMU_RECORD,)) for letter in "fW"}
-RECORDS |= {letter: ("channels", (CHANNEL_RECORD, CHANNEL_NUMBERED)) for letter in "yZ"}
+RECORDS |= {letter: ("channels", (CHANNEL_RECORD, CHANNEL_NUMBERED)) for letter in "yZV"}
 RECORDS["v"] = "fmmus", (DEVICE_RECORD, DEVICE_NUMBERED)
 
 
@@ -116,6 +116,7 @@ def records():
     yield between("a channel of ones, numbered", numbered, f"refused 13 {'ff' * 8}")
     text = "start 0xffff, size 0xffff (65535), direction unnamed 255, mode unnamed 255, enabled"
     yield between("a text of ones, numbered", numbered._replace(letter="y", room=len(text)), f"{len(text)} |{text}|")
+    yield between("a channel of ones by value, numbered", numbered._replace(letter="V"), "ffffffff7ffbc303")
     yield between("a channel of zeros, numbered", Request("Z", room=8, channels=bytes(CHANNEL_NUMBERED)), f"ok {'00' * 8}")
     yield between("an entry of ones", Request("W", room=16, fmmus=b"\xff" * FMMU_RECORD), f"refused 13 {'ff' * 16}")
     yield between("no room for a text", Request("f", fmmus=bytes(FMMU_RECORD)), "refused 12 ||")

@@ -290,6 +290,7 @@ ANSWERS = {
     "W": lambda q: image_answer(reg.write_fmmu, fmmu_record(q.fmmus), q.room),
     "Q": lambda q: listed(reg.read_channel(q.channels)),
     "Z": lambda q: image_answer(reg.write_channel, channel_record(q.channels), q.room),
+    "V": lambda q: shown(reg.channel_image(channel_record(q.channels))),
     "k": lambda q: control_answer(q.c % 256),
     "j": lambda q: byte_answer(reg.STATUS, bytes([q.c % 256])),
     "e": lambda q: byte_answer(reg.ENABLE, (q.c % 65_536).to_bytes(2, "little")),

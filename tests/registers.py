@@ -218,10 +218,15 @@ def write_fmmu(record, room):
     room[:] = image(FMMU, record, 16)
 
 
+def channel_image(record):
+    """By value, as a control byte: of an unnamed number the low two bits."""
+    return image(CHANNEL, record._replace(mode=record.mode % 4, direction=record.direction % 4), 8)
+
+
 def write_channel(record, room):
     wrong = wrong_number(MODES, record.mode) or wrong_number(DIRECTIONS, record.direction)
     demand({1: len(room) != 8, 13: wrong})
-    room[:] = image(CHANNEL, record, 8)
+    room[:] = channel_image(record)
     assert read_channel(room) == record  # a record that writing accepts comes back
 
 

@@ -74,6 +74,7 @@ fn answer(letter: u8, request: &[u8], c: u32, times: u32) {
     match letter {
         b'R' => records::fmmu_read(request),
         b'Q' => records::channel_read(request),
+        b'V' => records::channel_packed(request),
         b'd' => bays::read(request),
         b't' => arrivals::calls(request),
         b'w' => writing::again(request),
@@ -107,7 +108,7 @@ fn fits(room: u16, sheet: u16, records: u16, fmmus: u16, channels: u16) -> bool 
 fn whole_record(letter: u8, fmmus: u16, channels: u16) -> bool {
     match letter {
         b'f' | b'W' => fmmus == 14,
-        b'y' | b'Z' => channels == 21 || channels == 23,
+        b'y' | b'Z' | b'V' => channels == 21 || channels == 23,
         b'v' => fmmus == 128 || fmmus == 192,
         _ => true,
     }

@@ -147,6 +147,21 @@ pub fn channel_read(request: &[u8]) {
     }
 }
 
+// The image by value.
+pub fn channel_packed(request: &[u8]) {
+    let image = channel_of(parts::channels(request)).pack();
+    say::line([
+        say::byte(image[0]),
+        say::next_byte(image[1]),
+        say::next_byte(image[2]),
+        say::next_byte(image[3]),
+        say::next_byte(image[4]),
+        say::next_byte(image[5]),
+        say::next_byte(image[6]),
+        say::next_byte(image[7]),
+    ]);
+}
+
 // Writes a text or an image into lent room.
 fn write(
     letter: u8,
