@@ -14,7 +14,7 @@ use sheet::Answer;
 use translation::Reached;
 
 // Where an address is reached: the sync manager, the byte within it, and the device address.
-#[derive(Drop)]
+#[derive(Clone, Copy)]
 pub struct Position {
     pub sync_manager: u8,
     pub byte: u16,
@@ -22,7 +22,7 @@ pub struct Position {
 }
 
 // What counting answers.
-#[derive(Drop)]
+#[derive(Clone, Copy)]
 pub enum Counted {
     Nowhere,
     In(Position),
@@ -30,7 +30,7 @@ pub enum Counted {
 }
 
 // Sizes laid one after another: where the last one ends, and where the address lies.
-#[derive(Drop)]
+#[derive(Clone, Copy)]
 struct Laid {
     end: u64,
     found: Counted,

@@ -20,7 +20,7 @@ use sheet::{Answer, Device, SheetRead, SyncManager};
 use wire::Written;
 
 // What a sheet's head says and a category area doesn't: the flags, as in its byte 3, and the mailboxes' sizes.
-#[derive(Drop)]
+#[derive(Clone, Copy)]
 pub struct Head {
     pub flags: u8,
     pub receive_size: ByteLen,
@@ -92,7 +92,7 @@ fn content(rest: &[u8]) -> &[u8]
 const NOWHERE: usize = usize::MAX;
 
 // What a walk over a dump finds: where the first category of each of the four types begins, how many are of these types, and where all of them end.
-#[derive(Drop)]
+#[derive(Clone, Copy)]
 struct Found {
     fmmus: usize,
     managers: usize,
@@ -287,7 +287,7 @@ fn pdo_long(rest: &[u8]) -> usize
 }
 
 // PDO records from the front on: how many stand there, and whether something is left behind the last one.
-#[derive(Drop)]
+#[derive(Clone, Copy)]
 struct Records {
     count: usize,
     cut: bool,

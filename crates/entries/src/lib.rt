@@ -78,7 +78,7 @@ fn entry_of(route: Route, number: u8) -> usize
 }
 
 // Where the sync managers end that are laid, exactly; or 8.
-#[derive(Drop)]
+#[derive(Clone, Copy)]
 enum Laid {
     End(u64),
     Refused(u8),
@@ -163,7 +163,7 @@ fn outputs_from(how: OutputStart, given: u64, end: u64) -> u64
 }
 
 // Where inputs and outputs end that are laid, exactly; or 8.
-#[derive(Drop)]
+#[derive(Clone, Copy)]
 enum Ends {
     At(u64, u64),
     Refused(u8),

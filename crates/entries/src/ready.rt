@@ -13,7 +13,7 @@ use pdi::ByteLen;
 use pdo::PdoDirection;
 
 // What is still enabled after the clearing: whether any entry is, and whether one has both bits.
-#[derive(Drop)]
+#[derive(Clone, Copy)]
 struct Left {
     enabled: bool,
     both: bool,

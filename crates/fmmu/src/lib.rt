@@ -9,7 +9,7 @@ use pdi::ByteLen;
 use wire::Written;
 
 // An entry: which bytes of the process data image it maps, and to which device address.
-#[derive(Drop)]
+#[derive(Clone, Copy)]
 pub struct Fmmu {
     pub logical_start_address: u32,
     pub length_bytes: ByteLen,
@@ -23,7 +23,7 @@ pub struct Fmmu {
 }
 
 // What reading an image answers.
-#[derive(Drop)]
+#[derive(Clone, Copy)]
 pub enum FmmuRead {
     Entry(Fmmu),
     Refused(u8),

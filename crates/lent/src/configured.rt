@@ -11,7 +11,7 @@ use pdi::PdiOffset;
 use pdo::Oversampling;
 
 // What a call hands back: its answer, and the offsets as they then are.
-#[derive(Drop)]
+#[derive(Clone, Copy)]
 struct Done {
     answer: Segments,
     next: Offsets,

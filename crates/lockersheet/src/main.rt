@@ -8,7 +8,7 @@ use pdi::ByteLen;
 use wire::Written;
 
 // What an argument says: its number, where it is sound.
-#[derive(Drop)]
+#[derive(Clone, Copy)]
 struct Number {
     sound: bool,
     value: u16,

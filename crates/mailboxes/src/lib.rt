@@ -9,7 +9,7 @@ use pdi::ByteLen;
 use sheet::Answer;
 
 // A mailbox: its device address, its size, its sync manager's number.
-#[derive(Drop)]
+#[derive(Clone, Copy)]
 pub struct Mailbox {
     pub address: u16,
     pub len: ByteLen,
@@ -17,14 +17,14 @@ pub struct Mailbox {
 }
 
 // A mailbox, if there is one.
-#[derive(Drop)]
+#[derive(Clone, Copy)]
 pub enum Slot {
     None,
     At(Mailbox),
 }
 
 // What the mailbox pass records.
-#[derive(Drop)]
+#[derive(Clone, Copy)]
 pub struct MailboxConfig {
     pub read: Slot,
     pub write: Slot,
@@ -33,7 +33,7 @@ pub struct MailboxConfig {
 }
 
 // What the mailbox pass answers.
-#[derive(Drop)]
+#[derive(Clone, Copy)]
 pub enum MailboxAnswer {
     Config(MailboxConfig),
     Refused(u8),

@@ -6,7 +6,7 @@ ghost use Rattle.pairs.specs.Reading.{said_of, with_pair, handed_on, by_own_numb
 use passes::{Chosen, FmmuMode, FmmuPair};
 
 // What the pairs before a place say: what is handed on of them, and which sync managers they decide.
-#[derive(Drop)]
+#[derive(Clone, Copy)]
 struct Said {
     entries: [u8; 16],
     above: bool,

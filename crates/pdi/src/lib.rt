@@ -9,15 +9,15 @@ ghost use Rattle.pdi.specs.Segment.{segment, len_of, less_group, placed_of, segm
 use wire::Written;
 
 // A length in bits: the source's `bit_len`, wide enough for every exact sum, of which the largest is 4,261,413,375.
-#[derive(Drop)]
+#[derive(Clone, Copy)]
 pub struct BitLen(pub u32);
 
 // A length in bytes: the source's `length_bytes`.
-#[derive(Drop)]
+#[derive(Clone, Copy)]
 pub struct ByteLen(pub u16);
 
 // What rounding answers.
-#[derive(Drop)]
+#[derive(Clone, Copy)]
 pub enum Rounded {
     Bytes(ByteLen),
     Refused(u8),
@@ -42,13 +42,13 @@ impl BitLen {
 }
 
 // Where the next mapping goes in the process data image.
-#[derive(Drop)]
+#[derive(Clone, Copy)]
 pub struct PdiOffset {
     pub start_address: u32,
 }
 
 // What a step answers: the next offset, or a refusal.
-#[derive(Drop)]
+#[derive(Clone, Copy)]
 pub enum Moved {
     To(PdiOffset),
     Refused(u8),
@@ -96,14 +96,14 @@ impl PdiOffset {
 }
 
 // A part of the process data image: from its start up to its end.
-#[derive(Drop)]
+#[derive(Clone, Copy)]
 pub struct PdiSegment {
     pub start: u32,
     pub end: u32,
 }
 
 // A segment counted from a group's start, or a refusal.
-#[derive(Drop)]
+#[derive(Clone, Copy)]
 pub enum Placed {
     Segment(PdiSegment),
     Refused(u8),

@@ -5,14 +5,14 @@ ghost use Rattle.pdo.specs.Direction.{terms_of, is_data};
 ghost use Rattle.pdo.specs.Bits.{some_usage, by_coe};
 
 // Which way process data goes.
-#[derive(Drop)]
+#[derive(Clone, Copy)]
 pub enum PdoDirection {
     MasterRead,
     MasterWrite,
 }
 
 // What a direction takes: the usage of its sync managers, of its FMMU entry, and its kind of EEPROM PDO.
-#[derive(Drop)]
+#[derive(Clone, Copy)]
 pub struct Terms {
     pub usage: u8,
     pub fmmu_usage: u8,
@@ -50,7 +50,7 @@ pub fn is_data(usage: u8) -> bool
 }
 
 // An oversampling record: a PDO index, and how many times its bits count.
-#[derive(Drop)]
+#[derive(Clone, Copy)]
 pub struct Oversampling {
     pub pdo_index: u16,
     pub multiplier: u8,

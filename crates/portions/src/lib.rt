@@ -9,14 +9,14 @@ pub const MOST: usize = 16386;
 
 // How far a sheet has come. Its bytes so far are `&room[..held]`; `surplus` says that more came than the longest sheet has.
 // It is a plain value: one that was made up stops nothing, and what it is answered is stated.
-#[derive(Drop)]
+#[derive(Clone, Copy)]
 pub struct State {
     pub held: usize,
     pub surplus: bool,
 }
 
 // What taking a portion answers, and how far the sheet has come then: after a refusal as far as before.
-#[derive(Drop)]
+#[derive(Clone, Copy)]
 pub struct Taken {
     pub answer: Answer,
     pub state: State,

@@ -114,7 +114,7 @@ pub fn calls(request: &[u8]) {
 }
 
 // How a sheet is cut: the first portion, each later one, and whether an empty one follows each.
-#[derive(Drop)]
+#[derive(Clone, Copy)]
 struct Cut {
     first: u32,
     each: u32,
@@ -150,7 +150,7 @@ fn in_portions(sheet: &[u8], cut: Cut, room: &mut [u8]) -> State {
 }
 
 // A sheet that came in portions: the last state, and the end's answer.
-#[derive(Drop)]
+#[derive(Clone, Copy)]
 struct Arrived {
     state: State,
     read: SheetRead,

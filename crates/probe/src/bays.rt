@@ -262,7 +262,7 @@ pub fn plan(request: &[u8]) {
 }
 
 // How many records and pairs count of what a plan is lent, and which entries it uses.
-#[derive(Drop)]
+#[derive(Clone, Copy)]
 struct Lent {
     records: usize,
     count: usize,

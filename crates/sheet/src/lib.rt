@@ -9,7 +9,7 @@ use channel_bytes::{Control, Direction, OperationMode};
 use pdi::ByteLen;
 
 // A sync manager as the sheet has it.
-#[derive(Drop)]
+#[derive(Clone, Copy)]
 pub struct SyncManager {
     pub start_addr: u16,
     pub control: Control,
@@ -18,7 +18,7 @@ pub struct SyncManager {
 }
 
 // Device data: what planning reads. Its PDO records stay in the lent bytes, `p` of them from the place `pdos` on.
-#[derive(Drop)]
+#[derive(Clone, Copy)]
 pub struct Device {
     pub has_mailbox: bool,
     pub coe_protocol: bool,
@@ -34,14 +34,14 @@ pub struct Device {
 }
 
 // Whether a call is accepted.
-#[derive(Drop)]
+#[derive(Clone, Copy)]
 pub enum Answer {
     Accepted,
     Refused(u8),
 }
 
 // What reading a sheet answers.
-#[derive(Drop)]
+#[derive(Clone, Copy)]
 pub struct SheetRead {
     pub answer: Answer,
     pub device: Device,

@@ -10,7 +10,7 @@ use pdi::ByteLen;
 use wire::Written;
 
 // One channel of ETG1000.4 6.7.2.
-#[derive(Drop)]
+#[derive(Clone, Copy)]
 pub struct SyncManagerChannel {
     pub physical_start_address: u16,
     pub length_bytes: ByteLen,
@@ -20,7 +20,7 @@ pub struct SyncManagerChannel {
 }
 
 // What reading an image answers.
-#[derive(Drop)]
+#[derive(Clone, Copy)]
 pub enum ChannelRead {
     Channel(SyncManagerChannel),
     Refused(u8),

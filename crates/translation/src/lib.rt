@@ -10,21 +10,21 @@ use pdi::ByteLen;
 use pdo::PdoDirection;
 
 // A device address, if there is one.
-#[derive(Drop)]
+#[derive(Clone, Copy)]
 pub enum Reached {
     Nowhere,
     At(u16),
 }
 
 // What translation answers.
-#[derive(Drop)]
+#[derive(Clone, Copy)]
 pub enum Translated {
     To(Reached),
     Refused(u8),
 }
 
 // What one entry says of an address.
-#[derive(Drop)]
+#[derive(Clone, Copy)]
 enum Said {
     Nothing,
     That(Reached),

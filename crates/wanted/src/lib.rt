@@ -143,7 +143,7 @@ fn first_with(sheet: &[u8], usage: u8) -> u8
 }
 
 // Sizes in bytes, or the first refusal that holds.
-#[derive(Drop)]
+#[derive(Clone, Copy)]
 pub struct Sizes {
     pub answer: Answer,
     pub list: [ByteLen; 16],
@@ -246,7 +246,7 @@ pub fn sizes_of(sheet: &[u8], multipliers: &[u8], direction: PdoDirection) -> Si
 }
 
 // The uses of entries that are seen so far: which entries are used, the first one's, and whether one is left for another and come back to.
-#[derive(Drop)]
+#[derive(Clone, Copy)]
 struct Entered {
     used: [bool; 16],
     first: u8,
@@ -398,7 +398,7 @@ fn by_pairs(coe: bool, mode: FmmuMode) -> bool
 }
 
 // What a call wants: a size for each sync manager with process data, and each direction's route; or the first of its refusals that holds.
-#[derive(Drop)]
+#[derive(Clone, Copy)]
 pub struct Wanted {
     pub answer: Answer,
     pub sizes: [ByteLen; 16],

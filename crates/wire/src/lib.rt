@@ -125,7 +125,7 @@ pub fn least(a: usize, b: usize) -> usize
 }
 
 // What writing an answer into lent room says: its length, or a refusal.
-#[derive(Drop)]
+#[derive(Clone, Copy)]
 pub enum Written {
     Len(usize),
     Refused(u8),
@@ -218,7 +218,7 @@ pub fn put_hex8(room: &mut [u8], at: usize, label: &[u8], x: u32) -> usize
 }
 
 // How many decimal digits a number takes, and the weight of the first of them.
-#[derive(Drop)]
+#[derive(Clone, Copy)]
 struct Weight {
     count: u32,
     power: u32,

@@ -95,7 +95,7 @@ fn put_sheet(d: Device, records: &[u8], total: u16, room: &mut [u8])
 }
 
 // What 4 and 5 ask of sync managers: whether a usage has no name, and whether a mode or a direction is unnamed.
-#[derive(Drop)]
+#[derive(Clone, Copy)]
 struct Judged {
     usage_unnamed: bool,
     control_unnamed: bool,

@@ -1,0 +1,9 @@
+-- `fmmu::Fmmu::put_physical`: each part is typed after the one before it.
+-- Assumes nothing.
+use Rattle.wire.proofs.Typing.{then}
+use Rattle.fmmu.specs.Text.{physical_text}
+use Rattle.fmmu.proofs.Fmmu.put_physical.Goals as goal
+
+pub returns : goal.returns
+unfolding physical_text
+returns c = then (then c.put_hex4-at.ensures c.put_decimal-at.ensures) c.put_access.ensures
