@@ -1,17 +1,15 @@
 -- The sync managers of a record by value have start addresses of two bytes.
 -- Assumes nothing.
-use mathlib.Core.List.{List, [], ◌∷◌, map}
+use mathlib.Core.List.{List, [], ◌∷◌}
 use Prim.Native.Nat.{◌<◌}
 use mir.Val.{Val}
 use denote.Shadow.{shadow}
 use denote.Array.{each}
-use denote.Struct.Struct.{Struct}
-use denote.Struct.Declared.{shape}
 use Rattle.wire.specs.Lists.{Each}
 use Rattle.sheet.specs.declared.SyncManager.{SyncManager}
-use Rattle.sheet.specs.contracts.SyncManager.{the_type, the_field}
+use Rattle.sheet.specs.contracts.SyncManager.{the_row}
 
-pub starts_fit : (ms : List SyncManager) (us : List Val) → shadow (each the_field.row.Denot (Struct (shape the_type)).own_val (map the_type.to ms) us)
+pub starts_fit : (ms : List SyncManager) (us : List Val) → shadow (each the_row.Denot the_row.own_val ms us)
     → Each (λ (m : SyncManager). m.start_addr < 65536) ms
 starts_fit [] us p = tt
 starts_fit (m ∷ ms) [] p = absurd p

@@ -34,12 +34,12 @@ some_unnamed-requires c =
 
 pub returns-then-some_unnamed : goal.returns-then-some_unnamed
 returns-then-some_unnamed c =
-    let right-length : wrong_length c.args.sheet.now ≡ false = sym c.wrong_length.ensures ∙ c.if-wrong_length.false in
     let unbroken : broken c.args.sheet.now ≡ false = sym c.rule_broken.ensures ∙ c.if-rule_broken.false in
+    let right-length : wrong_length c.args.sheet.now ≡ false = sym c.wrong_length.ensures ∙ c.if-wrong_length.false in
     rw (right-length, eq-eqb _ _ c.if-sheet-ne1.false, unbroken, sym c.some_unnamed.ensures ∙ c.if-some_unnamed.true)
 
 pub returns : goal.returns
 returns c =
-    let right-length : wrong_length c.args.sheet.now ≡ false = sym c.wrong_length.ensures ∙ c.if-wrong_length.false in
     let unbroken : broken c.args.sheet.now ≡ false = sym c.rule_broken.ensures ∙ c.if-rule_broken.false in
+    let right-length : wrong_length c.args.sheet.now ≡ false = sym c.wrong_length.ensures ∙ c.if-wrong_length.false in
     rw (right-length, eq-eqb _ _ c.if-sheet-ne1.false, unbroken, sym c.some_unnamed.ensures ∙ c.if-some_unnamed.false)

@@ -8,7 +8,7 @@ use Rattle.fmmu.proofs.Fmmu.unpack.Goals as goal
 pub returns : goal.returns
 unfolding fields_of
 returns c =
-    let l = c.args.t1 in
+    let l = c.args.image in
     λ i.
     record {
       logical_start_address = c.le32.ensures i;
