@@ -1,0 +1,12 @@
+-- `dump::content`: what stands behind the head of the category at the front, and no further than it.
+-- Assumes nothing.
+use mathlib.Core.Path.{◌∙◌, ap}
+use Prim.Native.Nat.{ℕ}
+use lib.ListN.{take, drop}
+use Rattle.dump.proofs.Categories.{at_front}
+use Rattle.dump.proofs.content.Goals as goal
+
+pub returns : goal.returns
+returns c =
+    let l = c.args.rest.now in
+    c.behind.ensures ∙ ap (drop 4) (c.front.ensures ∙ ap (λ (k : ℕ). take k l) c.category_long.ensures) ∙ (at_front l).content
