@@ -1,0 +1,10 @@
+-- `wanted::survey`: what is known of the uses of the numbers from k on.
+use Prim.Native.Nat.{◌-◌, ◌≤◌}
+use Rattle.wanted.proofs.Surveying.{Seen, uses_after}
+use Rattle.wanted.proofs.survey.Given as goal
+
+abbrev pub invariant-loop-k : goal.invariant-loop-k
+invariant-loop-k l = (l.k ≤ 16) × Seen (uses_after l.bits l.entries l.k) l.seen
+
+abbrev pub decreases-loop-k : goal.decreases-loop-k
+decreases-loop-k l = l.k

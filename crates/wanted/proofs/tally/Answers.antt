@@ -1,0 +1,104 @@
+-- `wanted::tally`: the sums so far, and what the records ahead add, are the whole.
+-- Assumes nothing.
+use mathlib.Core.Path.{◌≡◌, sym, ◌∙◌}
+use Prim.Native.Nat.{◌+◌, ◌-◌}
+use native.Mathlib.Omega.{arith}
+use lib.ListN.{get_or}
+use Rattle.grammar.specs.Grammar.{pdo_count, pdos_place}
+use Rattle.grammar.proofs.Broken.{kept}
+use Rattle.sheet.specs.Sheet.{sheet_data}
+use Rattle.sheet.proofs.Sound.{Fits}
+use Rattle.pdo.proofs.Records.{product-bounded}
+use Rattle.wanted.proofs.Managers.{counts-there}
+use Rattle.wanted.proofs.Sums.{tallied-start, next_fits, tallied-here, tallied-on, tallied-end, sums-are}
+use Rattle.wanted.proofs.tally.Goals as goal
+use Rattle.wanted.proofs.tally.Goals.{then-counts, else-counts}
+
+pub loop-i-init : goal.loop-i-init
+loop-i-init c =
+    let s = c.args.sheet.now in
+    let k = kept s c.requires.1 in
+    let e : c.wide-count.result ≡ pdo_count s = c.wide-count.ensures.0 ∙ c.pdo_count.ensures in
+    (c.requires.0, k.managers, omega arith, e, omega arith, tallied-start _ _ _ _ (pdo_count s) (pdos_place s) _ c.pdos_place-place.ensures.0 k.walk)
+
+pub counts-requires : goal.counts-requires
+counts-requires c =
+    let fit : Fits c.args.sheet.now (pdo_count c.args.sheet.now - (c.loop-i.i + 1)) c.loop-i.place = next_fits _ _ _ _ c.loop-i.invariant.5 (omega arith) in
+    (omega (arith, fit.within), c.loop-i.invariant.2, c.loop-i.invariant.0)
+
+pub overflow_add-place : goal.overflow_add-place
+overflow_add-place c =
+    let fit : Fits c.args.sheet.now (pdo_count c.args.sheet.now - (c.loop-i.i + 1)) c.loop-i.place = next_fits _ _ _ _ c.loop-i.invariant.5 (omega arith) in
+    omega (arith, fit.within)
+
+pub overflow_add-place-in-loop-i : goal.overflow_add-place-in-loop-i
+overflow_add-place-in-loop-i c =
+    let fit : Fits c.args.sheet.now (pdo_count c.args.sheet.now - (c.loop-i.i + 1)) c.loop-i.place = next_fits _ _ _ _ c.loop-i.invariant.5 (omega arith) in
+    omega (arith, fit.within)
+
+pub bounds-sheet-place : goal.bounds-sheet-place
+bounds-sheet-place c =
+    let fit : Fits c.args.sheet.now (pdo_count c.args.sheet.now - (c.loop-i.i + 1)) c.loop-i.place = next_fits _ _ _ _ c.loop-i.invariant.5 (omega arith) in
+    omega (arith, fit.within)
+
+pub bounds-sums-slot : goal.bounds-sums-slot
+bounds-sums-slot c =
+    let s = c.args.sheet.now in
+    let h = counts-there s c.args.«coe» (get_or s c.loop-i.place 0) (get_or s (c.loop-i.place + 1) 0) (sym c.counts.ensures ∙ c.if-counts.true) in
+    omega arith
+
+pub pdo_bits-requires : goal.pdo_bits-requires
+pdo_bits-requires c =
+    let fit : Fits c.args.sheet.now (pdo_count c.args.sheet.now - (c.loop-i.i + 1)) c.loop-i.place = next_fits _ _ _ _ c.loop-i.invariant.5 (omega arith) in
+    (fit.within, fit.kind, c.loop-i.invariant.0)
+
+pub overflow_mul-sums : goal.overflow_mul-sums
+overflow_mul-sums c = omega (arith, product-bounded c.pdo_bits.result c.multiplier_at.result c.pdo_bits.ensures.1 (omega arith))
+
+pub overflow_add-sums : goal.overflow_add-sums
+overflow_add-sums c =
+    let s = c.args.sheet.now in
+    let h = counts-there s c.args.«coe» (get_or s c.loop-i.place 0) (get_or s (c.loop-i.place + 1) 0) (sym c.counts.ensures ∙ c.if-counts.true) in
+    let product = product-bounded c.pdo_bits.result c.multiplier_at.result c.pdo_bits.ensures.1 (omega arith) in
+    omega (arith, product, c.loop-i.invariant.5.small c.wide-slot.result (omega arith))
+
+pub bounds-sums-slot-then-counts : goal.bounds-sums-slot-then-counts
+bounds-sums-slot-then-counts c =
+    let s = c.args.sheet.now in
+    let h = counts-there s c.args.«coe» (get_or s c.loop-i.place 0) (get_or s (c.loop-i.place + 1) 0) (sym c.counts.ensures ∙ c.if-counts.true) in
+    omega arith
+
+pub overflow_add-place-in-loop-i-2 : goal.overflow_add-place-in-loop-i-2
+overflow_add-place-in-loop-i-2 c =
+    let fit : Fits c.args.sheet.now (pdo_count c.args.sheet.now - (c.loop-i.i + 1)) c.loop-i.place = next_fits _ _ _ _ c.loop-i.invariant.5 (omega arith) in
+    omega (arith, fit.within)
+
+pub bounds-sheet-place-in-loop-i : goal.bounds-sheet-place-in-loop-i
+bounds-sheet-place-in-loop-i c =
+    let fit : Fits c.args.sheet.now (pdo_count c.args.sheet.now - (c.loop-i.i + 1)) c.loop-i.place = next_fits _ _ _ _ c.loop-i.invariant.5 (omega arith) in
+    omega (arith, fit.within)
+
+pub overflow_add-place-in-loop-i-3 : goal.overflow_add-place-in-loop-i-3
+overflow_add-place-in-loop-i-3 c =
+    let fit : Fits c.args.sheet.now (pdo_count c.args.sheet.now - (c.loop-i.i + 1)) c.loop-i.place = next_fits _ _ _ _ c.loop-i.invariant.5 (omega arith) in
+    omega (arith, fit.within)
+
+pub loop-i-preserved : goal.loop-i-preserved
+loop-i-preserved c =
+    let l = c.loop-i in
+    let i = l.invariant in
+    let s = c.args.sheet.now in
+    let next = l.place + 5 + c.wide.result in
+    let e = sym c.counts.ensures in
+    (i.0, i.1, i.2, i.3, i.4,
+    elim c.if-counts.branch [
+      then-counts w ↦
+        let h = counts-there s c.args.«coe» (get_or s l.place 0) (get_or s (l.place + 1) 0) (e ∙ w.if-counts.true) in
+        tallied-here _ _ _ _ i.5 next (omega arith) (omega arith) w.wide-slot.result w.pdo_bits.result w.multiplier_at.result _ (e ∙ w.if-counts.true)
+        w.wide-slot.ensures.0 (omega arith) w.pdo_bits.ensures.0 w.multiplier_at.ensures w.pdo_bits.ensures.1 (omega arith) w.sums-is
+    | else-counts w ↦ tallied-on _ _ _ _ i.5 next (omega arith) (omega arith) _ (e ∙ w.if-counts.false) w.sums-is
+    ])
+
+pub returns : goal.returns
+unfolding sheet_data
+returns c = let a = c.args in sums-are a.sheet.now a.«coe» a.multipliers.now _ (tallied-end _ _ _ _ c.loop-i.invariant.5 (omega arith))
