@@ -1,4 +1,6 @@
 // The FMMU entries of a call: `write_fmmu_config` of configuration.rs, over a whole area.
+#![tactic(auto)]
+
 ghost use Rattle.std.specs.Prelude.{◌≡◌, ◌||◌, ◌+◌, ◌<◌, ◌≤◌, length};
 ghost use Rattle.pdo.specs.Direction.{is_read};
 ghost use Rattle.pdo.specs.declared.PdoDirection.TheVariants.{MasterWrite};
