@@ -1,6 +1,5 @@
 -- Laws that belong to no one function.
 pub mod Search
 pub mod Filled
-pub mod Local
 pub mod Made
 pub mod Unique

@@ -1,4 +1,6 @@
 // The oversampling table, a lent list of records: its first match, and one multiplier for each PDO of a sheet.
+#![tactic(auto)]
+
 ghost use Rattle.std.specs.Prelude.{◌≡◌, ◌+◌, ◌≤◌, ◌<◌, ◌^◌};
 ghost use Rattle.wire.specs.Room.{over};
 ghost use Rattle.grammar.specs.Grammar.{pdo_count};
