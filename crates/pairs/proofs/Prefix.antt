@@ -3,7 +3,7 @@
 use mathlib.Core.Path.{◌≡◌, refl, sym, ap}
 use mathlib.Core.Bool.{Bool, true, false, cond, ◌||◌, not}
 use mathlib.Core.List.{List, [], ◌∷◌}
-use Prim.Native.Nat.{ℕ, zero, suc, ◌+◌, ◌*◌, ◌<◌, ◌^◌}
+use Prim.Native.Nat.{ℕ, zero, suc, ◌+◌, ◌<◌}
 use native.Mathlib.Nat.{not-suc-le-zero, le_of_suc-le-suc}
 use native.Mathlib.Numerals.{add-one}
 use native.Mathlib.Omega.{arith}
@@ -53,10 +53,3 @@ read_none Paired l h = absurd h
 pub read_all : (mode : FmmuMode) (l : List FmmuPair) → Holds (not (by_own_numbers mode)) → handed_on (said_of (take (length l) l)) ≡ chosen_by mode l
 read_all OwnNumber l h = absurd h
 read_all Paired l h = ap chosen_of (take_all (length l) l (omega arith))
-
--- a pair's place, and the next number, fit the machine's
-pub place-fits : {i n : ℕ} → n * 2 < 2 ^ 63 → i < n → i * 2 < 2 ^ 64
-place-fits room less = omega arith
-
-pub next_fits : {i n : ℕ} → n < 2 ^ 64 → i < n → i + 1 < 2 ^ 64
-next_fits room less = omega arith

@@ -9,7 +9,7 @@ use Rattle.pairs.specs.contracts.fmmu_mappings as fmmu-mappings
 abbrev Chooses : Saying fmmu-mappings.ended
 Chooses κs a r s = r ≡ chosen_by a.0 a.1.0.now
 
-pub fmmu-mappings-states : States fmmu-mappings.ended (λ M 𝓤 H. fmmu-mappings.clauses 𝓤 H) Chooses
+pub fmmu-mappings-states : States fmmu-mappings.ended (λ M 𝓤 𝓛. fmmu-mappings.clauses 𝓛) Chooses
 fmmu-mappings-states M 𝓤 𝓛 mem run κs a r s g = refl
 
 pub fmmu-mappings-pins : Pins Chooses (λ κs r s. r)

@@ -1,4 +1,6 @@
 // The list of pairs, read once: which entry each sync manager uses, and whether a number is above 15.
+#![tactic(auto)]
+
 ghost use Rattle.std.specs.Prelude.{◌≡◌, ◌||◌, [], ltb};
 ghost use Rattle.passes.specs.Use.{past_last, chosen_by};
 ghost use Rattle.pairs.specs.Reading.{said_of, with_pair, handed_on, by_own_numbers};

@@ -3,12 +3,8 @@
 use mathlib.Core.Path.{refl}
 use Rattle.wire.specs.Lists.{list_of}
 use Rattle.passes.specs.Use.{entry_for}
-use Rattle.pairs.proofs.none_said.Statement.{statement}
-use Rattle.pairs.proofs.none_said.Tie as tie
+use Rattle.pairs.proofs.none_said.Goals as goal
 
-returns : tie.Need-returns
+pub returns : goal.returns
 unfolding list_of entry_for
 returns c = refl
-
-pub none-said-spec : {M : Type 1} → statement M
-none-said-spec = tie.close (tie.spec returns)
