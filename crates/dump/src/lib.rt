@@ -1,4 +1,6 @@
 // A device's own EEPROM dump: the category area of ETG2010, read as device data of the EEPROM path.
+#![tactic(auto)]
+
 ghost use Rattle.std.specs.Prelude.{◌≡◌, ◌||◌, map, ◌++◌, ◌+◌, ◌*◌, ◌-◌, ◌/◌, ◌≤◌, ◌<◌, length, replicate, ltb};
 ghost use Rattle.wire.specs.Number.{little_at};
 ghost use Rattle.wire.specs.Lists.{some_of};

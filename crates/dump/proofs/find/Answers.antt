@@ -1,7 +1,7 @@
 -- `dump::find`: what is noted and counted where the walk stands, and what is still to come, is what there is of all.
 -- Assumes nothing.
 use mathlib.Core.Path.{◌∙◌, ap}
-use Prim.Native.Nat.{◌-◌, ◌≤◌}
+use Prim.Native.Nat.{◌≤◌}
 use native.Mathlib.Omega.{arith}
 use lib.ListN.{length}
 use Rattle.dump.specs.Categories.{type_of, category_long}
@@ -26,7 +26,7 @@ bounds-rest-1 c =
 pub overflow_add-known : goal.overflow_add-known
 overflow_add-known c =
     let s = c.loop-long.invariant.0 in
-    record { fits = omega (arith, s.few, s.within, c.is_Known.ensures.1) }
+    record { fits = omega (arith, s.few, s.within, c.is_known-known.ensures.1) }
 
 pub overflow_add-end : goal.overflow_add-end
 overflow_add-end c = let s = c.loop-long.invariant.0 in record { fits = omega (arith, s.within) }
@@ -41,7 +41,7 @@ loop-long-preserved c =
     let kind = c.le16-kind.ensures ∙ ap type_of c.behind-rest.ensures in
     let long = c.category_long-long-in-loop-long.ensures ∙ ap category_long c.behind.ensures in (
       seen-turn d at c.loop-long.long c.loop-long.invariant.0.here c.loop-long-test.true c.le16-kind.result c.loop-long.invariant.0 c.loop-long.invariant.1 kind
-          c.first-fmmus.ensures c.first-managers.ensures c.first-inputs.ensures c.first-outputs.ensures k.is_Known.ensures.0 k.is_Known.ensures.1 long,
+          c.first-fmmus.ensures c.first-managers.ensures c.first-inputs.ensures c.first-outputs.ensures c.is_known-known.ensures.0 c.is_known-known.ensures.1 long,
       c.loop-long.invariant.1,
     )
 

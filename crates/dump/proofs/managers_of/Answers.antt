@@ -1,7 +1,7 @@
 -- `dump::managers_of`: after k turns the first k sync managers stand in the list.
 -- Assumes nothing.
 use mathlib.Core.Path.{refl, ◌∙◌, ap}
-use Prim.Native.Nat.{◌-◌, ◌/◌}
+use Prim.Native.Nat.{◌/◌}
 use native.Mathlib.Omega.{arith}
 use lib.ListN.{length, set}
 use Rattle.wire.specs.Lists.{list_of}

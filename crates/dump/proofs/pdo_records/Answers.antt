@@ -1,7 +1,7 @@
 -- `dump::pdo_records`: so many records are passed up to where the walk stands.
 -- Assumes nothing.
 use mathlib.Core.Path.{sym, ◌∙◌, ap}
-use Prim.Native.Nat.{◌+◌, ◌-◌}
+use Prim.Native.Nat.{◌+◌}
 use native.Mathlib.Omega.{arith}
 use Rattle.dump.specs.Records.{pdo_long}
 use Rattle.dump.proofs.Parts.{left_over, Walk, walk_start, walk_turn, walk_end}

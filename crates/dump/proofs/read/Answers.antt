@@ -7,7 +7,8 @@ use Prim.Native.Nat.{ℕ, ◌+◌, ◌*◌, ◌/◌, ◌≤◌}
 use native.Mathlib.Omega.{arith}
 use lib.ListN.{length, length-map}
 use lib.Dec.{ltb}
-use borrow.Author.Tests.{lt-ltb, le-ltb, not-false}
+use borrow.Author.Tests.{lt-ltb, le-ltb}
+use borrow.Author.Rules.{rules}
 use Rattle.wire.specs.Room.{over}
 use Rattle.area.specs.Area.{flat}
 use Rattle.sheet.specs.Device.{Pdo}
@@ -15,204 +16,185 @@ use Rattle.sheet.specs.Sheet.{some_unnamed}
 use Rattle.writer.specs.Form.{pdo_bytes}
 use Rattle.writer.proofs.Keeps.{Keeps}
 use Rattle.dump.specs.declared.Head.{Head}
-use Rattle.dump.specs.Categories.{marked, categories, content_for, unended}
+use Rattle.dump.specs.Categories.{marked, category_long, categories, content_for, unended}
 use Rattle.dump.specs.Parts.{parts_of, rest_of}
 use Rattle.dump.specs.Records.{usage_for, manager_long, manager_for, pdo_long, pdos_in, nonempty, not_records}
 use Rattle.dump.specs.Dump.{manager_records, usages_for, dump_data, rule_broken, device_with}
+use Rattle.dump.specs.Calls.{InRange}
 use Rattle.dump.specs.Looked.{pdos_from}
 use Rattle.dump.proofs.Placed.{pdos-counted}
 use Rattle.dump.proofs.Managers.{managers-many}
 use Rattle.dump.proofs.Kept.{keeps-rule, dump-keeps}
-use Rattle.dump.proofs.Reading.{Found, content-is, not-records-is, pdos-are, Broken, Nameless, short-is, reads-16, reads-17, reads-4, reads-5, reads-12, reads-data}
+use Rattle.dump.proofs.Reading.{Found, content-is, not-records-is, pdos-are, Broken, Nameless, Short, short-is, reads-16, reads-17, reads-4, reads-5, reads-12, reads-data}
+use Rattle.dump.proofs.read.Goals.{After-find-found, After-second-twice}
 use Rattle.dump.proofs.read.Goals as goal
 
--- 16
-end_marked : (c : tie.After-marked) {b : Bool} → c.marked.result ≡ b → unended c.before.before.before.before.before.args.dump.now ≡ not b
-unfolding unended
-end_marked c e =
-    let f = c.before.before in
-    ap not (sym (c.marked.ensures ∙ ap marked (c.before.behind.ensures ∙ f.find.ensures.end)) ∙ e)
+-- at every call the sizes and the lent bytes are in the range of their types
+pub in-range : (c : After-find-found) → InRange c.args.head c.args.dump.now c.args.room.now
+in-range c = record { receive = search rules; send = search rules; bytes = search rules; room_bytes = search rules }
 
--- the call, and what is found of its dump
-module _ (c : tie.After-behind5) where
+-- 16: by what stands behind the categories
+end_marked :
+    (dump : List ℕ) {rest : List ℕ} {m b : Bool} → rest ≡ rest_of category_long dump → m ≡ marked rest → m ≡ b → unended dump ≡ not b
+unfolding unended
+end_marked dump r m e = ap not (sym (m ∙ ap marked r) ∙ e)
+
+-- once all is taken of the dump that the tests ask for
+module _ (c : After-second-twice) where
   abbrev head : Head
-  head = c.before.before.before.before.before.before.before.before.before.before.args.head
+  head = c.args.head
 
   abbrev dump : List ℕ
-  dump = c.before.before.before.before.before.before.before.before.before.before.args.dump.now
+  dump = c.args.dump.now
 
   abbrev room : List ℕ
-  room = c.before.before.before.before.before.before.before.before.before.before.args.room.now
-
-  ended : unended dump ≡ false
-  ended = let m = c.before.before.before.before.before in end_marked m (not-false m.marked.result c.before.before.before.before.if1.false)
-
-  found : Found (categories dump) c.before.before.before.behind2.result.now c.before.before.behind3.result.now c.before.behind4.result.now c.behind5.result.now
-  found =
-      let f = c.before.before.before.before.before.before.before.find.ensures in
-      record {
-        fmmus_from = ap categories c.before.before.before.behind2.ensures ∙ f.fmmus;
-        managers_from = ap categories c.before.before.behind3.ensures ∙ f.managers;
-        inputs_from = ap categories c.before.behind4.ensures ∙ f.inputs;
-        outputs_from = ap categories c.behind5.ensures ∙ f.outputs;
-      }
-
--- the four contents
-module _ (c : tie.After-second) where
-  abbrev found_at : tie.After-behind5
-  found_at = c.before.before.before.before.before.before.before
+  room = c.args.room.now
 
   abbrev categories-at : List (List ℕ)
-  categories-at = categories (dump found_at)
+  categories-at = categories dump
 
-  usages-at : c.before.before.before.before.before.before.content.result.now ≡ content_for 40 categories-at
-  usages-at = content-is 40 categories-at _ (found found_at).fmmus_from c.before.before.before.before.before.before.content.ensures
+  ended : unended dump ≡ false
+  ended = end_marked dump (c.behind.ensures ∙ c.find-found.ensures.end) c.marked.ensures c.if-not-marked.false
 
-  managers-at : c.before.before.before.before.before.content2.result.now ≡ content_for 41 categories-at
-  managers-at = content-is 41 categories-at _ (found found_at).managers_from c.before.before.before.before.before.content2.ensures
+  found : Found categories-at c.behind-fmmus.result.now c.behind-managers.result.now c.behind-inputs.result.now c.behind-outputs.result.now
+  found =
+      let f = c.find-found.ensures in
+      record {
+        fmmus_from = ap categories c.behind-fmmus.ensures ∙ f.fmmus;
+        managers_from = ap categories c.behind-managers.ensures ∙ f.managers;
+        inputs_from = ap categories c.behind-inputs.ensures ∙ f.inputs;
+        outputs_from = ap categories c.behind-outputs.ensures ∙ f.outputs;
+      }
 
-  inputs-at : c.before.before.before.before.content3.result.now ≡ content_for 50 categories-at
-  inputs-at = content-is 50 categories-at _ (found found_at).inputs_from c.before.before.before.before.content3.ensures
+  -- the four contents
+  abbrev usages : List ℕ
+  usages = c.content-usages.result.now
 
-  outputs-at : c.before.before.content4.result.now ≡ content_for 51 categories-at
-  outputs-at = content-is 51 categories-at _ (found found_at).outputs_from c.before.before.content4.ensures
+  abbrev managers : List ℕ
+  managers = c.content-records.result.now
 
--- 17
-records : (c : tie.After-not-records) {b : Bool} → c.not-records.result ≡ b → not_records (categories-at c.before) ≡ b
-records c e =
-    let s = c.before in
-    let tx = s.before.before.before.pdo-records.ensures.1 in
-    let rx = s.before.pdo-records2.ensures.1 in
-    let f = found_at s in
-    let r = f.before.before.before.before.before.before.before.find in
-    sym (not-records-is (found f) r.result.known r.ensures.known (managers-at s) (inputs-at s) (outputs-at s))
-    ∙ sym (c.not-records.ensures ∙ (λ i. s.second.ensures i || (nonempty (rest_of manager_long s.before.before.before.before.before.content2.result.now) || (tx i || rx i))))
-    ∙ e
+  usages-at : usages ≡ content_for 40 categories-at
+  usages-at = content-is 40 categories-at _ found.fmmus_from c.content-usages.ensures
 
--- the PDOs, where 17 isn't given
-module _ (c : tie.Else2) where
-  abbrev asked : tie.After-second
-  asked = c.before.before
+  managers-at : managers ≡ content_for 41 categories-at
+  managers-at = content-is 41 categories-at _ found.managers_from c.content-records.ensures
 
-  whole : not_records (categories-at asked) ≡ false
-  whole = records c.before c.if2.false
+  inputs-at : c.content.result.now ≡ content_for 50 categories-at
+  inputs-at = content-is 50 categories-at _ found.inputs_from c.content.ensures
 
-  -- in dump order, as the places of the two categories say it
-  abbrev places : Bool
-  places = let r = (found_at asked).before.before.before.before.before.before.before.find.result in ltb r.inputs r.outputs
+  outputs-at : c.content-2.result.now ≡ content_for 51 categories-at
+  outputs-at = content-is 51 categories-at _ found.outputs_from c.content-2.ensures
 
-  abbrev inputs : List (List ℕ)
-  inputs = categories (found_at asked).before.behind4.result.now
-
-  abbrev outputs : List (List ℕ)
-  outputs = categories (found_at asked).behind5.result.now
-
-  pdos-at : pdos_from places inputs outputs ≡ pdos_in (categories-at asked)
-  pdos-at = pdos-are (found (found_at asked)) (found_at asked).before.before.before.before.before.before.before.find.ensures.order whole
-
-  counted : asked.before.before.before.pdo-records.result.count + asked.before.pdo-records2.result.count ≡ length (pdos_from places inputs outputs)
-  counted =
-      let count : List ℕ → ℕ = λ l. length (parts_of pdo_long l) in
-      ap₂ ◌+◌ (asked.before.before.before.pdo-records.ensures.0 ∙ ap count asked.before.before.before.before.content3.ensures) (asked.before.pdo-records2.ensures.0 ∙ ap count asked.before.before.content4.ensures)
-      ∙ sym (pdos-counted places inputs outputs)
-
-  count_at : asked.before.before.before.pdo-records.result.count + asked.before.pdo-records2.result.count ≡ length (pdos_in (categories-at asked))
-  count_at = counted ∙ ap length pdos-at
-
--- 4
-module _ (c : tie.After-rule-broken) where
-  abbrev passed : tie.Else2
-  passed = c.before.before.before
-
-  abbrev from : tie.After-behind5
-  from = found_at (asked passed)
-
-  rule : {b : Bool} → c.rule-broken.result ≡ b → Broken (head from) (dump from) (room from) ≡ b
-  rule e =
-      let s = asked passed in
-      sym (λ i. rule_broken (head from).flags (map manager_for (parts_of manager_long (managers-at s i))) (map usage_for (usages-at s i)) (count_at passed i))
-      ∙ sym c.rule-broken.ensures
+  -- 17
+  records : {r b : Bool} → r ≡ c.second-twice.result || (nonempty (rest_of manager_long managers) || (c.pdo_records-tx.result.cut || c.pdo_records-rx.result.cut)) → r ≡ b → not_records categories-at ≡ b
+  records a e =
+      let tx = c.pdo_records-tx.ensures.1 in
+      let rx = c.pdo_records-rx.ensures.1 in
+      let f = c.find-found in
+      sym (not-records-is found f.result.known f.ensures.known managers-at inputs-at outputs-at)
+      ∙ sym (a ∙ (λ i. c.second-twice.ensures i || (nonempty (rest_of manager_long managers) || (tx i || rx i))))
       ∙ e
 
-  -- what it says of the counts, where it isn't given
-  counts : c.rule-broken.result ≡ false
-      → ((asked passed).before.before.before.pdo-records.result.count + (asked passed).before.pdo-records2.result.count ≤ 255)
-      × (length (asked passed).before.before.before.before.before.content2.result.now / 8 ≤ 16) × (length (asked passed).before.before.before.before.before.before.content.result.now ≤ 16)
-  counts e =
-      let s = asked passed in
-      let cs = categories-at s in
-      let k = keeps-rule (head from).flags (map manager_for (manager_records cs)) (usages_for cs) (length (pdos_in cs)) (rule e) in
-      let m = managers-many (content_for 41 cs) in
-      let n = ap length (managers-at s) in
-      let u = length-map (content_for 40 cs) usage_for in
-      let v = ap length (usages-at s) in
-      (omega (arith, count_at passed), omega arith, omega arith)
+  -- the PDOs, in dump order, as the places of the two categories say it
+  abbrev count : ℕ
+  count = c.pdo_records-tx.result.count + c.pdo_records-rx.result.count
 
--- 5
-controls : (c : tie.After-some-control-unnamed) {b : Bool} → c.some-control-unnamed.result ≡ b
-    → some_unnamed (map manager_for (manager_records (categories-at (asked (passed c.before.before))))) ≡ b
-controls c e =
-    sym (ap (λ (l : List ℕ). some_unnamed (map manager_for (parts_of manager_long l))) (managers-at (asked (passed c.before.before))))
-    ∙ sym c.some-control-unnamed.ensures
-    ∙ e
+  abbrev pdos : List Pdo
+  pdos = pdos_from (ltb c.find-found.result.inputs c.find-found.result.outputs) (categories c.behind-inputs.result.now) (categories c.behind-outputs.result.now)
+
+  counted : count ≡ length pdos
+  counted =
+      let many : List ℕ → ℕ = λ l. length (parts_of pdo_long l) in
+      let r = c.find-found.result in
+      ap₂ ◌+◌ (c.pdo_records-tx.ensures.0 ∙ ap many c.content.ensures) (c.pdo_records-rx.ensures.0 ∙ ap many c.content-2.ensures)
+      ∙ sym (pdos-counted (ltb r.inputs r.outputs) (categories c.behind-inputs.result.now) (categories c.behind-outputs.result.now))
+
+  -- where 17 isn't given
+  module _ (whole : not_records categories-at ≡ false) where
+    pdos-at : pdos ≡ pdos_in categories-at
+    pdos-at = pdos-are found c.find-found.ensures.order whole
+
+    count_at : count ≡ length (pdos_in categories-at)
+    count_at = counted ∙ ap length pdos-at
+
+    -- 4
+    rule : {r b : Bool} → r ≡ rule_broken head.flags (map manager_for (parts_of manager_long managers)) (map usage_for usages) count → r ≡ b → Broken head dump room ≡ b
+    rule a e =
+        sym (λ i. rule_broken head.flags (map manager_for (parts_of manager_long (managers-at i))) (map usage_for (usages-at i)) (count_at i)) ∙ sym a ∙ e
+
+    -- what it says of the counts, where it isn't given
+    counts : Broken head dump room ≡ false → (count ≤ 255) × (length managers / 8 ≤ 16) × (length usages ≤ 16)
+    counts b =
+        let cs = categories-at in
+        let k = keeps-rule head.flags (map manager_for (manager_records cs)) (usages_for cs) (length (pdos_in cs)) b in
+        let m = managers-many (content_for 41 cs) in
+        let n = ap length managers-at in
+        let u = length-map (content_for 40 cs) usage_for in
+        let v = ap length usages-at in
+        (omega (arith, count_at), omega arith, omega arith)
+
+    -- 12
+    short : {b : Bool} → ltb (length room) (7 * count) ≡ b → Short head dump room ≡ b
+    short e = short-is head dump room count_at ∙ e
+
+  -- 5
+  controls : {r b : Bool} → r ≡ some_unnamed (map manager_for (parts_of manager_long managers)) → r ≡ b → Nameless head dump room ≡ b
+  controls a e = sym (ap (λ (l : List ℕ). some_unnamed (map manager_for (parts_of manager_long l))) managers-at) ∙ sym a ∙ e
 
 -- where neither 4 nor 5 holds the data has a sheet
-kept : (c : tie.After-behind5) → Broken (head c) (dump c) (room c) ≡ false → Nameless (head c) (dump c) (room c) ≡ false → Keeps (dump_data (head c) (categories (dump c)))
-kept c b n = let r = in-range c.before.before.before.before.before.before.before.before in dump-keeps (head c) (dump c) r.receive r.send r.bytes b n
+kept : (c : After-find-found) → Broken c.args.head c.args.dump.now c.args.room.now ≡ false → Nameless c.args.head c.args.dump.now c.args.room.now ≡ false
+    → Keeps (dump_data c.args.head (categories c.args.dump.now))
+kept c b n = let r = in-range c in dump-keeps c.args.head c.args.dump.now r.receive r.send r.bytes b n
 
 pub returns-then-not-marked : goal.returns-then-not-marked
 returns-then-not-marked c =
     let a = c.args in
-    reads-16 a.head a.dump.now a.room.now c.refused.ensures (end_marked m (c.if-not-marked.true))
+    reads-16 a.head a.dump.now a.room.now c.refused.ensures (end_marked a.dump.now (c.behind.ensures ∙ c.find-found.ensures.end) c.marked.ensures c.if-not-marked.true)
 
 pub returns-then-not_records : goal.returns-then-not_records
 returns-then-not_records c =
-    let f = found_at c in
-    reads-17 (head f) (dump f) (room f) c.refused-then-not_records.ensures (ended f) (records n c.if-not_records.true)
+    let s = (goal.at.returns-then-not_records c).After-second-twice in
+    reads-17 (head s) (dump s) (room s) c.refused-then-not_records.ensures (ended s) (records s c.not_records.ensures c.if-not_records.true)
 
 pub returns-then-rule_broken : goal.returns-then-rule_broken
 returns-then-rule_broken c =
-    let f = from r in
-    reads-4 (head f) (dump f) (room f) c.refused-then-rule_broken.ensures (ended f) (whole (passed r)) (rule r c.if-rule_broken.true)
+    let s = (goal.at.returns-then-rule_broken c).After-second-twice in
+    let w = records s c.not_records.ensures c.if-not_records.false in
+    reads-4 (head s) (dump s) (room s) c.refused-then-rule_broken.ensures (ended s) w (rule s w c.rule_broken.ensures c.if-rule_broken.true)
 
 pub returns-then-some_control_unnamed : goal.returns-then-some_control_unnamed
 returns-then-some_control_unnamed c =
-    let f = from r in
-    reads-5 (head f) (dump f) (room f) c.refused-then-some_control_unnamed.ensures (ended f) (whole (passed r)) (rule r c.if-rule_broken.false) (controls u c.if-some_control_unnamed.true)
-
-pub overflow_mul-p : goal.overflow_mul-p
-overflow_mul-p c = let k = counts c c.if-rule_broken.false in omega arith
+    let s = (goal.at.returns-then-some_control_unnamed c).After-second-twice in
+    let w = records s c.not_records.ensures c.if-not_records.false in
+    reads-5 (head s) (dump s) (room s) c.refused-then-some_control_unnamed.ensures (ended s) w (rule s w c.rule_broken.ensures c.if-rule_broken.false)
+    (controls s c.some_control_unnamed.ensures c.if-some_control_unnamed.true)
 
 pub returns-then-room-p : goal.returns-then-room-p
 returns-then-room-p c =
-    let p = passed r in
-    let f = from r in
-    reads-12 (head f) (dump f) (room f) c.refused-then-room-p.ensures (ended f) (whole p) (rule r c.if-rule_broken.false) (controls u c.if-some_control_unnamed.false)
-    (short-is (head f) (dump f) (room f) (count_at p) ∙ lt-ltb (length (room f)) (7 * ((asked p).before.before.before.pdo-records.result.count + (asked p).before.pdo-records2.result.count)) c.if-room-p.true)
+    let s = (goal.at.returns-then-room-p c).After-second-twice in
+    let w = records s c.not_records.ensures c.if-not_records.false in
+    reads-12 (head s) (dump s) (room s) c.refused-then-room-p.ensures (ended s) w (rule s w c.rule_broken.ensures c.if-rule_broken.false)
+    (controls s c.some_control_unnamed.ensures c.if-some_control_unnamed.false) (short s w (lt-ltb _ _ c.if-room-p.true))
 
 pub put_records-requires : goal.put_records-requires
-put_records-requires c =
-    let p = passed c in
-    omega (arith, counted p, c.if-room-p.false)
-
-pub overflow_cast-p : goal.overflow_cast-p
-overflow_cast-p c =
-    let k = counts c c.if-rule_broken.false in
-    record { fits = omega arith }
+put_records-requires c = omega (arith, counted (goal.at.put_records-requires c).After-second-twice, c.if-room-p.false)
 
 pub device_of-requires : goal.device_of-requires
 device_of-requires c =
-    let k = counts c c.if-rule_broken.false in
+    let s = (goal.at.device_of-requires c).After-second-twice in
+    let w = records s c.not_records.ensures c.if-not_records.false in
+    let k = counts s w (rule s w c.rule_broken.ensures c.if-rule_broken.false) in
     (k.1, k.2)
 
 pub returns : goal.returns
 returns c =
-    let p = passed r in
-    let s = asked p in
-    let f = from r in
-    let fits = short-is (head f) (dump f) (room f) (count_at p) ∙ le-ltb (length (room f)) (7 * (s.before.before.before.pdo-records.result.count + s.before.pdo-records2.result.count)) (omega (arith, c.if-room-p.false)) in
-    let b = rule r c.if-rule_broken.false in
-    let n = controls u c.if-some_control_unnamed.false in
-    let stored = c.put_records.ensures ∙ ap (λ (ps : List Pdo). over (flat (map pdo_bytes ps)) (room f)) (pdos-at p) in
-    let held = c.device_of.ensures ∙ (λ i. device_with (head f) (map manager_for (parts_of manager_long (managers-at s i))) (map usage_for (usages-at s i)) (count_at p i)) in
-    reads-data (head f) (dump f) (room f) (ended f) (whole p) b n fits (kept f b n) held stored
+    let s = (goal.at.returns c).After-second-twice in
+    let w = records s c.not_records.ensures c.if-not_records.false in
+    let b = rule s w c.rule_broken.ensures c.if-rule_broken.false in
+    let n = controls s c.some_control_unnamed.ensures c.if-some_control_unnamed.false in
+    let fits = short s w (le-ltb _ _ c.if-room-p.false) in
+    let stored = c.put_records.ensures ∙ ap (λ (ps : List Pdo). over (flat (map pdo_bytes ps)) (room s)) (pdos-at s w) in
+    let held =
+    c.device_of.ensures
+    ∙ (λ i. device_with (head s) (map manager_for (parts_of manager_long (managers-at s i))) (map usage_for (usages-at s i)) (count_at s w i)) in
+    reads-data (head s) (dump s) (room s) (ended s) w b n fits (kept (goal.at.returns c).After-find-found b n) held stored

@@ -1,7 +1,6 @@
 -- `dump::usages_of`: after k turns the first k usages stand in the list.
 -- Assumes nothing.
 use mathlib.Core.Path.{refl, ◌∙◌, ap}
-use Prim.Native.Nat.{◌-◌}
 use native.Mathlib.Omega.{arith}
 use lib.ListN.{length, set}
 use Rattle.wire.specs.Lists.{list_of}

@@ -7,11 +7,6 @@ use Rattle.wire.specs.Image.{Bytes}
 use Rattle.dump.proofs.Sheeting.{zeros, accepted-data, writes-text, sheet-refused, sheet-written}
 use Rattle.dump.proofs.write_sheet.Goals as goal
 
--- at every call the sizes are in the range of their types
-sizes : (c : tie.After-read)
-    → (c.before.before.before.before.args.head.receive_size.0 < 65536) × (c.before.before.before.before.args.head.send_size.0 < 65536)
-sizes c = (search rules, search rules)
-
 pub returns-in-Refused : goal.returns-in-Refused
 returns-in-Refused c =
     let a = c.args in
@@ -21,8 +16,11 @@ pub returns-in-Accepted : goal.returns-in-Accepted
 returns-in-Accepted c =
     let a = c.args in
     let own = replicate {A = ℕ} 1785 0 in
-    let bytes : Bytes a.dump.now = record { below = λ k. (c.shared_slice_known-1.given k).fits } in
+    -- at every call the sizes and the lent bytes are in the range of their types
+    let receive : a.head.receive_size.0 < 65536 = search rules in
+    let send : a.head.send_size.0 < 65536 = search rules in
+    let bytes : Bytes a.dump.now = search rules in
     let e = c.in-Accepted.is in
     sheet-written a.head a.dump.now own a.room.now
-    (accepted-data a.head a.dump.now own (sizes r).0 (sizes r).1 bytes (zeros 1785) c.read-got.ensures e)
-    (writes-text a.head a.dump.now own (sizes r).0 (sizes r).1 bytes (zeros 1785) c.read-got.ensures e c.write.ensures)
+    (accepted-data a.head a.dump.now own receive send bytes (zeros 1785) c.read-got.ensures e)
+    (writes-text a.head a.dump.now own receive send bytes (zeros 1785) c.read-got.ensures e c.write.ensures)
