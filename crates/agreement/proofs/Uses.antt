@@ -77,7 +77,7 @@ own-apart : (w v : ℕ) (bits cits : ℕ → ℕ) → (w ≡ v → ⊥) → (i :
 unfolding pieces_from own
 own-apart w v bits cits n i [] = tt
 own-apart w v bits cits n i (m ∷ ms) =
-    go (either (eqb m.usage_type w)) (either (eqb m.usage_type v)) (own-apart w v bits cits n (suc i) ms)
+    go (eqb m.usage_type w) (eqb m.usage_type v) (λ e f. n (sym (eqb-true m.usage_type w e) ∙ eqb-true m.usage_type v f)) (own-apart w v bits cits n (suc i) ms)
   where
     us : List Use
     us = own (pieces_from w bits (suc i) ms)
@@ -85,13 +85,13 @@ own-apart w v bits cits n i (m ∷ ms) =
     vs : List Use
     vs = own (pieces_from v cits (suc i) ms)
 
-    go : (eqb m.usage_type w ≡ true) ⊎ (eqb m.usage_type w ≡ false) → (eqb m.usage_type v ≡ true) ⊎ (eqb m.usage_type v ≡ false)
-        → Apart (own (pieces_from w bits (suc i) ms)) (own (pieces_from v cits (suc i) ms))
-        → Apart (own (pieces_from w bits i (m ∷ ms))) (own (pieces_from v cits i (m ∷ ms)))
-    go (inl e) (inl f) a = absurd (n (sym (eqb-true m.usage_type w e) ∙ eqb-true m.usage_type v f))
-    go (inl e) (inr f) a = rw (e, f) (above v cits i ms, a)
-    go (inr e) (inl f) a = rw (e, f) (apart-flip (use_of i (record { number = i; bits = cits i; address = m.start_addr }) ∷ vs) us (above w bits i ms, apart-flip us vs a))
-    go (inr e) (inr f) a = rw (e, f) a
+    go : (b c : Bool) → (b ≡ true → c ≡ true → ⊥) → Apart (own (pieces_from w bits (suc i) ms)) (own (pieces_from v cits (suc i) ms))
+        → Apart (own (cond b (record { number = i; bits = bits i; address = m.start_addr } ∷ pieces_from w bits (suc i) ms) (pieces_from w bits (suc i) ms)))
+        (own (cond c (record { number = i; bits = cits i; address = m.start_addr } ∷ pieces_from v cits (suc i) ms) (pieces_from v cits (suc i) ms)))
+    go true true n a = absurd (n refl refl)
+    go true false n a = (above v cits i ms, a)
+    go false true n a = apart-flip (use_of i (record { number = i; bits = cits i; address = m.start_addr }) ∷ vs) us (above w bits i ms, apart-flip us vs a)
+    go false false n a = a
 
 -- entries given: each use is nonempty, and on the entry of its number
 module _ (entry : ℕ → ℕ) where
