@@ -1,4 +1,6 @@
 // A register area, sixteen entries one after the other: an entry read out, and bytes stored in place.
+#![tactic(auto)]
+
 ghost use Rattle.std.specs.Prelude.{◌≡◌, cond};
 ghost use Rattle.area.specs.Area.{area_of, entries_of, entry_at, stored_at, flat, not_entries};
 

@@ -1,4 +1,6 @@
 // src/sync_manager_channel.rs: the bytes of a channel that are made up of fields, each way.
+#![tactic(auto)]
+
 ghost use Rattle.std.specs.Prelude.{◌≡◌, cond, ◌||◌, [], ◌∷◌, ◌<◌, eqb, ltb};
 ghost use Rattle.channel_bytes.specs.Bytes as meaning;
 ghost use Rattle.channel_bytes.specs.Bytes.{mode_number, mode_at, mode_named, mode_unnamed, direction_number, direction_at, direction_named, direction_unnamed, is_unnamed, wrong_number, state_number, state_at, control_at, control_byte, status_at, status_byte, enable_at, enable_low, enable_high};

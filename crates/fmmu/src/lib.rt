@@ -1,4 +1,6 @@
 // src/fmmu.rs: one entry of the fieldbus memory management unit, its image of sixteen bytes and its text.
+#![tactic(auto)]
+
 ghost use Rattle.std.specs.Prelude.{◌≡◌};
 ghost use Rattle.wire.specs.Room.{InRoom, text_in};
 ghost use Rattle.wire.specs.Text.{page, Types};

@@ -1,4 +1,6 @@
 // The rules of the device sheet that look at its bytes alone: its length, its counts and values, its PDO records.
+#![tactic(auto)]
+
 ghost use Rattle.std.specs.Prelude.{◌≡◌, ℕ, ◌+◌, ◌*◌, ◌≤◌, ◌<◌, length, get_or, ltb};
 ghost use Rattle.wire.specs.Lists.{some_below};
 ghost use Rattle.grammar.specs.Length.{wrong_length};

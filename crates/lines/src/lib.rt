@@ -1,4 +1,6 @@
 // The text of a plan, typed line by line into lent room.
+#![tactic(auto)]
+
 ghost use Rattle.std.specs.Prelude.{[], ◌∷◌, ◌++◌, take};
 ghost use Rattle.wire.specs.Text.{page, Types};
 ghost use Rattle.pdi.specs.Segment.{segment_text};

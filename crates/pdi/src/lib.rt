@@ -1,4 +1,6 @@
 // src/pdi.rs: offsets and segments of the process data image, and the two units that they are counted in.
+#![tactic(auto)]
+
 ghost use Rattle.std.specs.Prelude.{◌≡◌};
 ghost use Rattle.wire.specs.Room.{InRoom, text_in};
 ghost use Rattle.wire.specs.Text.{page, Types};

@@ -1,4 +1,6 @@
 // The device sheet: the one form in which a bay comes in, read whole.
+#![tactic(auto)]
+
 ghost use Rattle.std.specs.Prelude.{◌≡◌, false, min, ◌+◌, ◌*◌, ◌≤◌, length};
 ghost use Rattle.wire.specs.Outcome as Outcome;
 ghost use Rattle.wire.specs.Outcome.{decide};

@@ -1,4 +1,6 @@
 // src/sync_manager_channel.rs: a sync manager channel, its image of eight bytes and its text.
+#![tactic(auto)]
+
 ghost use Rattle.std.specs.Prelude.{◌≡◌};
 ghost use Rattle.wire.specs.Room.{InRoom, text_in};
 ghost use Rattle.wire.specs.Text.{page, Types};

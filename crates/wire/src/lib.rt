@@ -1,5 +1,7 @@
 // What the crate's wire derive and its text formatting did, written out: fields of a byte, numbers of
 // several bytes, copying, and text into lent room. Every function is total.
+#![tactic(auto)]
+
 ghost use Rattle.std.specs.Prelude.{◌≡◌, cond, [], ◌∷◌, ◌++◌, ◌<◌, ◌≤◌, ◌^◌, ◌/◌, min, get_or, take, drop};
 ghost use Rattle.wire.specs.Field.{bit, flag_at};
 ghost use Rattle.wire.specs.Number.{little_at, little_of, big_at, big_of};

@@ -1,7 +1,6 @@
 -- `sheet::managers_of`: after k turns the first k sync managers stand in the list.
 -- Assumes nothing.
 use mathlib.Core.Path.{◌≡◌, refl, ◌∙◌, ap}
-use Prim.Native.Nat.{◌-◌}
 use native.Mathlib.Omega.{arith}
 use Rattle.channel_bytes.specs.Bytes.{control_at}
 use Rattle.wire.specs.Lists.{list_of}

@@ -2,8 +2,7 @@
 -- Assumes nothing.
 use mathlib.Core.Path.{◌≡◌, refl, sym, ◌∙◌, ap}
 use mathlib.Core.Bool.{Bool, true, false, ◌||◌}
-use mathlib.Core.List.{List}
-use Prim.Native.Nat.{ℕ, ◌+◌, ◌-◌}
+use Prim.Native.Nat.{◌+◌}
 use native.Mathlib.Omega.{arith}
 use Rattle.sheet.proofs.Managers.{unnamed_left, unnamed-turn, unnamed-none}
 use Rattle.sheet.proofs.some_unnamed.Goals as goal
@@ -17,8 +16,8 @@ returns-then-unnamed c =
     let s = c.args.sheet.now in
     let behind = unnamed_left s (l.k + 1) in
     let turned : true || behind ≡ unnamed_left s 0 =
-        ap (λ (x : Bool). x || behind) (sym c.if-unnamed.true)
-        ∙ sym (unnamed-turn s l.k (omega arith) c.manager_place.ensures.0 c.unpack-control.ensures c.unnamed.ensures) ∙ l.invariant.1 in
+    ap (λ (x : Bool). x || behind) (sym c.if-unnamed.true)
+    ∙ sym (unnamed-turn s l.k (omega arith) c.manager_place.ensures.0 c.unpack-control.ensures c.unnamed.ensures) ∙ l.invariant.1 in
     turned
 
 pub loop-k-preserved : goal.loop-k-preserved
@@ -27,8 +26,8 @@ loop-k-preserved c =
     let s = c.args.sheet.now in
     let behind = unnamed_left s (l.k + 1) in
     let turned : false || behind ≡ unnamed_left s 0 =
-        ap (λ (x : Bool). x || behind) (sym c.if-unnamed.false)
-        ∙ sym (unnamed-turn s l.k (omega arith) c.manager_place.ensures.0 c.unpack-control.ensures c.unnamed.ensures) ∙ l.invariant.1 in
+    ap (λ (x : Bool). x || behind) (sym c.if-unnamed.false)
+    ∙ sym (unnamed-turn s l.k (omega arith) c.manager_place.ensures.0 c.unpack-control.ensures c.unnamed.ensures) ∙ l.invariant.1 in
     (omega arith, turned)
 
 pub returns : goal.returns

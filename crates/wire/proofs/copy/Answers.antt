@@ -1,7 +1,6 @@
 -- `wire::copy`: after i turns the first i bytes of `from` stand over the front of `to`.
 -- Assumes nothing.
 use mathlib.Core.Path.{refl, ◌∙◌}
-use Prim.Native.Nat.{◌-◌}
 use native.Mathlib.Nat.{min-le_left, min-le_right}
 use native.Mathlib.Omega.{arith}
 use lib.ListN.{length, length-set}

@@ -1,7 +1,6 @@
 -- `wire::put_bytes`: typing the rest of the text where the loop stands is typing all of it from the start.
 -- Assumes nothing.
 use mathlib.Core.Path.{refl, sym, ◌∙◌}
-use Prim.Native.Nat.{◌-◌}
 use native.Mathlib.Omega.{arith}
 use Rattle.wire.specs.Text.{page}
 use Rattle.wire.proofs.Typing.{typed-turn, typed-end}

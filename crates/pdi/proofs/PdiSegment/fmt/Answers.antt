@@ -2,8 +2,7 @@
 -- Assumes nothing.
 use mathlib.Core.Path.{sym}
 use lib.Seq.{length-take-le}
-use Rattle.wire.proofs.Typing.{Holds, holds, written}
-use Rattle.pdi.specs.Segment.{segment_text}
+use Rattle.wire.proofs.Typing.{holds, written}
 use Rattle.pdi.proofs.Text.{segment-length}
 use Rattle.pdi.proofs.PdiSegment.fmt.Goals as goal
 
