@@ -1,32 +1,34 @@
 """The programs: proved and built where their sources changed, by one ./plan at a time.
 
-target/plan/ holds the lock of a build, and for each program a stamp: of what it was built from, and of the program itself.
+target/plan/ holds the lock of a build, and for each program a stamp: of what it was built from, and of the program itself, which
+`rt run` leaves in its crate's out/.
 Running needs no lock: an answer counts only if the program is the same before and after.
 """
 
 import fcntl
 import hashlib
 import os
+import re
 import select
 import signal
 import subprocess
 import time
 
-from desk.kit import ROOT, find_rt, order, rt_runs, run, sources
+from desk.kit import ROOT, find_rt, listed, order, place, rt_runs, run, sources
 from desk.progress import PATIENCE, Line, Progress, lasting
 from desk.signals import kept_back
 from desk.talk import Trouble, say, shown, watched
 
-TARGET = ROOT / "target"
-PLACE = TARGET / "plan"
+PLACE = ROOT / "target" / "plan"
 LOCK = PLACE / "lock"
+UNPROVED, ERROR = re.compile(r"fn \S+: (?:not proved|no proof)"), re.compile(r"\berror\b")
 
 
 # ---- the lock
 
 
 def taken():
-    """The lock's file, or None while another builds. A lock that `rt ci` removed with target/ counts for nothing."""
+    """The lock's file, or None while another builds. A lock that somebody removed with target/ counts for nothing."""
     try:
         PLACE.mkdir(parents=True, exist_ok=True)
         lock = os.open(LOCK, os.O_RDWR | os.O_CREAT, 0o666)
@@ -65,7 +67,7 @@ def wait_for_lock():
 def program_of(name):
     """One number for the program that is there; none where there is none."""
     try:
-        return hashlib.sha256((TARGET / "bin" / name).read_bytes()).hexdigest()
+        return hashlib.sha256(place(name).read_bytes()).hexdigest()
     except FileNotFoundError:
         return ""
 
@@ -82,7 +84,7 @@ def ready(rt, name):
 
 def write_stamp(name, stamp):
     if not program_of(name):
-        raise Trouble(f"`rt check` passed, but left no target/bin/{name}; remove target/ and try again")
+        raise Trouble(f"`rt run` passed, but left no crates/{name}/out/{name}; remove crates/{name}/out and try again")
     (PLACE / name).write_text(f"{stamp} {program_of(name)}\n")
 
 
@@ -111,14 +113,15 @@ def end(build):
         build.wait()
 
 
-def check(rt, names, lock, progress):
-    """Runs `rt check` and answers its status. It inherits the lock: if the script is killed, the build still has it."""
-    build, piped = None, {"stdin": subprocess.DEVNULL, "stdout": subprocess.PIPE, "stderr": subprocess.STDOUT}
+def prove_and_build(rt, name, lock, progress):
+    """Runs `rt run`, which proves, builds and runs the program, here on no input. Answers its status, which is the program's, 0,
+    where all is well. It inherits the lock: if the script is killed, the build still has it."""
+    build, piped = None, {"stdin": subprocess.DEVNULL, "stdout": subprocess.DEVNULL, "stderr": subprocess.PIPE}
     try:
         with kept_back():
-            command = [rt, "check", *names]
-            build = subprocess.Popen(command, cwd=ROOT, start_new_session=True, pass_fds=[lock], **piped)
-        for line in lines_of(build.stdout, progress.tick):
+            folder = ROOT / "crates" / name
+            build = subprocess.Popen([rt, "run"], cwd=folder, start_new_session=True, pass_fds=[lock], **piped)
+        for line in lines_of(build.stderr, progress.tick):
             progress.heard(line)
         return build.wait()
     except BaseException:
@@ -130,19 +133,20 @@ def check(rt, names, lock, progress):
 
 
 def reason_of(said):
-    """The line of `rt` that tells most, the first crate that wasn't proved or the last line, and where there is more."""
+    """The line of `rt` that tells most: the first function that wasn't proved, the first error, or the last line."""
     said = [line for line in said if line.strip()] or ["it printed nothing"]
-    line = next((line for line in said if "NOT PROVED" in line or "FAILED" in line), said[-1])
-    return f"{shown(line, 120)} (target/log/ has all that was said)"
+    first = next((line for line in said if UNPROVED.match(line)), None)
+    return shown(first or next((line for line in said if ERROR.search(line)), said[-1]), 120)
 
 
 def build(rt, names, lock):
     stamps = {name: sources(rt, name) for name in names}  # of before: what changes meanwhile is built again
-    progress = Progress(names, order(names))
-    status = check(rt, names, lock, progress)
-    if status:
-        raise Trouble(f"`rt check {' '.join(names)}` failed with status {status}: {reason_of(progress.said)}")
+    progress = Progress(names, order(names), listed())
     for name in names:
+        status = prove_and_build(rt, name, lock, progress)
+        if status:
+            reason = reason_of(progress.said)
+            raise Trouble(f"`rt run` in crates/{name} failed with status {status}: {reason} (run it there to see all)")
         write_stamp(name, stamps[name])
     progress.ended()
 
@@ -164,7 +168,7 @@ def answer(name, data, words=(), beside=()):
     rt = find_rt()
     while True:
         program = made_ready(rt, [name, *beside])[name]
-        ran = run(rt, name, data, words)
+        ran = run(name, data, words)
         if program_of(name) == program:
             break
     if ran.returncode:

@@ -39,9 +39,8 @@ Exit status
   130, 143, 129   interrupted (SIGINT, SIGTERM, SIGHUP); a build that was begun is ended, and goes on from there next time
 
 Where the sources changed, the program is proved and built first, with `rt`, which takes minutes the first time; standard
-error shows how far it is. Of several ./plan at once one builds and the others wait; they wait for an `rt` in this folder too.
-(`rt` itself waits for nobody: don't start it beside a build.) The programs are proved; --explain, --picture and the comments
-of --sheet are not.
+error shows how far it is. Of several ./plan at once one builds and the others wait; they wait for an `rt` in this folder too, and
+an `rt` waits for the one that builds. The programs are proved; --explain, --picture and the comments of --sheet are not.
 """
 
 PLAIN = ("--help", "-h", "--explain", "--build", "--probe", "--dump", "--raw", "--sheet")

@@ -1,4 +1,4 @@
-"""The Rattle kit: where `rt` is, what it would prove for a program, and how a program of it is run."""
+"""The Rattle kit: where `rt` is, what it would prove for a program, and where it leaves the program."""
 
 import hashlib
 import os
@@ -6,11 +6,11 @@ import shutil
 import subprocess
 from pathlib import Path
 
-from desk.talk import Trouble, shown
+from desk.talk import Trouble
 
 ROOT = Path(__file__).resolve().parent.parent
 PARTS = ("src", "specs", "proofs")  # of a crate: what a proof is about
-VERBS = ("check", "ci", "prove", "must-fail", "dev", "staticlib", "goals", "mir")  # what `rt` does in target/
+VERBS = ("check", "run", "test", "lib", "tidy", "verdict", "all", "ci", "must-fail")  # what `rt` does in an out/ of a crate
 
 
 def find_rt():
@@ -28,7 +28,7 @@ def identity(rt):
 
 
 def rt_runs():
-    """Whether somebody builds in this folder with `rt` itself, which takes no lock."""
+    """Whether somebody builds in this folder with `rt` itself, which doesn't know the lock of ./plan."""
     for process in Path("/proc").glob("[0-9]*"):
         try:
             _, rt, verb = [*(process / "cmdline").read_text(errors="replace").split("\0"), "", "", ""][:3]
@@ -51,7 +51,7 @@ def listed():
 
 
 def order(names):
-    """The crates that are proved for these programs, as `rt` takes them: level by level."""
+    """The crates that are proved for these programs, each behind all that it rests on: level by level."""
     crates, level = listed(), {}
 
     def visit(name):
@@ -81,19 +81,11 @@ def sources(rt, name):
     return whole.hexdigest()
 
 
-def command(rt, name):
-    """A program runs as `rt` runs it: under the kit's loader and C library, and its emulator where it has one."""
-    home = Path(os.environ.get("RATTLE_HOME") or Path(rt).resolve().parent.parent)
-    tools = home / "on" / os.uname().machine / "toolchain"
-    loader, emulator = tools / "lib" / "ld-linux-x86-64.so.2", tools / "bin" / "qemu-x86_64"
-    if not loader.exists():
-        raise Trouble(f"the kit at {shown(str(home))} has nothing for this machine, {os.uname().machine}")
-    before = [emulator] if os.access(emulator, os.X_OK) else []
-    return [*before, loader, "--library-path", tools / "lib", ROOT / "target" / "bin" / name]
+def place(name):
+    """Where `rt run` leaves a program. It is run as it is, with the machine's own loader and C library."""
+    return ROOT / "crates" / name / "out" / name
 
 
-def run(rt, name, data, words=()):
+def run(name, data, words=()):
     """Runs the program on this input, with these words behind its name."""
-    environment = {word: value for word, value in os.environ.items() if not word.startswith("QEMU_")}
-    piped = {"stdout": subprocess.PIPE, "stderr": subprocess.PIPE}
-    return subprocess.run([*command(rt, name), *words], input=data, env=environment, **piped)
+    return subprocess.run([place(name), *words], input=data, stdout=subprocess.PIPE, stderr=subprocess.PIPE)

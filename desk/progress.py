@@ -7,7 +7,10 @@ import time
 from desk.talk import ERR, in_a_row, say, watched, whisper
 
 PATIENCE = 3  # seconds before a person is told why nothing happens
-PROVED = re.compile(r"rt: (\w+) proved \((unchanged)?")
+# what `rt run` prints of each crate that isn't as it left it: at its beginning; how much of it was new; that it is proved
+BEGUN = re.compile(r"rt: chose --jobs \d+ for (\w+)")
+CHECKED = re.compile(r"crate (\w+): modules loaded=\d+ checked=(\d+)")
+PROVED = "logic=proved "
 
 
 def lasting(seconds):
@@ -33,11 +36,11 @@ class Line:
 
 
 class Progress:
-    """Takes what `rt check` prints line by line, and shows which crate it is at."""
+    """Takes what `rt run` prints line by line, and shows which crate it is at. Of a crate that hasn't changed it says nothing."""
 
-    def __init__(self, names, crates):
-        self.what = in_a_row(names)
-        self.left, self.all = list(crates), len(crates)
+    def __init__(self, names, crates, below):
+        self.what, self.below = in_a_row(names), below
+        self.left, self.all, self.at, self.new = list(crates), len(crates), "", 0
         self.began, self.told, self.line, self.said = time.monotonic(), False, Line(), []
 
     def so_far(self):
@@ -53,18 +56,25 @@ class Progress:
     def tick(self):
         if time.monotonic() - self.began > PATIENCE:
             self.tell()
-        at = f"proving {self.left[0]}, {self.all - len(self.left) + 1} of {self.all}" if self.left else f"trying {self.what}"
+        at = f"building {self.what}"
+        if self.at in self.left:
+            at = f"proving {self.at}, {self.all - len(self.left) + 1} of {self.all}"
         self.line.renew(f"plan: {at}, {self.so_far()} so far")
 
     def heard(self, line):
         self.said.append(line)
-        proved = PROVED.match(line)
-        if proved and proved[1] in self.left:
-            self.left.remove(proved[1])
-            if not proved[2]:
+        begun, checked = BEGUN.match(line), CHECKED.match(line)
+        if begun:
+            self.at = begun[1]
+            self.left = [crate for crate in self.left if crate not in self.below.get(self.at, ())]
+        if checked:
+            self.new = int(checked[2])
+        if line.startswith(PROVED) and self.at in self.left:
+            self.left.remove(self.at)
+            if self.new:
                 self.tell()
                 if not watched():
-                    say(f"{proved[1]} is proved, {self.all - len(self.left)} of {self.all}, {self.so_far()} so far")
+                    say(f"{self.at} is proved, {self.all - len(self.left)} of {self.all}, {self.so_far()} so far")
 
     def ended(self):
         self.line.clear()

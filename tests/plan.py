@@ -274,14 +274,14 @@ def refused_dumps(fake):
 
 
 def dump_builds(fake):
-    """Both programs of a dump are built at once; for a sheet of it one is enough."""
+    """Both programs of a dump are built before either runs; for a sheet of it one is enough."""
     sheet = dump_sheet(Dump(b"\xff\xff"))
     fake.write("kit/answer-lockersheet", sheet)
     path = fake.write("dump.hex", "ff ff\n")
-    for words, built in (((), "lockersheet lockerplan"), (("--sheet",), "lockersheet")):
+    for words, built in (((), ["lockersheet", "lockerplan"]), (("--sheet",), ["lockersheet"])):
         fake.forget()
         ran = fake.run("--dump", *words, path)
-        yield f"--dump {' '.join(words)} builds {built}", same((ran.status, fake.builds()), (0, [built]))
+        yield f"--dump {' '.join(words)} builds {' and '.join(built)}", same((ran.status, fake.builds()), (0, built))
     (fake.kit / "answer-lockersheet").unlink()
 
 
@@ -292,15 +292,16 @@ def build_needed(fake):
     """Whether each change makes a build necessary."""
     fake.forget()
     fake.run(fake.sheet)
-    program, source = fake.project / "target/bin/lockerplan", fake.project / "crates/low/src/lib.rt"
+    program, source = fake.project / "crates/lockerplan/out/lockerplan", fake.project / "crates/low/src/lib.rt"
     for what, change, needed in (
         ("nothing changed", lambda: None, 0),
         ("a source changed", lambda: source.write_text("// other\n"), 1),
-        ("a proof was added", lambda: fake.write("project/crates/high/proofs/f/Proof.antt", "-- new\n"), 1),
+        ("a proof was added", lambda: fake.write("project/crates/high/proofs/f/Answers.antt", "-- new\n"), 1),
         ("a crate that it doesn't rest on changed", lambda: fake.write("project/crates/probe/src/lib.rt", "// new\n"), 0),
         ("crates.txt changed", lambda: fake.write("project/crates.txt", CRATES.replace(" io", "")), 1),
         ("rt is another", lambda: fake.write("kit/version", "fake 2\n"), 1),
         ("the program is another", lambda: program.write_text("#!/bin/sh\necho inputs wrong\n"), 1),
+        ("the program was removed", program.unlink, 1),
         ("target/ was removed", lambda: subprocess.run(["rm", "-r", fake.project / "target"]), 1),
     ):
         before = len(fake.builds())
@@ -331,7 +332,7 @@ def builds(fake):
     ran = fake.run("--build")
     after = fake.run(fake.sheet).status, fake.run("--probe", fake.sheet).status
     got = ran.status, *after, fake.builds(), "lockerplan, lockersheet and probe are ready" in ran.err
-    yield "--build makes all three ready, with one build", same(got, (0, 0, 0, ["lockerplan lockersheet probe"], True))
+    yield "--build makes all three ready, one after the other", same(got, (0, 0, 0, ["lockerplan", "lockersheet", "probe"], True))
     fake.write("project/crates/probe/src/lib.rt", "// changed\n")
     fake.write("kit/pause", "1")
     other = fake.start("--probe", fake.sheet)
@@ -344,8 +345,11 @@ def builds(fake):
 
 def failed_builds(fake):
     fake.forget()
-    fake.write("kit/fails", "noise\nrt: low NOT PROVED (exit 1)\nrt: high NOT PROVED: its dependency low\n")
-    yield "a build that fails says why", line_of(fake.run(fake.sheet), "with status 1: rt: low NOT PROVED (exit 1)")
+    noise = "./proofs/f/Answers.antt:8:13: error: noise\n", "logic=not-proved\nrt: the library low did not build\n"
+    fake.write("kit/fails", f"{noise[0]}fn low::f: not proved\n{noise[1]}")
+    yield "a build that fails says why", line_of(fake.run(fake.sheet), "with status 1: fn low::f: not proved (run it there")
+    fake.write("kit/fails", "noise\nsrc/lib.rt:1:1: error[unclosed]: no end\nrt: mend these first: no library was built\n")
+    yield "so does one of a source that can't be read", line_of(fake.run(fake.sheet), "1: src/lib.rt:1:1: error[unclosed]")
     (fake.kit / "fails").unlink()
     yield "and is tried again", same(fake.run(fake.sheet).status, 0)
     fake.forget()
@@ -363,11 +367,11 @@ def failed_builds(fake):
 
 
 def beside_rt(fake):
-    """`rt` run by hand takes no lock."""
+    """`rt` run by hand doesn't know the script's lock."""
     fake.forget()
     fake.write("kit/pause", "0.5")
-    words = [fake.kit / "bin/rt", "check", "probe"]
-    by_hand = subprocess.Popen(words, cwd=fake.project, env=fake.environment(), stdout=subprocess.PIPE)
+    words, folder = [fake.kit / "bin/rt", "run"], fake.project / "crates/probe"
+    by_hand = subprocess.Popen(words, cwd=folder, env=fake.environment(), stderr=subprocess.PIPE)
     while not fake.builds():
         time.sleep(0.05)
     ran = fake.run(fake.sheet)

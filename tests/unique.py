@@ -3,9 +3,9 @@
 
 A public function is a `pub fn` of crates/NAME/src, free or in an `impl`; what a crate passes on counts where it is
 defined. Its instance is a declaration of the crate's proofs/Unique.antt of the type `Pins CONTRACT LOOK`. The contract
-is the one generated for the function (`use ..FUNCTION.Reads as f`, `f.Post`); of a function that is walked it is an
-`abbrev` of which a `States` says that it is what the source states. The look has to see the answer and each place that
-is lent to be written. Prints what is missing or wrong, and fails where anything is. That an instance holds is for the
+is the one generated for the function (`use ..FUNCTION.Reads as f`, `f.Post`), or it is written out, as an `abbrev` of
+which a `States` says that it is what the source states. The look has to see the answer and each place that is lent to
+be written. Prints what is missing or wrong, and fails where anything is. That an instance holds is for the
 check to say.
 """
 
@@ -79,7 +79,7 @@ def statements(path):
 USE = re.compile(r"use (\S+) as (\S+)$")
 PINS = re.compile(r"(?:pub )?(\S+) : Pins (\S+) \(λ \S+ (\S+) (\S+)\. (.*)\)$")
 SAYING = re.compile(r"abbrev (?:pub )?(\S+) : Saying (\S+)\.ended$")
-STATES = re.compile(r"(?:pub )?\S+ : States (\S+)\.ended \(λ \S+ (\S+) (\S+)\. (\S+)\.clauses \2 \3\) (\S+)$")
+STATES = re.compile(r"(?:pub )?\S+ : States (\S+)\.ended \(λ \S+ \S+ (\S+)\. (\S+)\.clauses (?:\S+ )?\2\) (\S+)$")
 
 
 class Unique:
@@ -87,11 +87,11 @@ class Unique:
 
     def __init__(self, crate):
         self.file = f"crates/{crate}/proofs/Unique.antt"
-        self.root = f"Rattle·{crate}·proofs.proofs."
+        self.read, self.written = f"Rattle.{crate}.proofs.", f"Rattle.{crate}.specs.contracts."
         lines = statements(ROOT / self.file)
         self.modules = {name: path for path, name in self.found(USE, lines)}
         self.sayings = dict(self.found(SAYING, lines))
-        self.stated = {(name, post) for name, _, _, source, post in self.found(STATES, lines) if name == source}
+        self.stated = {(name, post) for name, _, source, post in self.found(STATES, lines) if name == source}
         self.pins = self.found(PINS, lines)
 
     @staticmethod
@@ -100,21 +100,21 @@ class Unique:
 
     def function(self, contract):
         """The path of the function whose contract this is, or nothing."""
-        walked = contract in self.sayings
-        name = self.sayings[contract] if walked else contract.removesuffix(".Post")
-        ending = "" if walked else ".Reads"
+        written_out = contract in self.sayings
+        name = self.sayings[contract] if written_out else contract.removesuffix(".Post")
+        root, ending = (self.written, "") if written_out else (self.read, ".Reads")
         module = self.modules.get(name, "")
-        if walked and (name, contract) not in self.stated:
+        if written_out and (name, contract) not in self.stated:
             return None
-        if not module.startswith(self.root) or not module.endswith(ending):
+        if not module.startswith(root) or not module.endswith(ending):
             return None
-        return module.removeprefix(self.root).removesuffix(ending)
+        return module.removeprefix(root).removesuffix(ending)
 
     def instances(self):
         """Each instance: its name, the function's path, whether the look sees the answer, how many places it sees."""
         for name, contract, result, places, look in self.pins:
-            seen = set(re.findall(rf"now \({re.escape(places)}([ .0-9]*)\)", look))
-            yield name, self.function(contract), result in re.split(r"[\s()]+", look), len(seen)
+            seen = set(re.findall(rf"\b{re.escape(places)}((?:\.[0-9]+)*)\.now\b", look))
+            yield name, self.function(contract), result in re.split(r"[\s().]+", look), len(seen)
 
 
 def wrong_instances(unique, public):

@@ -1,10 +1,11 @@
 #!/usr/bin/env python3
 """Lists the names that a file brings in and doesn't use: `python3 tests/unused.py`.
 
-Looks at each .antt and .rt file of crates/ and prints file, line and name; what is passed on (`pub use`) is left out.
-Fails where there is any. An operator `_+_` is used as `+`, `_+_`, `_+` or `+_`; a module that is brought in under a
-name is used before a dot; a field or member right behind a dot, a record's field that is set and an argument given by
-its name use none. A name that only a bound variable shares isn't found.
+Looks at each .antt and .rt file of crates/ and prints file, line and name; what is passed on (`pub use`) is left out, and
+what code brings in of std, where a trait's name is used by its methods. Fails where there is any. An operator `◌+◌` is
+used as `+`, `◌+◌`, `◌+` or `+◌`; a module that is brought in under a name is used before a dot; a field or member right
+behind a dot, a record's field that is set and an argument given by its name use none. A name that only a bound variable
+shares isn't found.
 """
 
 import re
@@ -73,7 +74,7 @@ def words(text):
     for found in WORD.finditer(text):
         if found.start() and text[found.start() - 1] == ".":
             continue
-        name = found[1] if found[1] and "_" not in found[1] else found[0]
+        name = found[1] or found[0]
         alone.add(name)
         if re.match(r"\.\S", text[found.end() : found.end() + 2]):
             heads.add(name)
@@ -81,19 +82,19 @@ def words(text):
 
 
 def plain(name):
-    """`«x»` is `x`, but where it has a `_`."""
-    return name[1:-1] if name.startswith("«") and "_" not in name else name
+    """`«x»` is `x`."""
+    return name[1:-1] if name.startswith("«") else name
 
 
 def written(name):
     """The ways in which a name is written: by itself, and an operator by its parts."""
     yield {name}
-    parts = {part for part in name.split("_") if part}
-    if "_" in name and not name.startswith("«"):
+    parts = {part for part in name.split("◌") if part}
+    if "◌" in name:
         yield parts
         if len(parts) == 1:
             part = parts.pop()
-            yield from ({"_" + part}, {part + "_"})
+            yield from ({"◌" + part}, {part + "◌"})
 
 
 def unused_antt(names, text, paths):
@@ -122,7 +123,7 @@ def unused_in_antt(text):
 def clauses(text):
     """A source's contracts, and the source without them."""
     said = ""
-    for found in re.finditer(r"^\s*(?:ghost|requires|ensures) \{", text, re.M):
+    for found in re.finditer(r"^\s*(?:ghost(?! use)|requires|ensures)\b[^{};]*\{", text, re.M):
         end, depth = found.end(), 1
         while depth:
             depth += {"{": 1, "}": -1}.get(text[end], 0)
@@ -135,7 +136,7 @@ def clauses(text):
 def unused_in_rust(text):
     text = without(r"//[^\n]*", text)
     ghosts, text, paths = taken(GHOST_USE, text)
-    names, text, _ = taken(RUST_USE, text)
+    names, text, _ = taken(RUST_USE, without(r"^use std::[^;]*;", text))
     all_read(text)
     said, text = clauses(text)
     yield from unused_antt(ghosts, said, paths)
@@ -143,10 +144,15 @@ def unused_in_rust(text):
     yield from (brought for brought in names if brought.name not in code)
 
 
+def is_made(path):
+    """Whether rt made the file, in the out/ of its crate."""
+    return "out" in path.relative_to(ROOT).parts
+
+
 def main():
     count = 0
     for path in sorted([*ROOT.glob("crates/**/*.antt"), *ROOT.glob("crates/**/*.rt")]):
-        text = path.read_text()
+        text = "" if is_made(path) else path.read_text()
         for brought in (unused_in_antt if path.suffix == ".antt" else unused_in_rust)(text):
             count += 1
             print(f"{path.relative_to(ROOT)}:{text.count(chr(10), 0, brought.at) + 1}: {brought.name}")
