@@ -1,10 +1,15 @@
 // Makes a bay's sheet from its dump: the dump on standard input, what it doesn't say as arguments, the sheet on standard output.
+#![tactic(auto)]
+
 ghost use Rattle.std.specs.Prelude.{◌≡◌, ◌≤◌};
+ghost use Rattle.std.specs.Io.{ReadsAtMost};
 ghost use Rattle.lockersheet.specs.Decimal.{number_in};
 
 use dump::Head;
-use libc::{STDERR_FILENO, STDIN_FILENO, STDOUT_FILENO};
 use pdi::ByteLen;
+use std::env::{Env, FillError};
+use std::io;
+use std::io::Read;
 use wire::Written;
 
 // What an argument says: its number, where it is sound.
@@ -50,78 +55,103 @@ fn decimal(text: &[u8], most: u16) -> Number
 }
 
 // An argument that is missing, or longer than eight bytes, comes as no bytes, which are no number.
-fn argument(i: usize, most: u16) -> Number
+fn argument(rt: &impl Env, i: usize, most: u16) -> Number
     ensures { result.value ≤ most }
 {
     let mut text = [0u8; 8];
-    let n = os::arg(i, &mut text);
+    let n = rt.arg(i, &mut text).unwrap_or(0);
     decimal(&text[..n], most)
 }
 
-fn complain(text: &[u8]) {
-    io::write_all(STDERR_FILENO, text);
+// How many arguments came; the program's own name counts too.
+fn arg_count(rt: &impl Env) -> usize {
+    for i in 0..usize::MAX {
+        if let Err(FillError::NotPresent) = rt.arg(i, &mut []) {
+            return i;
+        }
+    }
+    usize::MAX
 }
 
-fn usage() {
+fn complain(rt: &impl Eprint, text: &str) -> io::Result<()> {
+    rt.eprint(text)
+}
+
+fn usage(rt: &impl Eprint) -> io::Result<()> {
     complain(
-        b"usage: lockersheet FLAGS RECEIVE SEND <DUMP >SHEET; give three decimal numbers, flags up to 255 and sizes up to 65535, or none\n",
-    );
+        rt,
+        "usage: lockersheet FLAGS RECEIVE SEND <DUMP >SHEET; give three decimal numbers, flags up to 255 and sizes up to 65535, or none\n",
+    )
 }
 
-fn tell(answer: Written, room: &[u8]) {
+fn tell(rt: &impl Print, answer: Written, room: &[u8]) -> io::Result<()> {
     match answer {
-        Written::Len(length) => {
-            io::write_all(STDOUT_FILENO, wire::front(room, length));
-        }
-        Written::Refused(number) => {
-            io::write_all(STDOUT_FILENO, b"refused ");
-            io::print_decimal(STDOUT_FILENO, number as u64);
-            io::write_all(STDOUT_FILENO, b"\n");
-        }
+        Written::Len(length) => rt.write_all(wire::front(room, length)),
+        Written::Refused(number) => println!(rt; "refused {number}"),
     }
 }
 
 // The longest sheet of a dump has 1,892 bytes.
-fn write(dump: &[u8], head: Head) {
+fn write(rt: &impl Print, dump: &[u8], head: Head) -> io::Result<()> {
     let mut room = [0u8; 1892];
     let answer = dump::write_sheet(dump, head, &mut room);
-    tell(answer, &room);
+    tell(rt, answer, &room)
+}
+
+// Reads until the buffer is full or the input ends, and says how many bytes came.
+fn read_full(input: &mut impl Read, buffer: &mut [u8]) -> io::Result<usize>
+    ensures { ReadsAtMost result buffer.new }
+{
+    let mut done = 0;
+    while done < buffer.len() {
+        let n = input.read(&mut buffer[done..])?;
+        if n == 0 {
+            break;
+        }
+        done += n;
+    }
+    Ok(done)
 }
 
 // The largest EEPROM has 4 Mbit, which is 524,288 bytes: one more, so that a longer dump is seen.
-fn convert(head: Head) {
+fn convert(rt: &(impl Print + Eprint), input: &mut impl Read, head: Head) -> io::Result<()> {
     let mut dump = [0u8; 524289];
-    let n = io::read_full(STDIN_FILENO, &mut dump);
+    let n = read_full(input, &mut dump)?;
     if 524288 < n {
-        complain(
-            b"lockersheet: more than 524,288 bytes came, and no EEPROM has more; give it one dump of the category area\n",
+        return complain(
+            rt,
+            "lockersheet: more than 524,288 bytes came, and no EEPROM has more; give it one dump of the category area\n",
         );
-        return;
     }
-    write(&dump[..n], head);
+    write(rt, &dump[..n], head)
 }
 
-fn main() {
-    // the program's own name counts too
-    let count = os::arg_count();
+fn main(rt: HostRuntime) -> io::Result<()> {
+    let count = arg_count(&rt);
     if count < 2 {
-        convert(Head {
-            flags: 0,
-            receive_size: ByteLen(0),
-            send_size: ByteLen(0),
-        });
-        return;
+        return convert(
+            &rt,
+            &mut rt.stdin(),
+            Head {
+                flags: 0,
+                receive_size: ByteLen(0),
+                send_size: ByteLen(0),
+            },
+        );
     }
-    let flags = argument(1, 255);
-    let receive = argument(2, 65535);
-    let send = argument(3, 65535);
+    let flags = argument(&rt, 1, 255);
+    let receive = argument(&rt, 2, 65535);
+    let send = argument(&rt, 3, 65535);
     if count == 4 && flags.sound && receive.sound && send.sound {
-        convert(Head {
-            flags: flags.value as u8,
-            receive_size: ByteLen(receive.value),
-            send_size: ByteLen(send.value),
-        });
-        return;
+        return convert(
+            &rt,
+            &mut rt.stdin(),
+            Head {
+                flags: flags.value as u8,
+                receive_size: ByteLen(receive.value),
+                send_size: ByteLen(send.value),
+            },
+        );
     }
-    usage();
+    usage(&rt)
 }

@@ -1,47 +1,53 @@
 // The entry points for a sheet that comes in portions.
 use crate::say::Line;
 use crate::{bays, numbers, parts, say};
-use libc::STDOUT_FILENO;
 use portions::{State, Taken};
 use sheet::{Answer, Device, SheetRead, SyncManager};
+use std::io;
 
 // What a call answered, and the state that it handed back.
-fn tell(taken: Taken) {
+fn tell(rt: &impl Print, taken: Taken) -> io::Result<()> {
     let answer = taken.answer;
     let state = taken.state;
     match answer {
-        Answer::Accepted => say::text(b"ok"),
+        Answer::Accepted => say::text(rt, b"ok")?,
         Answer::Refused(number) => {
-            say::text(b"r");
-            io::print_decimal(STDOUT_FILENO, number as u64);
+            say::text(rt, b"r")?;
+            rt.print(number as u64)?;
         }
     }
-    say::text(b"/");
-    io::print_decimal(STDOUT_FILENO, state.held as u64);
-    say::text(b"/");
-    io::print_decimal(STDOUT_FILENO, state.surplus as u64);
-    say::text(b" ");
+    say::text(rt, b"/")?;
+    rt.print(state.held as u64)?;
+    say::text(rt, b"/")?;
+    rt.print(state.surplus as u64)?;
+    say::text(rt, b" ")
 }
 
 // A call, which is lent the front of the room.
-fn call(state: State, portion: &[u8], room: &mut [u8], size: usize) -> State {
+fn call(
+    rt: &impl Print,
+    state: State,
+    portion: &[u8],
+    room: &mut [u8],
+    size: usize,
+) -> io::Result<State> {
     let taken = portions::take(state, portion, parts::front_mut(room, size));
-    tell(taken);
-    taken.state
+    tell(rt, taken)?;
+    Ok(taken.state)
 }
 
 // One call after the other: the length of the room lent (2), the length of the portion (2), the portion.
-fn call_by_call(first: State, calls: &[u8], room: &mut [u8]) -> State {
+fn call_by_call(rt: &impl Print, first: State, calls: &[u8], room: &mut [u8]) -> io::Result<State> {
     let mut state = first;
     let mut at = 0;
     while at < calls.len() {
         let head = parts::part(calls, at, 4);
         let size = parts::number2(head, 2) as usize;
         let portion = parts::part(calls, at + 4, size);
-        state = call(state, portion, room, parts::number2(head, 0) as usize);
+        state = call(rt, state, portion, room, parts::number2(head, 0) as usize)?;
         at += 4 + size;
     }
-    state
+    Ok(state)
 }
 
 // What a byte of the room was before the first call.
@@ -78,16 +84,15 @@ fn changed_to(first: &[u8], room: &[u8]) -> usize {
 }
 
 // What was written in the room: its place and its bytes.
-fn written(first: &[u8], room: &[u8]) {
+fn written(rt: &impl Print, first: &[u8], room: &[u8]) -> io::Result<()> {
     let end = changed_to(first, room);
     if end == 0 {
-        say::text(b" -");
-        return;
+        return say::text(rt, b" -");
     }
     let from = changed_from(first, room);
-    say::item(from as u64);
+    say::item(rt, from as u64)?;
     // as many as there are behind `from`, which are fewer than `end`
-    say::then_bytes(parts::part(wire::front(room, end), from, end));
+    say::then_bytes(rt, parts::part(wire::front(room, end), from, end))
 }
 
 // The state that a request makes up.
@@ -99,18 +104,18 @@ fn made_up(request: &[u8]) -> State {
 }
 
 // From a made-up state call by call, then the end.
-fn calls_in(request: &[u8], room: &mut [u8]) {
+fn calls_in(rt: &impl Print, request: &[u8], room: &mut [u8]) -> io::Result<()> {
     let first = parts::fmmus(request);
     wire::copy(first, room);
-    let state = call_by_call(made_up(request), parts::sheet(request), room);
+    let state = call_by_call(rt, made_up(request), parts::sheet(request), room)?;
     let size = parts::number2(request, 2) as usize;
-    bays::tell_read(portions::end(state, wire::front(room, size)));
-    written(first, room);
+    bays::tell_read(rt, portions::end(state, wire::front(room, size)))?;
+    written(rt, first, room)
 }
 
-pub fn calls(request: &[u8]) {
+pub fn calls(rt: &impl Print, request: &[u8]) -> io::Result<()> {
     let mut room = [0xffu8; 20480];
-    calls_in(request, &mut room);
+    calls_in(rt, request, &mut room)
 }
 
 // How a sheet is cut: the first portion, each later one, and whether an empty one follows each.

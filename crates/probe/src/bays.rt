@@ -8,107 +8,116 @@ use passes::{FmmuMode, FmmuPair, Offsets, OldEntries, OutputStart, Segments, Set
 use pdi::PdiOffset;
 use pdo::Oversampling;
 use sheet::{Answer, Device, SheetRead, SyncManager};
+use std::io;
 use translation::{Reached, Translated};
 use wire::Written;
 
 // A sync manager of a sheet: address, control byte, ENABLE, usage.
-fn manager(m: SyncManager) {
+fn manager(rt: &impl Print, m: SyncManager) -> io::Result<()> {
     let control = m.control;
-    say::item(m.start_addr as u64);
-    say::item(say::SLASH + say::HEX + (control.pack() as u64));
-    say::item(say::SLASH + (wire::bit_of(m.enable) as u64));
-    say::item(say::SLASH + (m.usage_type as u64));
+    say::item(rt, m.start_addr as u64)?;
+    say::item(rt, say::SLASH + say::HEX + (control.pack() as u64))?;
+    say::item(rt, say::SLASH + (wire::bit_of(m.enable) as u64))?;
+    say::item(rt, say::SLASH + (m.usage_type as u64))
 }
 
-fn managers(list: [SyncManager; 16], n: usize) {
+fn managers(rt: &impl Print, list: [SyncManager; 16], n: usize) -> io::Result<()> {
     let count = wire::least(n, 16);
     let mut k = 0;
     while k < count {
         let m = list[k];
-        manager(m);
+        manager(rt, m)?;
         k += 1;
     }
+    Ok(())
 }
 
-fn usages(list: [u8; 16], f: usize) {
+fn usages(rt: &impl Print, list: [u8; 16], f: usize) -> io::Result<()> {
     let count = wire::least(f, 16);
     let mut k = 0;
     while k < count {
-        say::item(list[k] as u64);
+        say::item(rt, list[k] as u64)?;
         k += 1;
     }
+    Ok(())
 }
 
 // Device data, as far as it counts.
-pub fn device(d: Device) {
+pub fn device(rt: &impl Print, d: Device) -> io::Result<()> {
     let list = d.managers;
     let codes = d.usages;
-    say::line([
-        d.has_mailbox as u64,
-        d.coe_protocol as u64,
-        d.complete_access as u64,
-        d.receive_size.0 as u64,
-        d.send_size.0 as u64,
-        say::MANAGERS,
-        say::END,
-        say::END,
-    ]);
-    managers(list, d.n);
-    say::item(say::USAGES);
-    usages(codes, d.f);
-    say::item(say::PDOS);
-    say::item(d.p as u64);
+    say::line(
+        rt,
+        [
+            d.has_mailbox as u64,
+            d.coe_protocol as u64,
+            d.complete_access as u64,
+            d.receive_size.0 as u64,
+            d.send_size.0 as u64,
+            say::MANAGERS,
+            say::END,
+            say::END,
+        ],
+    )?;
+    managers(rt, list, d.n)?;
+    say::item(rt, say::USAGES)?;
+    usages(rt, codes, d.f)?;
+    say::item(rt, say::PDOS)?;
+    say::item(rt, d.p as u64)
 }
 
 // What reading a sheet answered.
-pub fn tell_read(read: SheetRead) {
+pub fn tell_read(rt: &impl Print, read: SheetRead) -> io::Result<()> {
     let answer = read.answer;
     let d = read.device;
     match answer {
-        Answer::Refused(number) => say::refuse(number),
-        Answer::Accepted => device(d),
+        Answer::Refused(number) => say::refuse(rt, number),
+        Answer::Accepted => device(rt, d),
     }
 }
 
-pub fn read(request: &[u8]) {
-    tell_read(sheet::read(parts::sheet(request)));
+pub fn read(rt: &impl Print, request: &[u8]) -> io::Result<()> {
+    tell_read(rt, sheet::read(parts::sheet(request)))
 }
 
 // A mailbox: address, size, sync manager.
-fn slot(slot: Slot) {
+fn slot(rt: &impl Print, slot: Slot) -> io::Result<()> {
     match slot {
-        Slot::None => say::item(say::NONE),
+        Slot::None => say::item(rt, say::NONE),
         Slot::At(mailbox) => {
-            say::item(mailbox.address as u64);
-            say::item(say::SLASH + (mailbox.len.0 as u64));
-            say::item(say::SLASH + (mailbox.sync_manager as u64));
+            say::item(rt, mailbox.address as u64)?;
+            say::item(rt, say::SLASH + (mailbox.len.0 as u64))?;
+            say::item(rt, say::SLASH + (mailbox.sync_manager as u64))
         }
     }
 }
 
-fn config(c: MailboxConfig) {
+fn config(rt: &impl Print, c: MailboxConfig) -> io::Result<()> {
     let read = c.read;
     let write = c.write;
-    say::put_item(say::OK);
-    slot(read);
-    slot(write);
-    say::item(c.has_coe as u64);
-    say::item(c.complete_access as u64);
+    say::put_item(rt, say::OK)?;
+    slot(rt, read)?;
+    slot(rt, write)?;
+    say::item(rt, c.has_coe as u64)?;
+    say::item(rt, c.complete_access as u64)
 }
 
-fn recorded(answer: MailboxAnswer) {
+fn recorded(rt: &impl Print, answer: MailboxAnswer) -> io::Result<()> {
     match answer {
-        MailboxAnswer::Config(c) => config(c),
-        MailboxAnswer::Refused(number) => say::refuse(number),
+        MailboxAnswer::Config(c) => config(rt, c),
+        MailboxAnswer::Refused(number) => say::refuse(rt, number),
     }
 }
 
 // The mailbox pass, over a copy of the channel part.
-pub fn mailboxes(request: &[u8]) {
+pub fn mailboxes(rt: &impl Print, request: &[u8]) -> io::Result<()> {
     let mut space = [0u8; 512];
     let channels = parts::copied(parts::channels(request), &mut space);
-    recorded(mailboxes::configure_mailboxes(parts::sheet(request), channels));
-    say::then_bytes(channels);
+    recorded(
+        rt,
+        mailboxes::configure_mailboxes(parts::sheet(request), channels),
+    )?;
+    say::then_bytes(rt, channels)
 }
 
 // Both segments, then both offsets as they stand.
@@ -153,14 +162,14 @@ fn both_directions(
 }
 
 // The call, over copies of the FMMU bytes behind the pairs and of the channel part.
-pub fn call(request: &[u8], settings: Settings) {
+pub fn call(rt: &impl Print, request: &[u8], settings: Settings) -> io::Result<()> {
     let mut entries = [0u8; 512];
     let mut images = [0u8; 512];
     let fmmus = parts::copied(parts::behind_pairs(request), &mut entries);
     let channels = parts::copied(parts::channels(request), &mut images);
-    say::line(both_directions(request, fmmus, channels, settings));
-    say::then_bytes(fmmus);
-    say::then_bytes(channels);
+    say::line(rt, both_directions(request, fmmus, channels, settings))?;
+    say::then_bytes(rt, fmmus)?;
+    say::then_bytes(rt, channels)
 }
 
 // A device address, or none.
@@ -251,14 +260,14 @@ fn without_end(answer: Written) -> usize {
 }
 
 // What lockerplan prints for the sheet; where areas are given, over those.
-pub fn plan(request: &[u8]) {
+pub fn plan(rt: &impl Print, request: &[u8]) -> io::Result<()> {
     let mut fmmus = [0u8; 256];
     let mut channels = [0u8; 128];
     wire::copy(parts::fmmus(request), &mut fmmus);
     wire::copy(parts::channels(request), &mut channels);
     let mut text = [0u8; 4096];
     let answer = report::report(parts::sheet(request), fmmus, channels, &mut text);
-    say::text(wire::front(&text, without_end(answer)));
+    say::text(rt, wire::front(&text, without_end(answer)))
 }
 
 // How many records and pairs count of what a plan is lent, and which entries it uses.
@@ -359,7 +368,7 @@ fn lent_of(request: &[u8], mode: FmmuMode) -> Lent {
 }
 
 // The same plan over and over, for whoever counts its cost.
-pub fn again(request: &[u8], mode: FmmuMode) {
+pub fn again(rt: &impl Print, request: &[u8], mode: FmmuMode) -> io::Result<()> {
     let sheet = parts::sheet(request);
     let table = parts::table(request);
     let pairs = parts::pairs(request);
@@ -370,5 +379,5 @@ pub fn again(request: &[u8], mode: FmmuMode) {
         last = plan_once(sheet, table, pairs, lent);
         left -= 1;
     }
-    say::line(last);
+    say::line(rt, last)
 }

@@ -3,6 +3,7 @@ use crate::{bays, parts, writing};
 use dump::Head;
 use pdi::ByteLen;
 use sheet::{Answer, SheetRead};
+use std::io;
 use wire::Written;
 
 // What a request says and a dump doesn't: the flags in byte 1, the mailboxes' sizes in b.
@@ -15,14 +16,14 @@ fn head(request: &[u8]) -> Head {
 }
 
 // What reading answered, and the room, at whose front the PDO records stand.
-fn tell(read: SheetRead, room: &[u8]) {
+fn tell(rt: &impl Print, read: SheetRead, room: &[u8]) -> io::Result<()> {
     let answer = read.answer;
     let d = read.device;
     match answer {
-        Answer::Refused(number) => writing::tell_refused(number, room),
+        Answer::Refused(number) => writing::tell_refused(rt, number, room),
         Answer::Accepted => {
-            bays::device(d);
-            writing::tell_room(room, 7 * wire::wide(d.p));
+            bays::device(rt, d)?;
+            writing::tell_room(rt, room, 7 * wire::wide(d.p))
         }
     }
 }
@@ -49,19 +50,19 @@ fn written_over_and_over(dump: &[u8], head: Head, room: &mut [u8], times: u32) -
 }
 
 // A dump's device data, its PDO records put into room that is filled with 0xff first.
-pub fn read(request: &[u8]) {
+pub fn read(rt: &impl Print, request: &[u8]) -> io::Result<()> {
     let mut space = [0xffu8; 20480];
     let room = parts::front_mut(&mut space, parts::number2(request, 2) as usize);
     let times = parts::number4(request, 4);
     let read = read_over_and_over(parts::sheet(request), head(request), room, times);
-    tell(read, room);
+    tell(rt, read, room)
 }
 
 // A dump's sheet, written into room that is filled likewise.
-pub fn write(request: &[u8]) {
+pub fn write(rt: &impl Print, request: &[u8]) -> io::Result<()> {
     let mut space = [0xffu8; 20480];
     let room = parts::front_mut(&mut space, parts::number2(request, 2) as usize);
     let times = parts::number4(request, 4);
     let answer = written_over_and_over(parts::sheet(request), head(request), room, times);
-    writing::tell(answer, room);
+    writing::tell(rt, answer, room)
 }

@@ -1,4 +1,6 @@
 // Answers requests for every entry point of the library: docs/PROBE.md says how a request looks, and what is answered.
+#![tactic(auto)]
+
 mod arrivals;
 mod asked;
 mod bays;
@@ -10,8 +12,11 @@ mod say;
 mod table;
 mod writing;
 
-use libc::{STDIN_FILENO, STDOUT_FILENO};
+ghost use Rattle.std.specs.Io.{ReadsAtMost};
+
 use say::Line;
+use std::io;
+use std::io::Read;
 
 // The answers that can change with c.
 fn line_of(letter: u8, request: &[u8], c: u32) -> Line {
@@ -30,72 +35,73 @@ fn line_of(letter: u8, request: &[u8], c: u32) -> Line {
 }
 
 // What stands before an answer where several values of c are asked.
-fn begin(c: u32, times: u32) {
+fn begin(rt: &impl Print, c: u32, times: u32) -> io::Result<()> {
     if 1 < times {
-        io::print_decimal(STDOUT_FILENO, c as u64);
-        say::text(b": ");
+        rt.print(c)?;
+        say::text(rt, b": ")?;
     }
+    Ok(())
 }
 
 // A further value's answer, on a line of its own, but where it is the one before.
-fn further(line: Line, before: Line, c: u32, times: u32) {
+fn further(rt: &impl Print, line: Line, before: Line, c: u32, times: u32) -> io::Result<()> {
     if say::same(line, before) {
-        return;
+        return Ok(());
     }
-    say::text(b"\n");
-    begin(c, times);
-    say::line(line);
+    say::text(rt, b"\n")?;
+    begin(rt, c, times)?;
+    say::line(rt, line)
 }
 
 // Answers for one value of c after another.
-fn lines(letter: u8, request: &[u8], start: u32, times: u32) {
+fn lines(rt: &impl Print, letter: u8, request: &[u8], start: u32, times: u32) -> io::Result<()> {
     let mut before = line_of(letter, request, start);
-    say::line(before);
+    say::line(rt, before)?;
     let mut left = times;
     let mut c = start;
     loop {
         if left < 2 {
-            return;
+            return Ok(());
         }
         if 0xffff_fffe < c {
-            return;
+            return Ok(());
         }
         c += 1;
         left -= 1;
         let line = line_of(letter, request, c);
-        further(line, before, c, times);
+        further(rt, line, before, c, times)?;
         before = line;
     }
 }
 
 // An answer that doesn't change with c is written once, and that of `p`, which takes c as an offset.
-fn answer(letter: u8, request: &[u8], c: u32, times: u32) {
+fn answer(rt: &impl Print, letter: u8, request: &[u8], c: u32, times: u32) -> io::Result<()> {
     match letter {
-        b'R' => records::fmmu_read(request),
-        b'Q' => records::channel_read(request),
-        b'V' => records::channel_packed(request),
-        b'd' => bays::read(request),
-        b't' => arrivals::calls(request),
-        b'w' => writing::again(request),
-        b'v' => writing::given(request),
-        b'D' => dumps::read(request),
-        b'E' => dumps::write(request),
-        b'm' => bays::mailboxes(request),
-        b'p' => asked::call(request),
-        b'M' => asked::mappings(request),
-        b'B' => bays::again(request, asked::asked_mode(request)),
-        b'L' => bays::plan(request),
-        b's' | b'f' | b'W' | b'y' | b'Z' => records::roomed(letter, request),
-        _ => lines(letter, request, c, times),
+        b'R' => records::fmmu_read(rt, request),
+        b'Q' => records::channel_read(rt, request),
+        b'V' => records::channel_packed(rt, request),
+        b'd' => bays::read(rt, request),
+        b't' => arrivals::calls(rt, request),
+        b'w' => writing::again(rt, request),
+        b'v' => writing::given(rt, request),
+        b'D' => dumps::read(rt, request),
+        b'E' => dumps::write(rt, request),
+        b'm' => bays::mailboxes(rt, request),
+        b'p' => asked::call(rt, request),
+        b'M' => asked::mappings(rt, request),
+        b'B' => bays::again(rt, request, asked::asked_mode(request)),
+        b'L' => bays::plan(rt, request),
+        b's' | b'f' | b'W' | b'y' | b'Z' => records::roomed(rt, letter, request),
+        _ => lines(rt, letter, request, c, times),
     }
 }
 
-fn respond(request: &[u8]) {
+fn respond(rt: &impl Print, request: &[u8]) -> io::Result<()> {
     let c = parts::number4(request, 12);
     let times = parts::number4(request, 16);
-    begin(c, times);
-    answer(wire::byte_at(request, 0), request, c, times);
-    say::text(b"\n");
+    begin(rt, c, times)?;
+    answer(rt, wire::byte_at(request, 0), request, c, times)?;
+    say::text(rt, b"\n")
 }
 
 // Whether there is room for what is asked.
@@ -129,43 +135,62 @@ fn sound(head: &[u8]) -> bool {
     )
 }
 
+// Reads until the buffer is full or the input ends, and says how many bytes came.
+fn read_full(input: &mut impl Read, buffer: &mut [u8]) -> io::Result<usize>
+    ensures { ReadsAtMost result buffer.new }
+{
+    let mut done = 0;
+    while done < buffer.len() {
+        let n = input.read(&mut buffer[done..])?;
+        if n == 0 {
+            break;
+        }
+        done += n;
+    }
+    Ok(done)
+}
+
 // Fills a request from a place on, and says how much came.
-fn fill(request: &mut [u8], from: usize, count: usize) -> usize {
+fn fill(input: &mut impl Read, request: &mut [u8], from: usize, count: usize) -> io::Result<usize> {
     let start = wire::least(from, request.len());
-    io::read_full(STDIN_FILENO, parts::front_mut(&mut request[start..], count))
+    read_full(input, parts::front_mut(&mut request[start..], count))
 }
 
 // Whether a request is sound, of whose head so much came, and its parts come whole.
-fn taken(request: &mut [u8], got: usize) -> bool {
+fn taken(input: &mut impl Read, request: &mut [u8], got: usize) -> io::Result<bool> {
     if got < 28 {
-        return false;
+        return Ok(false);
     }
     if !sound(request) {
-        return false;
+        return Ok(false);
     }
     let rest = parts::rest(request);
-    fill(request, 28, rest) == rest
+    let came = fill(input, request, 28, rest)?;
+    Ok(came == rest)
 }
 
 // Answers one request, and says whether to go on.
-fn serve(request: &mut [u8]) -> bool {
-    let got = fill(request, 0, 28);
+fn serve(rt: &impl Print, input: &mut impl Read, request: &mut [u8]) -> io::Result<bool> {
+    let got = fill(input, request, 0, 28)?;
     if got == 0 {
-        return false;
+        return Ok(false);
     }
-    if taken(request, got) {
-        respond(request);
-        return true;
+    if taken(input, request, got)? {
+        respond(rt, request)?;
+        return Ok(true);
     }
-    say::text(b"bad request\n");
-    false
+    say::text(rt, b"bad request\n")?;
+    Ok(false)
 }
 
-fn main() {
+fn main(rt: HostRuntime) -> io::Result<()> {
     // The longest request: a head of 28 bytes, a sheet of 20,480, a table of 768 and both areas of 512.
     let mut request = [0u8; 22300];
-    let mut turns = u64::MAX;
-    while 0 < turns && serve(&mut request) {
-        turns -= 1;
+    let mut input = rt.stdin();
+    for _ in 0..u64::MAX {
+        if !serve(&rt, &mut input, &mut request)? {
+            break;
+        }
     }
+    Ok(())
 }

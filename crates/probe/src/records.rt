@@ -3,6 +3,7 @@ use crate::say::Line;
 use crate::{numbers, parts, say};
 use fmmu::{Fmmu, FmmuRead};
 use pdi::{ByteLen, PdiSegment};
+use std::io;
 use sync_manager_channel::{
     BufferState, ChannelRead, Control, Direction, Enable, OperationMode, Status, SyncManagerChannel,
 };
@@ -101,54 +102,60 @@ fn channel_of(bytes: &[u8]) -> SyncManagerChannel {
     }
 }
 
-pub fn fmmu_read(request: &[u8]) {
+pub fn fmmu_read(rt: &impl Print, request: &[u8]) -> io::Result<()> {
     match Fmmu::unpack_from_slice(parts::fmmus(request)) {
-        FmmuRead::Entry(f) => say::first(&[
-            f.logical_start_address as u64,
-            f.length_bytes.0 as u64,
-            f.logical_start_bit as u64,
-            f.logical_end_bit as u64,
-            f.physical_start_address as u64,
-            f.physical_start_bit as u64,
-            f.read_enable as u64,
-            f.write_enable as u64,
-            f.enable as u64,
-        ]),
-        FmmuRead::Refused(number) => say::refuse(number),
+        FmmuRead::Entry(f) => say::first(
+            rt,
+            &[
+                f.logical_start_address as u64,
+                f.length_bytes.0 as u64,
+                f.logical_start_bit as u64,
+                f.logical_end_bit as u64,
+                f.physical_start_address as u64,
+                f.physical_start_bit as u64,
+                f.read_enable as u64,
+                f.write_enable as u64,
+                f.enable as u64,
+            ],
+        ),
+        FmmuRead::Refused(number) => say::refuse(rt, number),
     }
 }
 
-fn channel_fields(channel: SyncManagerChannel) {
+fn channel_fields(rt: &impl Print, channel: SyncManagerChannel) -> io::Result<()> {
     let control = channel.control;
     let status = channel.status;
     let enable = channel.enable;
-    say::put_item(channel.physical_start_address as u64);
-    say::item(channel.length_bytes.0 as u64);
-    say::then(numbers::control_items(control), 5);
-    say::then(numbers::status_items(status), 6);
-    say::then(numbers::enable_items(enable), 6);
+    say::put_item(rt, channel.physical_start_address as u64)?;
+    say::item(rt, channel.length_bytes.0 as u64)?;
+    say::then(rt, numbers::control_items(control), 5)?;
+    say::then(rt, numbers::status_items(status), 6)?;
+    say::then(rt, numbers::enable_items(enable), 6)
 }
 
-pub fn channel_read(request: &[u8]) {
+pub fn channel_read(rt: &impl Print, request: &[u8]) -> io::Result<()> {
     match SyncManagerChannel::unpack_from_slice(parts::channels(request)) {
-        ChannelRead::Channel(channel) => channel_fields(channel),
-        ChannelRead::Refused(number) => say::refuse(number),
+        ChannelRead::Channel(channel) => channel_fields(rt, channel),
+        ChannelRead::Refused(number) => say::refuse(rt, number),
     }
 }
 
 // The image by value.
-pub fn channel_packed(request: &[u8]) {
+pub fn channel_packed(rt: &impl Print, request: &[u8]) -> io::Result<()> {
     let image = channel_of(parts::channels(request)).pack();
-    say::line([
-        say::byte(image[0]),
-        say::next_byte(image[1]),
-        say::next_byte(image[2]),
-        say::next_byte(image[3]),
-        say::next_byte(image[4]),
-        say::next_byte(image[5]),
-        say::next_byte(image[6]),
-        say::next_byte(image[7]),
-    ]);
+    say::line(
+        rt,
+        [
+            say::byte(image[0]),
+            say::next_byte(image[1]),
+            say::next_byte(image[2]),
+            say::next_byte(image[3]),
+            say::next_byte(image[4]),
+            say::next_byte(image[5]),
+            say::next_byte(image[6]),
+            say::next_byte(image[7]),
+        ],
+    )
 }
 
 // Writes a text or an image into lent room.
@@ -176,12 +183,12 @@ fn written(answer: Written, image: bool) -> Line {
 }
 
 // What writing into the room answers, and the room.
-fn tell(answer: Written, image: bool, room: &[u8]) {
-    say::line(written(answer, image));
+fn tell(rt: &impl Print, answer: Written, image: bool, room: &[u8]) -> io::Result<()> {
+    say::line(rt, written(answer, image))?;
     if image {
-        say::then_bytes(room);
+        say::then_bytes(rt, room)
     } else {
-        say::then_room(room);
+        say::then_room(rt, room)
     }
 }
 
@@ -197,7 +204,7 @@ fn filler(image: bool) -> u8 {
 }
 
 // The entry points that are lent room, filled with 0xff first for an image and with `~` for a text.
-pub fn roomed(letter: u8, request: &[u8]) {
+pub fn roomed(rt: &impl Print, letter: u8, request: &[u8]) -> io::Result<()> {
     let image = writes_image(letter);
     let mut space = [filler(image); 20480];
     let room = parts::front_mut(&mut space, parts::number2(request, 2) as usize);
@@ -212,5 +219,5 @@ pub fn roomed(letter: u8, request: &[u8]) {
         channel_of(parts::channels(request)),
         room,
     );
-    tell(answer, image, room);
+    tell(rt, answer, image, room)
 }

@@ -1,6 +1,6 @@
 // What is answered: items, which are numbers, and how each is written.
 use crate::parts;
-use libc::STDOUT_FILENO;
+use std::io;
 
 // An item below 2^32 is a number after a space. What is added to it says how else it is written.
 const KIND: u64 = 0x1_0000_0000;
@@ -81,99 +81,100 @@ pub fn next_byte(x: u8) -> u64 {
     CLOSE + HEX + (x as u64)
 }
 
-pub fn text(bytes: &[u8]) {
-    io::write_all(STDOUT_FILENO, bytes);
+pub fn text(rt: &impl Print, bytes: &[u8]) -> io::Result<()> {
+    rt.write_all(bytes)
 }
 
 // What stands before an item.
-fn lead(kind: u64) {
+fn lead(rt: &impl Print, kind: u64) -> io::Result<()> {
     match kind {
-        0 => text(b" "),
-        1 => text(b"/"),
-        2 => text(b""),
-        _ => text(b" r"),
+        0 => text(rt, b" "),
+        1 => text(rt, b"/"),
+        2 => text(rt, b""),
+        _ => text(rt, b" r"),
     }
 }
 
 // The words stand in rows of eight bytes; the last takes three.
-fn word(item: u64) {
+fn word(rt: &impl Print, item: u64) -> io::Result<()> {
     let rows =
         b"ok      none    refused same    differ  managersusages  pdos    no such entry point";
     let row = (item % KIND / 32) as usize;
-    text(parts::part(rows, 8 * row, (item % 32) as usize));
+    text(rt, parts::part(rows, 8 * row, (item % 32) as usize))
 }
 
 // The first item of a line.
-pub fn put_item(item: u64) {
+pub fn put_item(rt: &impl Print, item: u64) -> io::Result<()> {
     if item < HEX {
-        io::print_decimal(STDOUT_FILENO, item % KIND);
+        rt.print(item % KIND)
     } else if item < WORD {
-        io::print_hex(STDOUT_FILENO, item % 256, 2);
+        print!(rt; "{:02x}", item % 256)
     } else {
-        word(item);
+        word(rt, item)
     }
 }
 
 // One item more of a line.
-pub fn item(item: u64) {
-    lead(item / KIND % 4);
-    put_item(item);
+pub fn item(rt: &impl Print, item: u64) -> io::Result<()> {
+    lead(rt, item / KIND % 4)?;
+    put_item(rt, item)
 }
 
 // The first `count` items of a list; nothing stands before the first, unless the line has begun.
-fn put(list: &[u64], count: usize, begun: bool) {
+fn put(rt: &impl Print, list: &[u64], count: usize, begun: bool) -> io::Result<()> {
     let n = wire::least(count, list.len());
     let mut inside = begun;
     let mut k = 0;
     while k < n {
         let item = list[k];
         if item == END {
-            return;
+            return Ok(());
         }
         if inside {
-            lead(item / KIND % 4);
+            lead(rt, item / KIND % 4)?;
         }
-        put_item(item);
+        put_item(rt, item)?;
         inside = true;
         k += 1;
     }
+    Ok(())
 }
 
-pub fn first(list: &[u64]) {
-    put(list, list.len(), false);
+pub fn first(rt: &impl Print, list: &[u64]) -> io::Result<()> {
+    put(rt, list, list.len(), false)
 }
 
 // By value, as a caller that lends an array is dear to prove.
-pub fn line(line: Line) {
-    first(&line);
+pub fn line(rt: &impl Print, line: Line) -> io::Result<()> {
+    first(rt, &line)
 }
 
 // The first items of a line, after what stands before them.
-pub fn then(line: Line, count: usize) {
-    put(&line, count, true);
+pub fn then(rt: &impl Print, line: Line, count: usize) -> io::Result<()> {
+    put(rt, &line, count, true)
 }
 
-pub fn refuse(number: u8) {
-    first(&[REFUSED, number as u64]);
+pub fn refuse(rt: &impl Print, number: u8) -> io::Result<()> {
+    first(rt, &[REFUSED, number as u64])
 }
 
 // The next bytes of a line; `-` where there are none.
-pub fn then_bytes(bytes: &[u8]) {
+pub fn then_bytes(rt: &impl Print, bytes: &[u8]) -> io::Result<()> {
     if bytes.len() == 0 {
-        text(b" -");
-        return;
+        return text(rt, b" -");
     }
-    text(b" ");
+    text(rt, b" ")?;
     let mut i = 0;
     while i < bytes.len() {
-        put_item(byte(bytes[i]));
+        put_item(rt, byte(bytes[i]))?;
         i += 1;
     }
+    Ok(())
 }
 
 // The room lent for a text, between two bars.
-pub fn then_room(room: &[u8]) {
-    text(b" |");
-    text(room);
-    text(b"|");
+pub fn then_room(rt: &impl Print, room: &[u8]) -> io::Result<()> {
+    text(rt, b" |")?;
+    text(rt, room)?;
+    text(rt, b"|")
 }

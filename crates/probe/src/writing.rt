@@ -2,29 +2,30 @@
 use crate::{arrivals, numbers, parts, records, say};
 use pdi::ByteLen;
 use sheet::{Answer, Device, SyncManager};
+use std::io;
 use sync_manager_channel::{Control, Direction, OperationMode};
 use wire::Written;
 
 // What stands in the room up to a length, and how many bytes behind that aren't as they were.
-pub fn tell_room(room: &[u8], length: usize) {
-    say::then_bytes(wire::front(room, length));
-    say::item(arrivals::wrong(room, length, room));
+pub fn tell_room(rt: &impl Print, room: &[u8], length: usize) -> io::Result<()> {
+    say::then_bytes(rt, wire::front(room, length))?;
+    say::item(rt, arrivals::wrong(room, length, room))
 }
 
 // A refusal, and how many bytes of the whole room aren't as they were.
-pub fn tell_refused(number: u8, room: &[u8]) {
-    say::refuse(number);
-    say::item(arrivals::wrong(room, 0, room));
+pub fn tell_refused(rt: &impl Print, number: u8, room: &[u8]) -> io::Result<()> {
+    say::refuse(rt, number)?;
+    say::item(rt, arrivals::wrong(room, 0, room))
 }
 
 // What writing answered, and the room.
-pub fn tell(answer: Written, room: &[u8]) {
+pub fn tell(rt: &impl Print, answer: Written, room: &[u8]) -> io::Result<()> {
     match answer {
         Written::Len(length) => {
-            say::put_item(length as u64);
-            tell_room(room, length);
+            say::put_item(rt, length as u64)?;
+            tell_room(rt, room, length)
         }
-        Written::Refused(number) => tell_refused(number, room),
+        Written::Refused(number) => tell_refused(rt, number, room),
     }
 }
 
@@ -40,21 +41,21 @@ fn over_and_over(d: Device, bytes: &[u8], room: &mut [u8], times: u32) -> Writte
 }
 
 // Device data into room that is filled with 0xff first, the request's sheet being the lent bytes.
-fn roomed(d: Device, request: &[u8], times: u32) {
+fn roomed(rt: &impl Print, d: Device, request: &[u8], times: u32) -> io::Result<()> {
     let mut space = [0xffu8; 20480];
     let room = parts::front_mut(&mut space, parts::number2(request, 2) as usize);
     let answer = over_and_over(d, parts::sheet(request), room, times);
-    tell(answer, room);
+    tell(rt, answer, room)
 }
 
 // A sheet's own device data, as often as a says.
-pub fn again(request: &[u8]) {
+pub fn again(rt: &impl Print, request: &[u8]) -> io::Result<()> {
     let read = sheet::read(parts::sheet(request));
     let answer = read.answer;
     let d = read.device;
     match answer {
-        Answer::Refused(number) => say::refuse(number),
-        Answer::Accepted => roomed(d, request, parts::number4(request, 4)),
+        Answer::Refused(number) => say::refuse(rt, number),
+        Answer::Accepted => roomed(rt, d, request, parts::number4(request, 4)),
     }
 }
 
@@ -141,6 +142,6 @@ fn device_of(record: &[u8]) -> Device {
 }
 
 // Device data that is given by its fields, once.
-pub fn given(request: &[u8]) {
-    roomed(device_of(parts::fmmus(request)), request, 1);
+pub fn given(rt: &impl Print, request: &[u8]) -> io::Result<()> {
+    roomed(rt, device_of(parts::fmmus(request)), request, 1)
 }
