@@ -23,17 +23,6 @@ bounds-rest-1 c =
     omega (arith, e, four-there c.args.dump.now c.loop-long.end c.loop-long.long c.loop-long.invariant.0.here c.loop-long-test.true) in
     omega (arith, there)
 
-pub overflow_add-known : goal.overflow_add-known
-overflow_add-known c =
-    let s = c.loop-long.invariant.0 in
-    record { fits = omega (arith, s.few, s.within, c.is_known-known.ensures.1) }
-
-pub overflow_add-end : goal.overflow_add-end
-overflow_add-end c = let s = c.loop-long.invariant.0 in record { fits = omega (arith, s.within) }
-
-pub loop-long-smaller : goal.loop-long-smaller
-loop-long-smaller c = let s = c.loop-long.invariant.0 in omega (arith, s.within)
-
 pub loop-long-preserved : goal.loop-long-preserved
 loop-long-preserved c =
     let d = c.args.dump.now in

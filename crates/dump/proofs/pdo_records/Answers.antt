@@ -4,27 +4,9 @@ use mathlib.Core.Path.{sym, ◌∙◌, ap}
 use Prim.Native.Nat.{◌+◌}
 use native.Mathlib.Omega.{arith}
 use Rattle.dump.specs.Records.{pdo_long}
-use Rattle.dump.proofs.Parts.{left_over, Walk, walk_start, walk_turn, walk_end}
+use Rattle.dump.proofs.Parts.{left_over, Walk, walk_turn, walk_end}
 use Rattle.dump.proofs.Pdos.{pdo-fits}
 use Rattle.dump.proofs.pdo_records.Goals as goal
-
-pub loop-long-init : goal.loop-long-init
-loop-long-init c = (walk_start pdo_long pdo-fits c.args.bytes.now, c.pdo_long-long.ensures)
-
-pub overflow_add-end : goal.overflow_add-end
-overflow_add-end c =
-    let next : Walk pdo_long pdo-fits c.args.bytes.now (c.loop-long.count + 1) (c.loop-long.end + c.loop-long.long) = let l = c.loop-long in walk_turn pdo_long pdo-fits l.invariant.0 l.invariant.1 c.loop-long-test.true in
-    omega (arith, (next).within)
-
-pub overflow_add-count : goal.overflow_add-count
-overflow_add-count c =
-    let next : Walk pdo_long pdo-fits c.args.bytes.now (c.loop-long.count + 1) (c.loop-long.end + c.loop-long.long) = let l = c.loop-long in walk_turn pdo_long pdo-fits l.invariant.0 l.invariant.1 c.loop-long-test.true in
-    omega (arith, (next).within, (next).passed)
-
-pub loop-long-smaller : goal.loop-long-smaller
-loop-long-smaller c =
-    let next : Walk pdo_long pdo-fits c.args.bytes.now (c.loop-long.count + 1) (c.loop-long.end + c.loop-long.long) = let l = c.loop-long in walk_turn pdo_long pdo-fits l.invariant.0 l.invariant.1 c.loop-long-test.true in
-    omega (arith, (next).within)
 
 pub loop-long-preserved : goal.loop-long-preserved
 loop-long-preserved c =

@@ -27,46 +27,13 @@ module _ (records usages : List ℕ) where
   many-few : length records / 8 ≤ 16 → ltb 16 many ≡ false
   many-few h = le-ltb 16 many (omega (arith, managers-many records))
 
-  uses-over : 16 < length usages → ltb 16 uses ≡ true
-  uses-over h = lt-ltb 16 uses (omega (arith, length-map usages usage_for))
-
   uses-few : length usages ≤ 16 → ltb 16 uses ≡ false
   uses-few h = le-ltb 16 uses (omega (arith, length-map usages usage_for))
-
-pub returns-then-flags-gt7 : goal.returns-then-flags-gt7
-returns-then-flags-gt7 c = rw (lt-ltb 7 c.args.flags c.if-flags-gt7.true)
 
 pub returns-then-records-gt16 : goal.returns-then-records-gt16
 returns-then-records-gt16 c =
     let a = c.args in
     rw (le-ltb 7 a.flags (omega arith), many-over a.records.now a.usages.now (omega arith))
-
-pub returns-then-usages-gt16 : goal.returns-then-usages-gt16
-returns-then-usages-gt16 c =
-    let a = c.args in
-    let r = a.records.now in
-    let u = a.usages.now in
-    rw (le-ltb 7 a.flags (omega arith), many-few r u (omega arith), uses-over r u (omega arith))
-
-pub returns-then-p-gt255 : goal.returns-then-p-gt255
-returns-then-p-gt255 c =
-    let a = c.args in
-    let r = a.records.now in
-    let u = a.usages.now in
-    rw (le-ltb 7 a.flags (omega arith), many-few r u (omega arith), uses-few r u (omega arith), lt-ltb 255 a.p (omega arith))
-
-pub returns-then-some_manager_unnamed : goal.returns-then-some_manager_unnamed
-returns-then-some_manager_unnamed c =
-    let a = c.args in
-    let r = a.records.now in
-    let u = a.usages.now in
-    rw (
-      le-ltb 7 a.flags (omega arith),
-      many-few r u (omega arith),
-      uses-few r u (omega arith),
-      le-ltb 255 a.p (omega arith),
-      sym c.some_manager_unnamed.ensures ∙ c.if-some_manager_unnamed.true,
-    )
 
 pub returns : goal.returns
 returns c =
