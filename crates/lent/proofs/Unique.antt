@@ -29,7 +29,7 @@ CallsLent κs a r s =
     (offsets a.1.1.1.1.1.0.now a.1.1.1.1.1.1.0.now) a.1.1.1.1.1.1.1.0 a.1.1.1.0.now a.1.1.1.1.0.now
     r (offsets s.1.1.1.1.1.0.now s.1.1.1.1.1.1.0.now) s.1.1.1.0.now s.1.1.1.1.0.now
 
-pub configure-fmmus-states : States configure-fmmus.ended (λ M 𝓤 H. configure-fmmus.clauses 𝓤 H) CallsLent
+pub configure-fmmus-states : States configure-fmmus.ended (λ M 𝓤 𝓛. configure-fmmus.clauses 𝓛) CallsLent
 configure-fmmus-states M 𝓤 𝓛 mem run κs a r s g = refl
 
 pub configure-fmmus-pins : Pins CallsLent (λ κs r s. leaves r (offsets s.1.1.1.1.1.0.now s.1.1.1.1.1.1.0.now) s.1.1.1.0.now s.1.1.1.1.0.now)
@@ -38,7 +38,7 @@ configure-fmmus-pins κs a x y s t p q = calls-once _ _ _ _ _ _ _ x y _ _ _ _ _ 
 abbrev pub CountsBy : Saying count.ended
 CountsBy κs a r s = counted_of r ≡ meaning.count a.1.1.1.0 a.1.1.1.1.0 a.0.now (multipliers_of a.1.0.now (sheet_data a.0.now).pdos) a.1.1.0.start_address
 
-pub count-states : States count.ended (λ M 𝓤 H. count.clauses 𝓤 H) CountsBy
+pub count-states : States count.ended (λ M 𝓤 𝓛. count.clauses 𝓛) CountsBy
 count-states M 𝓤 𝓛 mem run κs a r s g = refl
 
 pub count-pins : Pins CountsBy (λ κs r s. r)
