@@ -1,0 +1,6 @@
+-- `probe::arrivals::same_managers`: each turn comes nearer to the end.
+use Rattle.std.proofs.Common.{◌-◌}
+use Rattle.probe.proofs.arrivals.same_managers.Given as goal
+
+abbrev pub decreases-loop-k : goal.decreases-loop-k
+decreases-loop-k l = 16 - l.k

@@ -1,0 +1,6 @@
+-- `probe::bays::usages`: each turn comes nearer to the end.
+use Rattle.std.proofs.Common.{◌-◌}
+use Rattle.probe.proofs.bays.usages.Given as goal
+
+abbrev pub decreases-loop-k : goal.decreases-loop-k
+decreases-loop-k g l = l.count - l.k
