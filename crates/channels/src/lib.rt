@@ -1,4 +1,6 @@
 // The images of the sync managers: `write_sm_config` of configuration.rs, over a whole area.
+#![tactic(auto)]
+
 ghost use Rattle.std.specs.Prelude.{◌≡◌};
 ghost use Rattle.std.proofs.Math.Option.{some};
 ghost use Rattle.grammar.specs.Grammar.{manager_place};

@@ -1,4 +1,6 @@
 // Counting through the sync managers: from a logical address to a sync manager's byte. Added by design; the crate has none.
+#![tactic(auto)]
+
 ghost use Rattle.std.specs.Prelude.{◌≡◌};
 ghost use Rattle.wire.specs.Outcome as Outcome;
 ghost use Rattle.grammar.specs.Grammar.{manager_place};

@@ -1,4 +1,6 @@
 // src/subdevice: types.rs (mailboxes) and configuration.rs (the mailbox pass).
+#![tactic(auto)]
+
 ghost use Rattle.std.specs.Prelude.{◌≡◌};
 ghost use Rattle.grammar.specs.Grammar.{manager_place};
 ghost use Rattle.sheet.specs.Sheet.{manager_at, sheet_data};

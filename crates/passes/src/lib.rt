@@ -1,4 +1,6 @@
 // What the parts of a call hand to one another; what a call means stands in specs/.
+#![tactic(auto)]
+
 ghost use Rattle.std.specs.Prelude.{◌≡◌};
 ghost use Rattle.passes.specs.declared.FmmuMode.TheVariants as mode;
 ghost use Rattle.passes.specs.declared.OutputStart.TheVariants as start;

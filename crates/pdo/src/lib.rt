@@ -1,4 +1,6 @@
 // Which way process data goes, what an oversampling record is, and whether CoE is on.
+#![tactic(auto)]
+
 ghost use Rattle.std.specs.Prelude.{◌≡◌};
 ghost use Rattle.sheet.specs.Sheet.{sheet_data};
 ghost use Rattle.pdo.specs.Direction.{terms_of, is_data};

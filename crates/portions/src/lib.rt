@@ -1,4 +1,6 @@
 // A sheet that comes in portions, as a handheld sends it over a slow line: each is taken into lent room, and the end reads what came.
+#![tactic(auto)]
+
 ghost use Rattle.std.specs.Prelude.{◌≡◌, min, ◌-◌};
 ghost use Rattle.portions.specs.Portions.{begun, held_in, Takes, too_many, Ends};
 

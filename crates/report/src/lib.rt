@@ -1,4 +1,6 @@
 // What `lockerplan` prints of a bay: its sheet is planned over the areas that it hands over, from offset 0 in group 0, with no oversampling and no pairs.
+#![tactic(auto)]
+
 ghost use Rattle.std.specs.Prelude.{◌≡◌};
 ghost use Rattle.wire.specs.Room.{InRoom, text_in};
 ghost use Rattle.wire.specs.Text.{page, Types};

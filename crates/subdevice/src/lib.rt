@@ -1,4 +1,6 @@
 // src/subdevice/configuration.rs: the process data of both directions in one call, with the offsets by value.
+#![tactic(auto)]
+
 ghost use Rattle.passes.specs.Call.{Configures};
 
 use passes::{Chosen, Configured, Offsets, Settings};

@@ -1,4 +1,6 @@
 // Translation through the FMMU bytes: from a logical address to a device address. Added by design; the crate has none.
+#![tactic(auto)]
+
 ghost use Rattle.std.specs.Prelude.{◌≡◌, map};
 ghost use Rattle.area.specs.Area.{area_of, entries_of};
 ghost use Rattle.wire.specs.Lists.{some_of};

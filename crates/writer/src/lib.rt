@@ -1,4 +1,6 @@
 // Writes device data as a sheet: the reader's other way, over the same grammar.
+#![tactic(auto)]
+
 ghost use Rattle.std.specs.Prelude.{◌≡◌, ◌+◌, ◌*◌, ◌≤◌, min, length, take, ltb};
 ghost use Rattle.wire.specs.Lists.{some_of};
 ghost use Rattle.wire.specs.Room.{over};

@@ -1,7 +1,7 @@
 -- `channels::write_channels`: the sync managers that are left, written into the area, give the area with all of them written.
 -- Assumes nothing.
 use mathlib.Core.Path.{◌≡◌, refl, sym, ◌∙◌, ap}
-use Prim.Native.Nat.{◌+◌, ◌-◌}
+use Prim.Native.Nat.{◌+◌}
 use native.Mathlib.Omega.{arith}
 use lib.ListN.{drop}
 use Rattle.sheet.specs.Sheet.{manager_at, manager_place, managers_in}

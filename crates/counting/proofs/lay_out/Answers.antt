@@ -32,15 +32,15 @@ loop-k-preserved c =
     let e = front-manager a.sheet.now l.k (omega arith) (omega arith) in
     let bits : ℕ → ℕ = λ j. 8 * size_at a.sizes j in
     elim c.if-usage_of-usage.branch [
-      then-usage_of-usage w ↦ (
+      | then-usage_of-usage w ↦ (
         omega arith,
         l.invariant.1,
         omega arith,
         laying-takes a.usage bits l.k e l.invariant.3 w.position_in.result (sym c.usage_of.ensures ∙ w.if-usage_of-usage.true)
             (ap (size_at a.sizes) w.wide.ensures.0 ∙ sym (bytes_back (size_at a.sizes l.k))) w.end-is w.position_in.ensures (w.found-is ∙ w.earlier-found.ensures),
       )
-    | else-usage_of-usage w ↦
-        (omega arith, l.invariant.1, omega arith, laying-skips a.usage bits l.k e l.invariant.3 (λ q. w.if-usage_of-usage.false (c.usage_of.ensures ∙ q)) w.end-is w.found-is)
+      | else-usage_of-usage w ↦
+          (omega arith, l.invariant.1, omega arith, laying-skips a.usage bits l.k e l.invariant.3 (λ q. w.if-usage_of-usage.false (c.usage_of.ensures ∙ q)) w.end-is w.found-is)
     ]
 
 pub returns : goal.returns

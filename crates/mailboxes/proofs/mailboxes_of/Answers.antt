@@ -1,7 +1,7 @@
 -- `mailboxes::mailboxes_of`: what is recorded and written so far, and the rest, give all.
 -- Assumes nothing.
 use mathlib.Core.Path.{refl, sym, ◌∙◌, ap}
-use Prim.Native.Nat.{◌+◌, ◌-◌}
+use Prim.Native.Nat.{◌+◌}
 use native.Mathlib.Omega.{arith}
 use lib.ListN.{drop}
 use Rattle.sheet.specs.Sheet.{manager_at, manager_place, sheet_data}

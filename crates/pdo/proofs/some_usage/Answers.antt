@@ -1,7 +1,6 @@
 -- `pdo::some_usage`: whether one of the rest has the usage is whether one of all has.
 -- Assumes nothing.
 use mathlib.Core.Path.{refl}
-use Prim.Native.Nat.{◌-◌}
 use native.Mathlib.Omega.{arith}
 use Rattle.pdo.proofs.Some.{usage-here, usage-not-here, usage-nowhere}
 use Rattle.pdo.proofs.some_usage.Goals as goal

@@ -1,7 +1,7 @@
 -- `translation::first_said`: what the rest says is what all say, as long as nothing was said.
 -- Assumes nothing.
 use mathlib.Core.Path.{refl, sym, ◌∙◌, ap}
-use Prim.Native.Nat.{◌+◌, ◌-◌}
+use Prim.Native.Nat.{◌+◌}
 use native.Mathlib.Omega.{arith}
 use lib.ListN.{drop}
 use Rattle.translation.specs.Translate.{says, reached_of, said_of}

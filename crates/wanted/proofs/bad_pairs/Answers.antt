@@ -24,7 +24,7 @@ returns-then-these c =
     let m : List SyncManager = (sheet_data a.sheet.now).managers in
     let e = c.of_usage.ensures ∙ ap (λ (t : Terms). of_usage m t.usage a.bits) c.filter_terms-inputs.ensures in
     let these : Surveys (judged_uses a.chosen m a.bits MasterRead) c.survey-these.result =
-        subst (λ (bits : List BitLen). Surveys (uses_in a.chosen.entries bits) c.survey-these.result) e c.survey-these.ensures in
+    subst (λ (bits : List BitLen). Surveys (uses_in a.chosen.entries bits) c.survey-these.result) e c.survey-these.ensures in
     one-bad a.chosen m a.bits c.survey-these.result these c.if-these.true
 
 pub returns-then-those : goal.returns-then-those
@@ -33,10 +33,10 @@ returns-then-those c =
     let m : List SyncManager = (sheet_data a.sheet.now).managers in
     let e = c.of_usage.ensures ∙ ap (λ (t : Terms). of_usage m t.usage a.bits) c.filter_terms-inputs.ensures in
     let these : Surveys (judged_uses a.chosen m a.bits MasterRead) c.survey-these.result =
-        subst (λ (bits : List BitLen). Surveys (uses_in a.chosen.entries bits) c.survey-these.result) e c.survey-these.ensures in
+    subst (λ (bits : List BitLen). Surveys (uses_in a.chosen.entries bits) c.survey-these.result) e c.survey-these.ensures in
     let f = c.of_usage-2.ensures ∙ ap (λ (t : Terms). of_usage m t.usage a.bits) c.filter_terms-outputs.ensures in
     let those : Surveys (judged_uses a.chosen m a.bits MasterWrite) c.survey-those.result =
-        subst (λ (bits : List BitLen). Surveys (uses_in a.chosen.entries bits) c.survey-those.result) f c.survey-those.ensures in
+    subst (λ (bits : List BitLen). Surveys (uses_in a.chosen.entries bits) c.survey-those.result) f c.survey-those.ensures in
     two-bad a.chosen m a.bits c.survey-these.result these c.survey-those.result those c.if-those.true
 
 pub returns : goal.returns
@@ -45,9 +45,9 @@ returns c =
     let m : List SyncManager = (sheet_data a.sheet.now).managers in
     let e = c.of_usage.ensures ∙ ap (λ (t : Terms). of_usage m t.usage a.bits) c.filter_terms-inputs.ensures in
     let these : Surveys (judged_uses a.chosen m a.bits MasterRead) c.survey-these.result =
-        subst (λ (bits : List BitLen). Surveys (uses_in a.chosen.entries bits) c.survey-these.result) e c.survey-these.ensures in
+    subst (λ (bits : List BitLen). Surveys (uses_in a.chosen.entries bits) c.survey-these.result) e c.survey-these.ensures in
     let f = c.of_usage-2.ensures ∙ ap (λ (t : Terms). of_usage m t.usage a.bits) c.filter_terms-outputs.ensures in
     let those : Surveys (judged_uses a.chosen m a.bits MasterWrite) c.survey-those.result =
-        subst (λ (bits : List BitLen). Surveys (uses_in a.chosen.entries bits) c.survey-those.result) f c.survey-those.ensures in
+    subst (λ (bits : List BitLen). Surveys (uses_in a.chosen.entries bits) c.survey-those.result) f c.survey-those.ensures in
     shared-bad a.chosen m a.bits c.survey-these.result these c.survey-those.result those c.some_shared.result
     (sym c.number_above.ensures ∙ c.if-number_above.false) c.if-these.false c.if-those.false c.some_shared.ensures

@@ -1,7 +1,6 @@
 -- `wanted::first_with`: the places passed, and the first place among the rest, are the first place.
 -- Assumes nothing.
 use mathlib.Core.Path.{◌∙◌}
-use Prim.Native.Nat.{◌-◌}
 use native.Mathlib.Omega.{arith}
 use Rattle.wanted.proofs.Managers.{first-here, first-not-here, first-nowhere}
 use Rattle.wanted.proofs.first_with.Goals as goal

@@ -19,12 +19,12 @@ loop-k-preserved c =
     let i = l.invariant in
     let u = c.usage_of in
     let t : Picked c.args.sheet.now c.args.usage c.args.bits c.if-usage_of-usage.out (l.k + 1) =
-        elim c.if-usage_of-usage.branch [
-          then-usage_of-usage h ↦
-            picked-here _ _ _ i.3 u.result (omega arith) (omega arith) u.ensures h.wide-then-usage_of-usage.result h.wide.result _ h.if-usage_of-usage.true
-            h.wide-then-usage_of-usage.ensures.0 h.wide.ensures.0 h.out-is
-        | else-usage_of-usage h ↦ picked-on _ _ _ i.3 u.result (omega arith) (omega arith) u.ensures _ h.if-usage_of-usage.false h.out-is
-        ] in
+    elim c.if-usage_of-usage.branch [
+      | then-usage_of-usage h ↦
+          picked-here _ _ _ i.3 u.result (omega arith) (omega arith) u.ensures h.wide-then-usage_of-usage.result h.wide.result _ h.if-usage_of-usage.true
+          h.wide-then-usage_of-usage.ensures.0 h.wide.ensures.0 h.out-is
+      | else-usage_of-usage h ↦ picked-on _ _ _ i.3 u.result (omega arith) (omega arith) u.ensures _ h.if-usage_of-usage.false h.out-is
+    ] in
     (i.0, i.1, omega arith, t)
 
 pub returns : goal.returns

@@ -1,7 +1,6 @@
 -- `wanted::rounded`: after k turns k sizes stand there, and none of them is too wide.
 -- Assumes nothing.
 use mathlib.Core.Path.{sym, ◌∙◌, ap}
-use Prim.Native.Nat.{◌-◌}
 use native.Mathlib.Omega.{arith}
 use Rattle.pdi.specs.Unit.{rounded_of}
 use Rattle.grammar.specs.Grammar.{manager_count}

@@ -11,7 +11,7 @@ use Rattle.pdo.specs.Direction.{usage_of}
 use Rattle.wanted.specs.ByKind.{bits_in, of_usage}
 use Rattle.wanted.specs.Paths.{rounded_in, lacks_at, lacks_entry}
 use Rattle.wanted.specs.Wanted.{sizes_after}
-use Rattle.wanted.proofs.Sizing.{sheet-sizes, eeprom-sizes, six-sizes, seven-sizes, all-sizes}
+use Rattle.wanted.proofs.Sizing.{eeprom-sizes, six-sizes, seven-sizes, all-sizes}
 use Rattle.wanted.proofs.sizes_of.Goals as goal
 
 pub tally-bits-requires : goal.tally-bits-requires
@@ -53,9 +53,9 @@ returns-then-not-coe c =
     let keeps : Checked s Accepted = checked-case s c.check-sound.ensures c.in_default.is in
     let mine : List BitLen = of_usage (sheet_data s).managers (usage_of a.direction) (bits_in s c.coe_on-coe.result a.multipliers.now) in
     let picked : c.of_usage.result ≡ mine =
-        c.of_usage.ensures ∙ (λ i. of_usage (sheet_data s).managers (c.filter_terms.ensures i).usage (c.tally-bits.ensures i)) in
+    c.of_usage.ensures ∙ (λ i. of_usage (sheet_data s).managers (c.filter_terms.ensures i).usage (c.tally-bits.ensures i)) in
     let rounds : c.rounded-sized.result ≡ sizes_after (rounded_in (manager_count s) mine) =
-        c.rounded-sized.ensures ∙ (λ i. sizes_after (rounded_in (manager_count s) (picked i))) in
+    c.rounded-sized.ensures ∙ (λ i. sizes_after (rounded_in (manager_count s) (picked i))) in
     eeprom-sizes s a.multipliers.now a.direction keeps c.coe_on-coe.result c.coe_on-coe.ensures c.rounded-sized.result rounds c.if-not-coe.true
 
 pub returns-then-no_entry : goal.returns-then-no_entry
@@ -65,11 +65,11 @@ returns-then-no_entry c =
     let keeps : Checked s Accepted = checked-case s c.check-sound.ensures c.in_default.is in
     let mine : List BitLen = of_usage (sheet_data s).managers (usage_of a.direction) (bits_in s c.coe_on-coe.result a.multipliers.now) in
     let picked : c.of_usage.result ≡ mine =
-        c.of_usage.ensures ∙ (λ i. of_usage (sheet_data s).managers (c.filter_terms.ensures i).usage (c.tally-bits.ensures i)) in
+    c.of_usage.ensures ∙ (λ i. of_usage (sheet_data s).managers (c.filter_terms.ensures i).usage (c.tally-bits.ensures i)) in
     let rounds : c.rounded-sized.result ≡ sizes_after (rounded_in (manager_count s) mine) =
-        c.rounded-sized.ensures ∙ (λ i. sizes_after (rounded_in (manager_count s) (picked i))) in
+    c.rounded-sized.ensures ∙ (λ i. sizes_after (rounded_in (manager_count s) (picked i))) in
     let lacks : c.no_entry.result ≡ lacks_entry (sheet_data s) c.rounded-sized.result.list a.direction =
-        c.no_entry.ensures ∙ ap (lacks_at (sheet_data s) c.rounded-sized.result.list a.direction) c.first_entry.ensures in
+    c.no_entry.ensures ∙ ap (lacks_at (sheet_data s) c.rounded-sized.result.list a.direction) c.first_entry.ensures in
     seven-sizes s a.multipliers.now a.direction keeps c.coe_on-coe.result c.coe_on-coe.ensures c.rounded-sized.result rounds
     c.if-not-coe.false c.in-Accepted.is c.no_sizes-then-no_entry.result (sym lacks ∙ c.if-no_entry.true) c.no_sizes-then-no_entry.ensures
 
@@ -80,11 +80,11 @@ returns-else-no_entry c =
     let keeps : Checked s Accepted = checked-case s c.check-sound.ensures c.in_default.is in
     let mine : List BitLen = of_usage (sheet_data s).managers (usage_of a.direction) (bits_in s c.coe_on-coe.result a.multipliers.now) in
     let picked : c.of_usage.result ≡ mine =
-        c.of_usage.ensures ∙ (λ i. of_usage (sheet_data s).managers (c.filter_terms.ensures i).usage (c.tally-bits.ensures i)) in
+    c.of_usage.ensures ∙ (λ i. of_usage (sheet_data s).managers (c.filter_terms.ensures i).usage (c.tally-bits.ensures i)) in
     let rounds : c.rounded-sized.result ≡ sizes_after (rounded_in (manager_count s) mine) =
-        c.rounded-sized.ensures ∙ (λ i. sizes_after (rounded_in (manager_count s) (picked i))) in
+    c.rounded-sized.ensures ∙ (λ i. sizes_after (rounded_in (manager_count s) (picked i))) in
     let lacks : c.no_entry.result ≡ lacks_entry (sheet_data s) c.rounded-sized.result.list a.direction =
-        c.no_entry.ensures ∙ ap (lacks_at (sheet_data s) c.rounded-sized.result.list a.direction) c.first_entry.ensures in
+    c.no_entry.ensures ∙ ap (lacks_at (sheet_data s) c.rounded-sized.result.list a.direction) c.first_entry.ensures in
     all-sizes s a.multipliers.now a.direction keeps c.coe_on-coe.result c.coe_on-coe.ensures c.rounded-sized.result rounds
     c.if-not-coe.false c.in-Accepted.is (sym lacks ∙ c.if-no_entry.false)
 
@@ -95,8 +95,8 @@ returns-in_default-answer c =
     let keeps : Checked s Accepted = checked-case s c.check-sound.ensures c.in_default.is in
     let mine : List BitLen = of_usage (sheet_data s).managers (usage_of a.direction) (bits_in s c.coe_on-coe.result a.multipliers.now) in
     let picked : c.of_usage.result ≡ mine =
-        c.of_usage.ensures ∙ (λ i. of_usage (sheet_data s).managers (c.filter_terms.ensures i).usage (c.tally-bits.ensures i)) in
+    c.of_usage.ensures ∙ (λ i. of_usage (sheet_data s).managers (c.filter_terms.ensures i).usage (c.tally-bits.ensures i)) in
     let rounds : c.rounded-sized.result ≡ sizes_after (rounded_in (manager_count s) mine) =
-        c.rounded-sized.ensures ∙ (λ i. sizes_after (rounded_in (manager_count s) (picked i))) in
+    c.rounded-sized.ensures ∙ (λ i. sizes_after (rounded_in (manager_count s) (picked i))) in
     six-sizes s a.multipliers.now a.direction keeps c.coe_on-coe.result c.coe_on-coe.ensures c.rounded-sized.result rounds
     c.in_default-answer.field-0 c.in_default-answer.is

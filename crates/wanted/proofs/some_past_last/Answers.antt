@@ -1,6 +1,5 @@
 -- `wanted::some_past_last`: no entry so far is above 15.
 -- Assumes nothing.
-use Prim.Native.Nat.{◌-◌}
 use native.Mathlib.Omega.{arith}
 use Rattle.wanted.proofs.Judging.{none-past-start, past-here, past-not-here, past-nowhere}
 use Rattle.wanted.proofs.some_past_last.Goals as goal

@@ -1,6 +1,5 @@
 -- `wanted::some_shared`: no entry so far is used by both.
 -- Assumes nothing.
-use Prim.Native.Nat.{◌-◌}
 use native.Mathlib.Omega.{arith}
 use Rattle.wanted.proofs.Judging.{no-shared-start, shared-here, not-shared-two, not-shared-one, shared-nowhere}
 use Rattle.wanted.proofs.some_shared.Goals as goal
@@ -21,8 +20,8 @@ loop-k-preserved c =
     let a = c.args in (
       omega arith,
       elim c.if-one-k.branch [
-        then-one-k+else-two-k w ↦ not-shared-two a.one a.two l.k l.invariant.1 w.if-two-k.false
-      | else-one-k w ↦ not-shared-one a.one a.two l.k l.invariant.1 w.if-one-k.false
+        | then-one-k+else-two-k w ↦ not-shared-two a.one a.two l.k l.invariant.1 w.if-two-k.false
+        | else-one-k w ↦ not-shared-one a.one a.two l.k l.invariant.1 w.if-one-k.false
       ],
     )
 

@@ -1,7 +1,7 @@
 -- `wanted::some_size`: no size of the usage so far is above 0.
 -- Assumes nothing.
 use mathlib.Core.Path.{◌≡◌, sym, ◌∙◌, ap, subst}
-use Prim.Native.Nat.{ℕ, ◌-◌, ◌≤◌}
+use Prim.Native.Nat.{ℕ, ◌≤◌}
 use native.Mathlib.Omega.{arith}
 use Rattle.channels.specs.Channels.{size_at}
 use Rattle.wanted.proofs.Sized.{no-size-start, size-here, size-empty, size-other, size-nowhere}
@@ -29,10 +29,10 @@ loop-k-preserved c =
       l.invariant.1,
       l.invariant.2,
       elim c.if-usage_of-usage.branch [
-        then-usage_of-usage+else-sizes-wide-gt0 w ↦
-          size-empty a.sheet.now a.usage a.sizes l.k l.invariant.3 (subst (λ (k : ℕ). size_at a.sizes k ≤ 0) w.wide.ensures.0 w.if-sizes-wide-gt0.false)
-      | else-usage_of-usage w ↦
-          size-other a.sheet.now a.usage a.sizes l.k (omega arith) l.invariant.3 (λ e. w.if-usage_of-usage.false (c.usage_of.ensures ∙ e))
+        | then-usage_of-usage+else-sizes-wide-gt0 w ↦
+            size-empty a.sheet.now a.usage a.sizes l.k l.invariant.3 (subst (λ (k : ℕ). size_at a.sizes k ≤ 0) w.wide.ensures.0 w.if-sizes-wide-gt0.false)
+        | else-usage_of-usage w ↦
+            size-other a.sheet.now a.usage a.sizes l.k (omega arith) l.invariant.3 (λ e. w.if-usage_of-usage.false (c.usage_of.ensures ∙ e))
       ],
     )
 

@@ -1,6 +1,6 @@
 -- `wanted::sum_bytes`: what is summed, and the sum of the rest, is the sum.
 -- Assumes nothing.
-use Prim.Native.Nat.{◌-◌, ◌<◌}
+use Prim.Native.Nat.{◌<◌}
 use native.Mathlib.Omega.{arith}
 use lib.ListN.{get_or}
 use Rattle.pdo.proofs.Part.{sum-turn, sum-end}

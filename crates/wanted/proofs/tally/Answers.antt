@@ -89,15 +89,20 @@ loop-i-preserved c =
     let i = l.invariant in
     let s = c.args.sheet.now in
     let next = l.place + 5 + c.wide.result in
-    let e = sym c.counts.ensures in
-    (i.0, i.1, i.2, i.3, i.4,
-    elim c.if-counts.branch [
-      then-counts w ↦
-        let h = counts-there s c.args.«coe» (get_or s l.place 0) (get_or s (l.place + 1) 0) (e ∙ w.if-counts.true) in
-        tallied-here _ _ _ _ i.5 next (omega arith) (omega arith) w.wide-slot.result w.pdo_bits.result w.multiplier_at.result _ (e ∙ w.if-counts.true)
-        w.wide-slot.ensures.0 (omega arith) w.pdo_bits.ensures.0 w.multiplier_at.ensures w.pdo_bits.ensures.1 (omega arith) w.sums-is
-    | else-counts w ↦ tallied-on _ _ _ _ i.5 next (omega arith) (omega arith) _ (e ∙ w.if-counts.false) w.sums-is
-    ])
+    let e = sym c.counts.ensures in (
+      i.0,
+      i.1,
+      i.2,
+      i.3,
+      i.4,
+      elim c.if-counts.branch [
+        | then-counts w ↦
+            let h = counts-there s c.args.«coe» (get_or s l.place 0) (get_or s (l.place + 1) 0) (e ∙ w.if-counts.true) in
+            tallied-here _ _ _ _ i.5 next (omega arith) (omega arith) w.wide-slot.result w.pdo_bits.result w.multiplier_at.result _ (e ∙ w.if-counts.true)
+            w.wide-slot.ensures.0 (omega arith) w.pdo_bits.ensures.0 w.multiplier_at.ensures w.pdo_bits.ensures.1 (omega arith) w.sums-is
+        | else-counts w ↦ tallied-on _ _ _ _ i.5 next (omega arith) (omega arith) _ (e ∙ w.if-counts.false) w.sums-is
+      ],
+    )
 
 pub returns : goal.returns
 unfolding sheet_data

@@ -46,14 +46,14 @@ returns-in-Refused-answer c =
     let keeps : Checked c.args.sheet.now Accepted = checked-case _ c.check-sound.ensures c.in_default.is in
     let a = c.args in
     let good : bad_pairs a.mode a.chosen (sheet_data a.sheet.now) a.multipliers.now ≡ false =
-        elim c.if-by_pairs.branch [
-          then-by_pairs+else-bad_pairs w ↦
-            good-pairs a.mode a.chosen a.sheet.now a.multipliers.now keeps c.coe_on-coe.result c.coe_on-coe.ensures c.tally-bits.result c.tally-bits.ensures
-            (sym w.bad_pairs.ensures ∙ w.if-bad_pairs.false)
-        | else-by_pairs w ↦
-            unread-pairs a.mode a.chosen a.sheet.now a.multipliers.now keeps c.coe_on-coe.result c.coe_on-coe.ensures c.tally-bits.result c.tally-bits.ensures
-            (sym c.by_pairs.ensures ∙ w.if-by_pairs.false)
-        ] in
+    elim c.if-by_pairs.branch [
+      | then-by_pairs+else-bad_pairs w ↦
+          good-pairs a.mode a.chosen a.sheet.now a.multipliers.now keeps c.coe_on-coe.result c.coe_on-coe.ensures c.tally-bits.result c.tally-bits.ensures
+          (sym w.bad_pairs.ensures ∙ w.if-bad_pairs.false)
+      | else-by_pairs w ↦
+          unread-pairs a.mode a.chosen a.sheet.now a.multipliers.now keeps c.coe_on-coe.result c.coe_on-coe.ensures c.tally-bits.result c.tally-bits.ensures
+          (sym c.by_pairs.ensures ∙ w.if-by_pairs.false)
+    ] in
     six-wants a.mode a.chosen a.sheet.now a.multipliers.now keeps c.coe_on-coe.result c.coe_on-coe.ensures c.tally-bits.result c.tally-bits.ensures
     good c.rounded-sized.result c.rounded-sized.ensures c.in-Refused-answer.number c.refused-in-Refused-answer.result c.in-Refused-answer.is c.refused-in-Refused-answer.ensures
 
@@ -68,14 +68,14 @@ returns-then-coe c =
     let keeps : Checked c.args.sheet.now Accepted = checked-case _ c.check-sound.ensures c.in_default.is in
     let a = c.args in
     let good : bad_pairs a.mode a.chosen (sheet_data a.sheet.now) a.multipliers.now ≡ false =
-        elim c.if-by_pairs.branch [
-          then-by_pairs+else-bad_pairs w ↦
-            good-pairs a.mode a.chosen a.sheet.now a.multipliers.now keeps c.coe_on-coe.result c.coe_on-coe.ensures c.tally-bits.result c.tally-bits.ensures
-            (sym w.bad_pairs.ensures ∙ w.if-bad_pairs.false)
-        | else-by_pairs w ↦
-            unread-pairs a.mode a.chosen a.sheet.now a.multipliers.now keeps c.coe_on-coe.result c.coe_on-coe.ensures c.tally-bits.result c.tally-bits.ensures
-            (sym c.by_pairs.ensures ∙ w.if-by_pairs.false)
-        ] in
+    elim c.if-by_pairs.branch [
+      | then-by_pairs+else-bad_pairs w ↦
+          good-pairs a.mode a.chosen a.sheet.now a.multipliers.now keeps c.coe_on-coe.result c.coe_on-coe.ensures c.tally-bits.result c.tally-bits.ensures
+          (sym w.bad_pairs.ensures ∙ w.if-bad_pairs.false)
+      | else-by_pairs w ↦
+          unread-pairs a.mode a.chosen a.sheet.now a.multipliers.now keeps c.coe_on-coe.result c.coe_on-coe.ensures c.tally-bits.result c.tally-bits.ensures
+          (sym c.by_pairs.ensures ∙ w.if-by_pairs.false)
+    ] in
     coe-wants a.mode a.chosen a.sheet.now a.multipliers.now keeps c.coe_on-coe.result c.coe_on-coe.ensures c.tally-bits.result c.tally-bits.ensures
     good c.rounded-sized.result c.rounded-sized.ensures c.in_default-answer.is c.by_coe.result c.if-coe.true c.by_coe.ensures
 
@@ -84,13 +84,13 @@ returns c =
     let keeps : Checked c.args.sheet.now Accepted = checked-case _ c.check-sound.ensures c.in_default.is in
     let a = c.args in
     let good : bad_pairs a.mode a.chosen (sheet_data a.sheet.now) a.multipliers.now ≡ false =
-        elim c.if-by_pairs.branch [
-          then-by_pairs+else-bad_pairs w ↦
-            good-pairs a.mode a.chosen a.sheet.now a.multipliers.now keeps c.coe_on-coe.result c.coe_on-coe.ensures c.tally-bits.result c.tally-bits.ensures
-            (sym w.bad_pairs.ensures ∙ w.if-bad_pairs.false)
-        | else-by_pairs w ↦
-            unread-pairs a.mode a.chosen a.sheet.now a.multipliers.now keeps c.coe_on-coe.result c.coe_on-coe.ensures c.tally-bits.result c.tally-bits.ensures
-            (sym c.by_pairs.ensures ∙ w.if-by_pairs.false)
-        ] in
+    elim c.if-by_pairs.branch [
+      | then-by_pairs+else-bad_pairs w ↦
+          good-pairs a.mode a.chosen a.sheet.now a.multipliers.now keeps c.coe_on-coe.result c.coe_on-coe.ensures c.tally-bits.result c.tally-bits.ensures
+          (sym w.bad_pairs.ensures ∙ w.if-bad_pairs.false)
+      | else-by_pairs w ↦
+          unread-pairs a.mode a.chosen a.sheet.now a.multipliers.now keeps c.coe_on-coe.result c.coe_on-coe.ensures c.tally-bits.result c.tally-bits.ensures
+          (sym c.by_pairs.ensures ∙ w.if-by_pairs.false)
+    ] in
     eeprom-wants a.mode a.chosen a.sheet.now a.multipliers.now keeps c.coe_on-coe.result c.coe_on-coe.ensures c.tally-bits.result c.tally-bits.ensures
     good c.rounded-sized.result c.rounded-sized.ensures c.in_default-answer.is c.by_eeprom.result c.if-coe.false c.by_eeprom.ensures

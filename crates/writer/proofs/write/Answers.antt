@@ -1,7 +1,7 @@
 -- `writer::write`: the test that led to each refusal says that it is the first that holds; else what is laid is the sheet.
 -- Assumes nothing.
 use mathlib.Core.Path.{◌≡◌, sym, ◌∙◌, ap}
-use mathlib.Core.Bool.{Bool, true, false}
+use mathlib.Core.Bool.{true, false}
 use mathlib.Core.List.{List}
 use Prim.Native.Nat.{ℕ, ◌+◌, ◌*◌}
 use native.Mathlib.Omega.{arith}
@@ -55,7 +55,7 @@ returns-then-short c =
     let long = length-is d s c.behind-behind.ensures c.pdos_end-long.ensures.0 c.length_of-follow.ensures c.if-follow-gt16384.false in
     let total : c.length_of-follow.result + 2 ≡ 11 + 5 * d.n + d.f + records_long d s = omega arith in
     let in_range : InRange d s =
-        record { receive = search rules; send = search rules; managers = search rules; starts = starts_fit d.managers c.well_formed.0.1.1.1.1.1.1.1.0.0 c.well_formed.0.1.1.1.1.1.1.1.0.1.1; usages = search rules; count = search rules; bytes = search rules } in
+    record { receive = search rules; send = search rules; managers = search rules; starts = starts_fit d.managers c.well_formed.0.1.1.1.1.1.1.1.0.0 c.well_formed.0.1.1.1.1.1.1.1.0.1.1; usages = search rules; count = search rules; bytes = search rules } in
     refused-twelve d s c.args.room.now in_range short rule named total (sym c.too_short-short.ensures ∙ c.if-short.true)
 
 pub put_sheet-requires : goal.put_sheet-requires
@@ -82,6 +82,6 @@ returns c =
     let long = length-is d s c.behind-behind.ensures c.pdos_end-long.ensures.0 c.length_of-follow.ensures c.if-follow-gt16384.false in
     let total : c.length_of-follow.result + 2 ≡ 11 + 5 * d.n + d.f + records_long d s = omega arith in
     let in_range : InRange d s =
-        record { receive = search rules; send = search rules; managers = search rules; starts = starts_fit d.managers c.well_formed.0.1.1.1.1.1.1.1.0.0 c.well_formed.0.1.1.1.1.1.1.1.0.1.1; usages = search rules; count = search rules; bytes = search rules } in
+    record { receive = search rules; send = search rules; managers = search rules; starts = starts_fit d.managers c.well_formed.0.1.1.1.1.1.1.1.0.0 c.well_formed.0.1.1.1.1.1.1.1.0.1.1; usages = search rules; count = search rules; bytes = search rules } in
     written-whole d s c.args.room.now in_range short rule named total (sym c.too_short-short.ensures ∙ c.if-short.false)
     (c.put_sheet.ensures ∙ ap (λ (l : List ℕ). over (sheet_laid d (c.length_of-follow.result + 2) l) c.args.room.now) records)
