@@ -1,6 +1,6 @@
 -- The calls of `Calls` are calls of the functions: arguments, answer and places at exit that keep a function's own contract make the record that the theorem is about.
--- `translate` has a generated reading of its contract, `Post`. The other two are walked: that `CallsLent` and `CountsBy` are what their sources state, in every
--- model, is `configure-fmmus-states` and `count-states` (lent/proofs/Unique.antt). So a changed `ensures` breaks this file or that one.
+-- Of `translate` the generated reading of its contract is taken, `Post`. Of the other two it is written out: that `CallsLent` and `CountsBy` are what their
+-- sources state, in every model, is `configure-fmmus-states` and `count-states` (lent/proofs/Unique.antt). So a changed `ensures` breaks this file or that one.
 -- Assumes nothing.
 use contract.Lifetimes.{Lfts}
 use denote.Triple.Clauses.{AtExit}

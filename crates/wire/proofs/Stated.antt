@@ -1,6 +1,5 @@
--- A function whose parameters the borrow checker doesn't cover (a reference to a struct, a slice of structs) is proved by a walk, and has no
--- generated reading of its contract. `Post` is one where, in every model, the `ensures` that the
--- source states is the fact of `Post`: said once, for the uniqueness of each such function.
+-- A reading of a contract that is written out, for a function with a reference to a struct or a slice of structs: `Post` is one where, in every
+-- model, the `ensures` that the source states is the fact of `Post`. Said once, for the uniqueness of each such function.
 -- Assumes nothing.
 use mathlib.Core.Path.{◌≡◌}
 use seplogic.Ra.Ura.{Ura}

@@ -17,7 +17,24 @@ use Rattle.writer.proofs.Range.{starts_fit}
 use Rattle.writer.proofs.Rules.{kept}
 use Rattle.writer.proofs.Lent.{records-long}
 use Rattle.writer.proofs.Outcomes.{long-refused, short-enough, length-is, records-are, refused-two, refused-four, refused-five, refused-twelve, written-whole}
+use Rattle.writer.proofs.write.Lts as steps
+use Rattle.writer.proofs.write.Reads as reads
+use Rattle.writer.proofs.write.Tie as tie
 use Rattle.writer.proofs.write.Goals as goal
+
+-- at every call the record's numbers and the lent bytes are in the range of their types
+pub in-range : (c : steps.After-shared_slice_known tie.the-claims reads.Pre reads.Post) → InRange c.before.args.device c.before.args.bytes.now
+in-range c =
+    let d = c.before.args.device in
+    record {
+      receive = search rules;
+      send = search rules;
+      managers = search rules;
+      starts = starts_fit d.managers c.before.well_formed.0.1.1.1.1.1.1.1.0.0 c.before.well_formed.0.1.1.1.1.1.1.1.0.1.1;
+      usages = search rules;
+      count = search rules;
+      bytes = search rules;
+    }
 
 pub returns-then-follow-gt16384 : goal.returns-then-follow-gt16384
 returns-then-follow-gt16384 c =

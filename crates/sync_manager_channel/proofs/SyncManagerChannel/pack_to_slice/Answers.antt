@@ -5,9 +5,16 @@ use mathlib.Core.List.{List}
 use Prim.Native.Nat.{ℕ}
 use Rattle.wire.specs.Room.{over}
 use borrow.Author.Tests.{eq-eqb, ne_eqb}
-use Rattle.sync_manager_channel.proofs.SyncManagerChannel.pack_to_slice.Statement.{
-}
+use borrow.Author.Rules.{rules}
+use Rattle.sync_manager_channel.specs.Image.{InRange}
+use Rattle.sync_manager_channel.proofs.SyncManagerChannel.pack_to_slice.Lts as steps
+use Rattle.sync_manager_channel.proofs.SyncManagerChannel.pack_to_slice.Reads as reads
+use Rattle.sync_manager_channel.proofs.SyncManagerChannel.pack_to_slice.Tie as tie
 use Rattle.sync_manager_channel.proofs.SyncManagerChannel.pack_to_slice.Goals as goal
+
+-- at every call the numbers are in the range of their types
+pub in-range : (c : steps.Start tie.the-claims reads.Pre reads.Post) → InRange c.args.self
+in-range c = record { start = search rules; length = search rules }
 
 pub returns-then-buf-ne8 : goal.returns-then-buf-ne8
 returns-then-buf-ne8 c = simp (ne_eqb _ _ c.if-buf-ne8.true) (record { says = refl; holds = refl })
