@@ -19,7 +19,7 @@ use Rattle.pdi.proofs.BitLen.round_up.Reads as round_up
 use Rattle.pdi.proofs.PdiOffset.increment.Reads as increment
 use Rattle.pdi.proofs.PdiOffset.increment_byte_aligned.Reads as increment-byte-aligned
 use Rattle.pdi.proofs.PdiOffset.at.Reads as at_exact
-use Rattle.pdi.proofs.PdiOffset.up_to.Reads as up_to_lem
+use Rattle.pdi.proofs.PdiOffset.up_to.Reads as up-to
 use Rattle.pdi.proofs.PdiSegment.len.Reads as len
 use Rattle.pdi.proofs.PdiSegment.less.Reads as less
 use Rattle.pdi.proofs.PdiSegment.fmt.Reads as fmt
@@ -61,7 +61,7 @@ increment-byte-aligned-pins κs a x y s t p q = same_by moved_of moved_back move
 pub at-pins : Pins at_exact.Post (λ κs r s. r)
 at-pins κs a x y s t p q = same_by moved_of moved_back moved-determined p q
 
-pub up-to-pins : Pins up_to_lem.Post (λ κs r s. r)
+pub up-to-pins : Pins up-to.Post (λ κs r s. r)
 up-to-pins κs a x y s t p q = same p q
 
 pub len-pins : Pins len.Post (λ κs r s. r)

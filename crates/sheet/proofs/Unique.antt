@@ -18,7 +18,7 @@ use Rattle.sheet.proofs.receive_size.Reads as receive-size
 use Rattle.sheet.proofs.send_size.Reads as send-size
 use Rattle.sheet.proofs.front_count.Reads as front-count
 use Rattle.sheet.proofs.usage_of.Reads as usage-of
-use Rattle.sheet.proofs.start_of.Reads as start_of_lem
+use Rattle.sheet.proofs.start_of.Reads as start-of
 use Rattle.sheet.proofs.manager.Reads as manager
 use Rattle.sheet.proofs.read.Reads as read
 use Rattle.sheet.proofs.refused.Reads as refusing
@@ -53,7 +53,7 @@ send-size-pins κs a x y s t p q = λ i. record { 0 = same p q i }
 pub usage-of-pins : Pins usage-of.Post (λ κs r s. r)
 usage-of-pins κs a x y s t p q = same p q
 
-pub start-of-pins : Pins start_of_lem.Post (λ κs r s. r)
+pub start-of-pins : Pins start-of.Post (λ κs r s. r)
 start-of-pins κs a x y s t p q = same p q
 
 pub manager-pins : Pins manager.Post (λ κs r s. r)

@@ -1,4 +1,5 @@
 -- `area::load`: after k turns the first k entries stand in the array.
+-- Assumes nothing.
 use mathlib.Core.Path.{◌≡◌}
 use mathlib.Core.List.{◌++◌}
 use Prim.Native.Nat.{◌-◌, ◌≤◌}

@@ -1,4 +1,5 @@
 -- `area::store_all`: an area of another length stays; after k turns the first k entries of the area are the given ones.
+-- Assumes nothing.
 use mathlib.Core.Path.{◌≡◌}
 use mathlib.Core.List.{◌++◌}
 use Prim.Native.Nat.{◌-◌, ◌≤◌}

@@ -1,4 +1,5 @@
 -- `channels::write_channels`: the sync managers that are left, written into the area, give the area with all of them written.
+-- Assumes nothing.
 use mathlib.Core.Path.{◌≡◌}
 use Prim.Native.Nat.{◌-◌, ◌≤◌}
 use lib.ListN.{length, drop}

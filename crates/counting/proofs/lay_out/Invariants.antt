@@ -1,4 +1,5 @@
 -- `counting::lay_out`: what is found and where the rest ends are what all find and where all end.
+-- Assumes nothing.
 use mathlib.Core.Path.{◌≡◌}
 use Prim.Native.Nat.{◌+◌, ◌-◌, ◌*◌, ◌≤◌, min}
 use lib.ListN.{drop}

@@ -1,4 +1,5 @@
 -- `dump::bits`: so far the bits of the first k entries, each at most 255.
+-- Assumes nothing.
 use mathlib.Core.Path.{◌≡◌}
 use Prim.Native.Nat.{◌+◌, ◌*◌, ◌-◌, ◌≤◌}
 use lib.ListN.{get_or}

@@ -1,4 +1,5 @@
 -- `dump::find`: what is noted and counted where the walk stands, and what is still to come, is what there is of all.
+-- Assumes nothing.
 use Prim.Native.Nat.{◌-◌, ◌≤◌}
 use lib.ListN.{length}
 use Rattle.dump.specs.Looked.{nowhere}

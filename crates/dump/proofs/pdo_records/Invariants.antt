@@ -1,4 +1,5 @@
 -- `dump::pdo_records`: so many records are passed up to where the walk stands.
+-- Assumes nothing.
 use mathlib.Core.Path.{◌≡◌}
 use Prim.Native.Nat.{◌-◌}
 use lib.ListN.{length, drop}

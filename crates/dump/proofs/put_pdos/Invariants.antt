@@ -1,4 +1,5 @@
 -- `dump::put_pdos`: what is left, put from where the walk stands, gives what all of them give.
+-- Assumes nothing.
 use mathlib.Core.Path.{◌≡◌}
 use Prim.Native.Nat.{◌-◌}
 use lib.ListN.{length, drop}

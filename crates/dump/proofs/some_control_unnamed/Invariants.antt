@@ -1,4 +1,5 @@
 -- `dump::some_control_unnamed`: after k turns none of the first k has an unnamed control.
+-- Assumes nothing.
 use mathlib.Core.Path.{◌≡◌}
 use mathlib.Core.Bool.{false}
 use Prim.Native.Nat.{◌-◌, ◌≤◌}

@@ -1,4 +1,5 @@
 -- `dump::some_manager_unnamed`: after k turns none of the first k has an unnamed usage.
+-- Assumes nothing.
 use mathlib.Core.Path.{◌≡◌}
 use mathlib.Core.Bool.{false}
 use Prim.Native.Nat.{◌-◌, ◌≤◌}

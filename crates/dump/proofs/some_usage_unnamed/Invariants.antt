@@ -1,4 +1,5 @@
 -- `dump::some_usage_unnamed`: after k turns each of the first k has a name.
+-- Assumes nothing.
 use mathlib.Core.Path.{◌≡◌}
 use mathlib.Core.Bool.{false}
 use Prim.Native.Nat.{◌-◌, ◌≤◌}

@@ -1,4 +1,5 @@
 -- `dump::usages_of`: after k turns the first k usages stand in the list.
+-- Assumes nothing.
 use mathlib.Core.Path.{◌≡◌}
 use mathlib.Core.List.{◌++◌}
 use Prim.Native.Nat.{◌-◌, ◌≤◌}

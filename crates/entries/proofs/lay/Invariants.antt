@@ -1,4 +1,5 @@
 -- `entries::lay`: each turn lays the next use of the direction, or finds 8, or passes one sync manager over.
+-- Assumes nothing.
 use mathlib.Core.Path.{◌≡◌}
 use Prim.Native.Nat.{◌-◌, ◌≤◌}
 use Rattle.grammar.specs.Grammar.{manager_count}

@@ -1,4 +1,5 @@
 -- `grammar::pdos_end`: where the records left end from where the walk stands is where all end.
+-- Assumes nothing.
 use mathlib.Core.Path.{◌≡◌}
 use Prim.Native.Nat.{◌+◌, ◌*◌, ◌≤◌}
 use Rattle.grammar.specs.Grammar.{pdos_end}

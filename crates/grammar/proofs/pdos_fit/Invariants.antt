@@ -1,4 +1,5 @@
 -- `grammar::pdos_fit`: whether the records left fit from where the walk stands is whether all fit from the start.
+-- Assumes nothing.
 use mathlib.Core.Path.{◌≡◌}
 use Rattle.grammar.specs.Grammar.{pdos_fit}
 use Rattle.grammar.proofs.pdos_fit.Given as goal

@@ -1,4 +1,5 @@
 -- `grammar::some_above`: none of the bytes looked at so far is above the limit.
+-- Assumes nothing.
 use mathlib.Core.Path.{◌≡◌}
 use mathlib.Core.Bool.{false}
 use Prim.Native.Nat.{◌+◌, ◌*◌, ◌-◌, ◌≤◌}

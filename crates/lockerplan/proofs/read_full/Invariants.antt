@@ -1,4 +1,5 @@
 -- `lockerplan::read_full`: no more has come than there is room for.
+-- Assumes nothing.
 use Rattle.std.proofs.Common.{length, ◌-◌, ◌≤◌}
 use Rattle.lockerplan.proofs.read_full.Given as goal
 

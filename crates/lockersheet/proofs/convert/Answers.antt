@@ -1,4 +1,5 @@
 -- `lockersheet::convert`: the buffer is too long to be written out, so its length is cited, and what `read_full` ensures.
+-- Assumes nothing.
 use Rattle.std.proofs.Common.{sym, ℕ}
 use Rattle.std.proofs.lemmas.List.{length-replicate}
 use Rattle.lockersheet.proofs.convert.Goals as goal

@@ -1,4 +1,5 @@
 -- Each end of the loop by the lemma of proofs/Digits.antt that it falls under.
+-- Assumes nothing.
 use Rattle.std.proofs.Common.{sym, ◌∙◌, arith}
 use Rattle.lockersheet.proofs.Digits.{past, below, above, turn, at-end}
 use Rattle.lockersheet.proofs.decimal.Goals as goal

@@ -1,4 +1,5 @@
 -- `lockersheet::decimal`: after i turns the digits that are left, behind those that were taken, write the same number.
+-- Assumes nothing.
 use Rattle.std.proofs.Common.{◌≡◌, ◌-◌, ◌≤◌, length, drop}
 use Rattle.lockersheet.specs.Decimal.{number_from, number_in}
 use Rattle.lockersheet.proofs.decimal.Given as goal

@@ -1,4 +1,5 @@
 -- `lockersheet::read_full`: no more has come than there is room for.
+-- Assumes nothing.
 use Rattle.std.proofs.Common.{length, ◌-◌, ◌≤◌}
 use Rattle.lockersheet.proofs.read_full.Given as goal
 

@@ -1,4 +1,5 @@
 -- `mailboxes::mailboxes_of`: what is recorded and written so far, and the rest, give all.
+-- Assumes nothing.
 use mathlib.Core.Path.{◌≡◌}
 use Prim.Native.Nat.{◌-◌, ◌≤◌}
 use lib.ListN.{length, drop}

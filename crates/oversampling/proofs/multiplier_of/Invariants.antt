@@ -1,4 +1,5 @@
 -- `oversampling::multiplier_of`: what is still to be searched has the same first match as the whole.
+-- Assumes nothing.
 use mathlib.Core.Path.{◌≡◌}
 use Prim.Native.Nat.{◌-◌}
 use lib.ListN.{length, drop}

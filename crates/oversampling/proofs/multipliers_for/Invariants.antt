@@ -1,4 +1,5 @@
 -- `oversampling::multipliers_for`: the first k places are filled, and the records ahead stand from a place on.
+-- Assumes nothing.
 use mathlib.Core.Path.{◌≡◌}
 use Prim.Native.Nat.{◌-◌}
 use Rattle.oversampling.proofs.Filled.{Filling, filled}

@@ -1,4 +1,5 @@
 -- `pairs::fmmu_mappings`: what is said is what the first k pairs say.
+-- Assumes nothing.
 use mathlib.Core.Path.{◌≡◌}
 use Prim.Native.Nat.{◌-◌, ◌≤◌}
 use lib.ListN.{length, take}

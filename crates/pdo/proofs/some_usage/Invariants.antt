@@ -1,4 +1,5 @@
 -- `pdo::some_usage`: whether one of the rest has the usage is whether one of all has.
+-- Assumes nothing.
 use mathlib.Core.Path.{◌≡◌}
 use Prim.Native.Nat.{◌-◌, ◌≤◌}
 use lib.ListN.{drop}

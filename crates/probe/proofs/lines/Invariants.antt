@@ -1,4 +1,5 @@
 -- `probe::lines`: each turn comes nearer to the end.
+-- Assumes nothing.
 use Rattle.std.proofs.Common.{◌+◌, ◌-◌}
 use Rattle.probe.proofs.lines.Given as goal
 

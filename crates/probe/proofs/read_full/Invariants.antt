@@ -1,4 +1,5 @@
 -- `probe::read_full`: no more has come than there is room for.
+-- Assumes nothing.
 use Rattle.std.proofs.Common.{length, ◌-◌, ◌≤◌}
 use Rattle.probe.proofs.read_full.Given as goal
 

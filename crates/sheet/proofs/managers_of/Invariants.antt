@@ -1,4 +1,5 @@
 -- `sheet::managers_of`: after k turns the first k sync managers stand in the list.
+-- Assumes nothing.
 use mathlib.Core.Path.{◌≡◌}
 use Prim.Native.Nat.{◌-◌, ◌≤◌}
 use Rattle.sheet.specs.Sheet.{managers_of}

@@ -1,4 +1,5 @@
 -- `sheet::some_unnamed`: whether some control is unnamed is whether one is of those that are left.
+-- Assumes nothing.
 use mathlib.Core.Path.{◌≡◌}
 use Prim.Native.Nat.{◌-◌, ◌≤◌}
 use Rattle.sheet.proofs.Managers.{unnamed_left}

@@ -1,4 +1,5 @@
 -- `sheet::usages_of`: after k turns the first k usages stand in the list.
+-- Assumes nothing.
 use mathlib.Core.Path.{◌≡◌}
 use Prim.Native.Nat.{◌-◌, ◌≤◌}
 use Rattle.sheet.specs.Sheet.{usages_of}

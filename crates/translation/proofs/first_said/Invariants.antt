@@ -1,4 +1,5 @@
 -- `translation::first_said`: what the rest says is what all say, as long as nothing was said.
+-- Assumes nothing.
 use mathlib.Core.Path.{◌≡◌}
 use mathlib.Core.List.{map}
 use Prim.Native.Nat.{◌-◌, ◌≤◌}

@@ -1,4 +1,5 @@
 -- `translation::some_odd`: whether one of the rest is such is whether one of all is.
+-- Assumes nothing.
 use mathlib.Core.Path.{◌≡◌}
 use Prim.Native.Nat.{◌-◌, ◌≤◌}
 use lib.ListN.{drop}

@@ -1,4 +1,5 @@
 -- `wanted::first_with`: the places passed, and the first place among the rest, are the first place.
+-- Assumes nothing.
 use mathlib.Core.Path.{◌≡◌}
 use Prim.Native.Nat.{◌+◌, ◌-◌, ◌≤◌}
 use lib.ListN.{drop}

@@ -1,4 +1,5 @@
 -- `wanted::of_usage`: what is picked so far, and nothing yet of the numbers ahead.
+-- Assumes nothing.
 use mathlib.Core.Path.{◌≡◌}
 use Prim.Native.Nat.{◌-◌, ◌≤◌}
 use Rattle.grammar.specs.Grammar.{manager_count}

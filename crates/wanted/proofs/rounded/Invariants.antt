@@ -1,4 +1,5 @@
 -- `wanted::rounded`: after k turns k sizes stand there, and none of them is too wide.
+-- Assumes nothing.
 use mathlib.Core.Path.{◌≡◌}
 use Prim.Native.Nat.{◌-◌, ◌≤◌}
 use Rattle.grammar.specs.Grammar.{manager_count}

@@ -1,4 +1,5 @@
 -- `wanted::some_past_last`: no entry so far is above 15.
+-- Assumes nothing.
 use mathlib.Core.Path.{◌≡◌}
 use mathlib.Core.Bool.{false}
 use Prim.Native.Nat.{◌-◌, ◌≤◌}

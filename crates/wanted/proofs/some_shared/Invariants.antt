@@ -1,4 +1,5 @@
 -- `wanted::some_shared`: no entry so far is used by both.
+-- Assumes nothing.
 use mathlib.Core.Path.{◌≡◌}
 use mathlib.Core.Bool.{false, ◌&&◌}
 use Prim.Native.Nat.{◌-◌, ◌≤◌}

@@ -1,4 +1,5 @@
 -- `wanted::some_size`: no size of the usage so far is above 0.
+-- Assumes nothing.
 use mathlib.Core.Path.{◌≡◌}
 use mathlib.Core.Bool.{false, ◌&&◌}
 use Prim.Native.Nat.{◌-◌, ◌≤◌}

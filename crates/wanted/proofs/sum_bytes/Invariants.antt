@@ -1,4 +1,5 @@
 -- `wanted::sum_bytes`: what is summed, and the sum of the rest, is the sum.
+-- Assumes nothing.
 use mathlib.Core.Path.{◌≡◌}
 use Prim.Native.Nat.{◌+◌, ◌-◌, ◌*◌, ◌≤◌}
 use lib.ListN.{length, drop}

@@ -1,4 +1,5 @@
 -- `wanted::survey`: what is known of the uses of the numbers from k on.
+-- Assumes nothing.
 use Prim.Native.Nat.{◌≤◌}
 use Rattle.wanted.proofs.Surveying.{Seen, uses_after}
 use Rattle.wanted.proofs.survey.Given as goal

@@ -1,4 +1,5 @@
 -- `wanted::tally`: the sums so far, and what the records ahead add, are the whole.
+-- Assumes nothing.
 use mathlib.Core.Path.{◌≡◌}
 use Prim.Native.Nat.{◌-◌, ◌≤◌}
 use lib.ListN.{length}

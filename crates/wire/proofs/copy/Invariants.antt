@@ -1,4 +1,5 @@
 -- `wire::copy`: after i turns the first i bytes of `from` stand over the front of `to`.
+-- Assumes nothing.
 use mathlib.Core.Path.{◌≡◌}
 use mathlib.Core.List.{◌++◌}
 use Prim.Native.Nat.{◌-◌, ◌≤◌}

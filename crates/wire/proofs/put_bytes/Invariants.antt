@@ -1,4 +1,5 @@
 -- `wire::put_bytes`: typing the rest of the text where the loop stands is typing all of it from the start.
+-- Assumes nothing.
 use mathlib.Core.Path.{◌≡◌}
 use Prim.Native.Nat.{◌-◌, ◌≤◌}
 use lib.ListN.{length, drop}

@@ -1,4 +1,5 @@
 -- `wire::put_digits`: typing the digits that are left where the loop stands is typing all of them from the start.
+-- Assumes nothing.
 use mathlib.Core.Path.{◌≡◌}
 use Prim.Native.Nat.{◌≤◌, ◌<◌, ◌/◌, ◌^◌}
 use lib.ListN.{length}

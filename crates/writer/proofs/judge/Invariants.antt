@@ -1,4 +1,5 @@
 -- `writer::judge`: after k turns both answers are those of the first k.
+-- Assumes nothing.
 use mathlib.Core.Path.{◌≡◌}
 use Prim.Native.Nat.{◌-◌, ◌≤◌}
 use lib.ListN.{take}

@@ -1,4 +1,5 @@
 -- `writer::put_managers`: after k turns the first k stand one behind the other.
+-- Assumes nothing.
 use mathlib.Core.Path.{◌≡◌}
 use mathlib.Core.List.{map}
 use Prim.Native.Nat.{◌-◌, ◌≤◌}

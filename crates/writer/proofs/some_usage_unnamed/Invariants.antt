@@ -1,4 +1,5 @@
 -- `writer::some_usage_unnamed`: whether some usage has no name is whether one has none of those that are left.
+-- Assumes nothing.
 use mathlib.Core.Path.{◌≡◌}
 use mathlib.Core.Bool.{false}
 use Prim.Native.Nat.{◌-◌, ◌≤◌}

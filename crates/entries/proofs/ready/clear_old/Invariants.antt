@@ -1,4 +1,5 @@
 -- `entries::ready::clear_old`: after k turns the first k entries are cleared, and what is still enabled among them is known.
+-- Assumes nothing.
 use mathlib.Core.Path.{◌≡◌}
 use Prim.Native.Nat.{◌-◌, ◌≤◌}
 use lib.ListN.{length}

@@ -1,4 +1,5 @@
 -- `entries::ready::some_enabled`: each turn asks the entry of the next sync manager that uses one, or passes it over.
+-- Assumes nothing.
 use mathlib.Core.Path.{◌≡◌}
 use Prim.Native.Nat.{◌-◌, ◌≤◌}
 use Rattle.grammar.specs.Grammar.{manager_count}

@@ -1,4 +1,5 @@
 -- `probe::arrivals::changed_to`: each turn comes nearer to the end.
+-- Assumes nothing.
 use Rattle.std.proofs.Common.{◌-◌, length}
 use Rattle.probe.proofs.arrivals.changed_to.Given as goal
 

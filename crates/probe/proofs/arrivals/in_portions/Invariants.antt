@@ -1,4 +1,5 @@
 -- `probe::arrivals::in_portions`: a portion after the first has a byte at least.
+-- Assumes nothing.
 use Rattle.std.proofs.Common.{◌-◌, ◌<◌, length}
 use Rattle.probe.proofs.arrivals.in_portions.Given as goal
 

@@ -1,4 +1,5 @@
 -- `probe::arrivals::same_managers`: each turn comes nearer to the end.
+-- Assumes nothing.
 use Rattle.std.proofs.Common.{◌-◌}
 use Rattle.probe.proofs.arrivals.same_managers.Given as goal
 

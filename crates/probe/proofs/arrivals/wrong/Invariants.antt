@@ -1,4 +1,5 @@
 -- `probe::arrivals::wrong`: so far no more are wrong than were looked at.
+-- Assumes nothing.
 use Rattle.std.proofs.Common.{◌-◌, ◌≤◌, length}
 use Rattle.probe.proofs.arrivals.wrong.Given as goal
 

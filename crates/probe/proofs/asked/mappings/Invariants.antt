@@ -1,4 +1,5 @@
 -- `probe::asked::mappings`: each turn comes nearer to the end.
+-- Assumes nothing.
 use Rattle.std.proofs.Common.{◌-◌}
 use Rattle.probe.proofs.asked.mappings.Given as goal
 

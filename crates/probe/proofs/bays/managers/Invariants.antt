@@ -1,4 +1,5 @@
 -- `probe::bays::managers`: each turn comes nearer to the end.
+-- Assumes nothing.
 use Rattle.std.proofs.Common.{◌-◌}
 use Rattle.probe.proofs.bays.managers.Given as goal
 

@@ -1,4 +1,5 @@
 -- `probe::bays::usages`: each turn comes nearer to the end.
+-- Assumes nothing.
 use Rattle.std.proofs.Common.{◌-◌}
 use Rattle.probe.proofs.bays.usages.Given as goal
 

@@ -1,4 +1,5 @@
 -- `probe::dumps::read_over_and_over`: each turn comes nearer to the end.
+-- Assumes nothing.
 use Rattle.std.proofs.Common.{◌-◌}
 use Rattle.probe.proofs.dumps.read_over_and_over.Given as goal
 

@@ -1,4 +1,5 @@
 -- `probe::parts::pairs`: each turn comes nearer to the end.
+-- Assumes nothing.
 use Rattle.std.proofs.Common.{◌-◌}
 use Rattle.probe.proofs.parts.pairs.Given as goal
 

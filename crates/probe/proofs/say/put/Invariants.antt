@@ -1,4 +1,5 @@
 -- `probe::say::put`: each turn comes nearer to the end.
+-- Assumes nothing.
 use Rattle.std.proofs.Common.{◌-◌}
 use Rattle.probe.proofs.say.put.Given as goal
 

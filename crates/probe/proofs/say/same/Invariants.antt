@@ -1,4 +1,5 @@
 -- `probe::say::same`: each turn comes nearer to the end.
+-- Assumes nothing.
 use Rattle.std.proofs.Common.{◌-◌}
 use Rattle.probe.proofs.say.same.Given as goal
 

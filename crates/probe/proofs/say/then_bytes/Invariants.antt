@@ -1,4 +1,5 @@
 -- `probe::say::then_bytes`: each turn comes nearer to the end.
+-- Assumes nothing.
 use Rattle.std.proofs.Common.{◌-◌, length}
 use Rattle.probe.proofs.say.then_bytes.Given as goal
 

@@ -1,4 +1,5 @@
 -- `probe::writing::managers`: each turn comes nearer to the end.
+-- Assumes nothing.
 use Rattle.std.proofs.Common.{◌-◌}
 use Rattle.probe.proofs.writing.managers.Given as goal
 

@@ -1,4 +1,5 @@
 -- `probe::writing::over_and_over`: each turn comes nearer to the end.
+-- Assumes nothing.
 use Rattle.std.proofs.Common.{◌-◌}
 use Rattle.probe.proofs.writing.over_and_over.Given as goal
 
