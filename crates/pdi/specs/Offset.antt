@@ -1,10 +1,10 @@
 -- An offset goes forward by bytes, or by bits rounded up.
 -- Assumes nothing.
-use Rattle.std.specs.Prelude.{Bool, [], ◌∷◌, ℕ, ◌+◌, ltb}
-use Rattle.wire.specs.Outcome.{Outcome, refused, accepted, when, decide}
+use Rattle.std.specs.Prelude.{Bool, [], ◌∷◌, ℕ, ◌+◌, ltb, Result}
+use Rattle.wire.specs.Outcome.{Outcome, when, decide, outcome_by}
+use Rattle.wire.specs.declared.Reason.{Reason}
 use Rattle.pdi.specs.Unit.{bytes_of, too_many_bits}
-use Rattle.pdi.specs.declared.Moved.{Moved}
-use Rattle.pdi.specs.declared.Moved.TheVariants.{To, Refused}
+use Rattle.pdi.specs.declared.PdiOffset.{PdiOffset}
 
 -- 9: the exact end offset exceeds 4,294,967,295
 abbrev pub past_end : ℕ → Bool
@@ -21,7 +21,6 @@ abbrev pub incremented_byte_aligned : ℕ → ℕ → Outcome ℕ
 incremented_byte_aligned start bits =
     decide (when 6 (too_many_bits bits) ∷ when 9 (past_end (start + bytes_of bits)) ∷ []) (start + bytes_of bits)
 
--- what the cases of `Moved` say
-abbrev pub moved_of : Moved → Outcome ℕ
-moved_of (To o) = accepted o.start_address
-moved_of (Refused n) = refused n
+-- what a step says: the next offset, or a refusal
+abbrev pub moved_of : Result PdiOffset Reason → Outcome ℕ
+moved_of r = outcome_by (λ o. o.start_address) r

@@ -1,11 +1,10 @@
 -- A segment: from its start up to, and without, its end; counted from a group's start; its text.
 -- Assumes nothing.
-use Rattle.std.specs.Prelude.{Bool, cond, ◌||◌, List, [], ◌∷◌, ◌++◌, ℕ, ◌-◌, ltb}
-use Rattle.wire.specs.Outcome.{Outcome, refused, accepted, when, decide}
+use Rattle.std.specs.Prelude.{Bool, cond, ◌||◌, List, [], ◌∷◌, ◌++◌, ℕ, ◌-◌, ltb, Result}
+use Rattle.wire.specs.Outcome.{Outcome, when, decide, outcome_by}
+use Rattle.wire.specs.declared.Reason.{Reason}
 use Rattle.wire.specs.Text.{hex_of}
 use Rattle.pdi.specs.declared.PdiSegment.{PdiSegment}
-use Rattle.pdi.specs.declared.Placed.{Placed}
-use Rattle.pdi.specs.declared.Placed.TheVariants.{Segment, Refused}
 
 abbrev pub segment : ℕ → ℕ → PdiSegment
 segment start end = record { start = start; end = end }
@@ -21,10 +20,9 @@ below_group s group = ltb s.start group || ltb s.end group
 abbrev pub less_group : PdiSegment → ℕ → Outcome PdiSegment
 less_group s group = decide (when 10 (below_group s group) ∷ []) (segment (s.start - group) (s.end - group))
 
--- what the cases of `Placed` say
-abbrev pub placed_of : Placed → Outcome PdiSegment
-placed_of (Segment s) = accepted s
-placed_of (Refused n) = refused n
+-- what counting from a group's start says: the segment, or a refusal
+abbrev pub placed_of : Result PdiSegment Reason → Outcome PdiSegment
+placed_of r = outcome_by (λ s. s) r
 
 -- (empty)
 abbrev pub empty_text : List ℕ

@@ -12,8 +12,8 @@ use borrow.Author.Tests.{eq-eqb, eqb-true}
 use Rattle.wire.specs.Outcome.{Outcome, accepted, Refusal, when, decide}
 use Rattle.wire.specs.Image.{not_long, Bytes, Image, Part, Clear}
 use Rattle.wire.specs.Room.{written_of, room_after, InRoom}
-use Rattle.wire.specs.declared.Written.{Written}
-use Rattle.wire.specs.declared.Written.TheVariants.{Len}
+use Rattle.std.specs.Prelude.{Result, Ok}
+use Rattle.wire.specs.declared.Reason.{Reason}
 use Rattle.wire.proofs.Numbers.{spread, spread-is}
 use Rattle.wire.proofs.Copied.{over-same}
 use Rattle.wire.proofs.Order.{passed_first, passed-answer, passed}
@@ -96,7 +96,7 @@ module _ {n : ℕ} {R : Type 0} (L : Layout n R) (C : Calls L) where
   writing r room = decide (when 1 (not_long n room) ∷ C.unwritten r) n
 
   -- a record that writing accepts stands in the room, and is read from there as it was
-  pub written-comes-back : (r : R) (k : ℕ) {room after : List ℕ} {w : Written} → C.InRange r → InRoom (writing r room) (L.image r) room w after → w ≡ Len k → reading L after ≡ accepted r
+  pub written-comes-back : (r : R) (k : ℕ) {room after : List ℕ} {w : Result ℕ Reason} → C.InRange r → InRoom (writing r room) (L.image r) room w after → w ≡ Ok k → reading L after ≡ accepted r
   written-comes-back r k {room} {after} t x is =
       let e : accepted k ≡ writing r room = sym (ap written_of is) ∙ x.says in
       let p = passed_first (when 1 (not_long n room)) (C.unwritten r) n k e in

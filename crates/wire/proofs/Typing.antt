@@ -12,7 +12,8 @@ use lib.Seq.{drop-cons, sets, sets-eq, take-append_seam}
 use lib.Dec.{ltb}
 use borrow.Author.Tests.{lt-ltb}
 use Rattle.wire.specs.Room.{InRoom, text_in}
-use Rattle.wire.specs.declared.Written.{Written}
+use Rattle.std.specs.Prelude.{Result}
+use Rattle.wire.specs.declared.Reason.{Reason}
 use Rattle.wire.specs.Text.{Page, page, typed, typed_all, Types}
 
 -- a text in two parts
@@ -71,7 +72,7 @@ holds {s} {l} {m} {n} h x =
     }
 
 -- a text that was typed to one side, and then written into the room
-pub written : {s l room after : List ℕ} {n : ℕ} {r : Written} → Holds l n s → InRoom (text_in (take n l) room) (take n l) room r after → InRoom (text_in s room) s room r after
+pub written : {s l room after : List ℕ} {n : ℕ} {r : Result ℕ Reason} → Holds l n s → InRoom (text_in (take n l) room) (take n l) room r after → InRoom (text_in s room) s room r after
 written {s} {l} {room} {after} {n} {r} h w = subst (λ (t : List ℕ). InRoom (text_in t room) t room r after) h.text w
 
 -- typing keeps the room's length

@@ -3,13 +3,14 @@
 use mathlib.Core.Path.{◌≡◌, refl}
 use mathlib.Core.List.{List}
 use Prim.Native.Nat.{ℕ}
-use Rattle.wire.specs.Outcome.{Outcome, refused, accepted}
-use Rattle.wire.specs.Room.{written_of, InRoom}
+use Rattle.std.specs.Prelude.{Result}
+use Rattle.wire.specs.Outcome.{Outcome}
+use Rattle.wire.specs.Room.{InRoom}
 use Rattle.wire.specs.Text.{page}
-use Rattle.wire.specs.declared.Written.{Written}
-use Rattle.wire.specs.declared.Written.TheVariants.{Len, Refused}
-use Rattle.wire.proofs.Pins.{Pins, with_room, same, same_by}
+use Rattle.wire.specs.declared.Reason.{Reason}
+use Rattle.wire.proofs.Pins.{Pins, with_room, same, same_result}
 use Rattle.wire.proofs.flag.Reads as flag
+use Rattle.wire.proofs.Reason.number.Reads as number
 use Rattle.wire.proofs.bit_of.Reads as bit-of
 use Rattle.wire.proofs.wide.Reads as wide
 use Rattle.wire.proofs.byte_at.Reads as byte_at
@@ -31,20 +32,14 @@ use Rattle.wire.proofs.put_hex8.Reads as put-hex8
 use Rattle.wire.proofs.put_decimal.Reads as put-decimal
 use Rattle.wire.proofs.put_either.Reads as put-either
 
--- number and length determine what was written
-abbrev pub written_back : Outcome ℕ → Written
-written_back (refused n) = Refused n
-written_back (accepted n) = Len n
-
-pub written-determined : (w : Written) → written_back (written_of w) ≡ w
-written-determined (Len n) = refl
-written-determined (Refused n) = refl
-
 -- every answer into lent room, here and in the crates above
-pub same-in-room : {o : Outcome ℕ} {text room : List ℕ} {x y : Written} {l m : List ℕ} → InRoom o text room x l → InRoom o text room y m → with_room x l ≡ with_room y m
+pub same-in-room : {o : Outcome ℕ} {text room : List ℕ} {x y : Result ℕ Reason} {l m : List ℕ} → InRoom o text room x l → InRoom o text room y m → with_room x l ≡ with_room y m
 same-in-room {o} {text} {room} {x} {y} p q =
-    let r : x ≡ y = same_by written_of written_back written-determined p.says q.says in
+    let r : x ≡ y = same_result (λ n. n) (λ n. n) (λ n. refl) p.says q.says in
     λ i. (r i, same p.holds q.holds i)
+
+pub number-pins : Pins number.Post (λ κs r s. r)
+number-pins κs a x y s t p q = same p q
 
 pub flag-pins : Pins flag.Post (λ κs r s. r)
 flag-pins κs a x y s t p q = same p q

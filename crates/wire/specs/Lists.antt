@@ -1,5 +1,6 @@
 -- Lists and questions by number.
 -- Assumes nothing.
+use Rattle.std.specs.List.{list_any}
 use Rattle.std.specs.Prelude.{Bool, false, ◌||◌, List, [], ◌∷◌, ◌++◌, ℕ, zero, suc, ◌+◌}
 
 -- f 0, f 1, .. up to and without f n
@@ -14,8 +15,7 @@ some_below f (suc n) = some_below f n || f n
 
 -- some element has it
 abbrev pub some_of : {A : Type 0} → (A → Bool) → List A → Bool
-some_of f [] = false
-some_of f (x ∷ xs) = f x || some_of f xs
+some_of f xs = list_any f xs
 
 -- every element has it
 abbrev pub Each : {A : Type 0} → (A → Type 0) → List A → Type 0

@@ -1,10 +1,9 @@
 -- Bytes that a call writes into lent room. Where the call is accepted they stand at the front, and room past them stays; where it is refused all of
 -- the room stays. A text or an image is written so, and its length is answered.
 -- Assumes nothing.
-use Rattle.std.specs.Prelude.{◌≡◌, List, [], ◌∷◌, ◌++◌, ℕ, min, length, take, drop, ltb}
-use Rattle.wire.specs.Outcome.{Outcome, refused, accepted, when, decide}
-use Rattle.wire.specs.declared.Written.{Written}
-use Rattle.wire.specs.declared.Written.TheVariants.{Len, Refused}
+use Rattle.std.specs.Prelude.{◌≡◌, List, [], ◌∷◌, ◌++◌, ℕ, min, length, take, drop, ltb, Result}
+use Rattle.wire.specs.Outcome.{Outcome, refused, accepted, when, decide, outcome_by}
+use Rattle.wire.specs.declared.Reason.{Reason}
 
 -- the room with s written over its front, as far as both go
 abbrev pub over : List ℕ → List ℕ → List ℕ
@@ -15,13 +14,12 @@ abbrev pub room_after : {A : Type 0} → Outcome A → List ℕ → List ℕ →
 room_after (refused n) s room = room
 room_after (accepted x) s room = over s room
 
--- what the cases of `Written` say
-abbrev pub written_of : Written → Outcome ℕ
-written_of (Len n) = accepted n
-written_of (Refused n) = refused n
+-- what writing says: a length, or a refusal
+abbrev pub written_of : Result ℕ Reason → Outcome ℕ
+written_of r = outcome_by (λ n. n) r
 
 -- the promise of a call with this outcome: its answer, and what the room holds then
-pub record InRoom (outcome : Outcome ℕ) (s room : List ℕ) (answer : Written) (after : List ℕ) : Type 0 where
+pub record InRoom (outcome : Outcome ℕ) (s room : List ℕ) (answer : Result ℕ Reason) (after : List ℕ) : Type 0 where
   pub says : written_of answer ≡ outcome
   pub holds : after ≡ room_after outcome s room
 

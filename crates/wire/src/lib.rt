@@ -4,6 +4,7 @@
 
 ghost use Rattle.std.specs.Prelude.{◌≡◌, cond, [], ◌∷◌, ◌++◌, ◌<◌, ◌≤◌, ◌^◌, ◌/◌, min, get_or, take, drop};
 ghost use Rattle.wire.specs.Field.{bit, flag_at};
+ghost use Rattle.wire.specs.Outcome.{number_of};
 ghost use Rattle.wire.specs.Number.{little_at, little_of, big_at, big_of};
 ghost use Rattle.wire.specs.Room.{over, InRoom, text_in};
 ghost use Rattle.wire.specs.Text.{glyph_of, digits_of, places_of, decimal_of, page, Types};
@@ -22,126 +23,135 @@ pub fn flag(byte: u8, shift: u8) -> bool
 pub fn bit_of(flag: bool) -> u8
     ensures { (result ≡ bit flag) × (result < 2) }
 {
-    if flag { 1 } else { 0 }
+    u8::from(flag)
 }
 
 // A byte as a count or a place.
 pub fn wide(x: u8) -> usize
     ensures { (result ≡ x) × (result ≤ 255) }
 {
-    x as usize
+    usize::from(x)
 }
 
 // A byte of a slice, 0 past its end.
 pub fn byte_at(bytes: &[u8], at: usize) -> u8
     ensures { result ≡ get_or bytes.now at 0 }
 {
-    if at < bytes.len() {
-        return bytes[at];
-    }
-    0
+    bytes.get(at).copied().unwrap_or(0)
 }
 
 // The front of a slice, as far as it goes.
 pub fn front(bytes: &[u8], count: usize) -> &[u8]
     ensures { result.now ≡ take count bytes.now }
 {
-    if bytes.len() < count {
-        return bytes;
-    }
-    &bytes[..count]
+    &bytes[..count.min(bytes.len())]
 }
 
 // What stands in a slice from a place on; nothing past its end.
 pub fn behind(bytes: &[u8], at: usize) -> &[u8]
     ensures { result.now ≡ drop at bytes.now }
 {
-    let start = least(at, bytes.len());
-    &bytes[start..]
+    &bytes[at.min(bytes.len())..]
 }
 
 // Two bytes as a number, the low one first.
 pub fn le16(a: u8, b: u8) -> u16
     ensures { result ≡ little_at (a ∷ b ∷ []) 0 2 }
 {
-    (a as u16) + 256 * (b as u16)
+    u16::from_le_bytes([a, b])
 }
 
 // Four bytes as a number, the low one first.
 pub fn le32(a: u8, b: u8, c: u8, d: u8) -> u32
     ensures { result ≡ little_at (a ∷ b ∷ c ∷ d ∷ []) 0 4 }
 {
-    (a as u32) + 256 * ((b as u32) + 256 * ((c as u32) + 256 * (d as u32)))
+    u32::from_le_bytes([a, b, c, d])
 }
 
 // Two bytes as a number, the high one first.
 pub fn be16(a: u8, b: u8) -> u16
     ensures { result ≡ big_at (a ∷ b ∷ []) 0 2 }
 {
-    256 * (a as u16) + (b as u16)
+    u16::from_be_bytes([a, b])
 }
 
 // The two bytes of a number, the low one first.
 pub fn le16_bytes(x: u16) -> [u8; 2]
     ensures { result ≡ little_of 2 x }
 {
-    [(x % 256) as u8, (x / 256 % 256) as u8]
+    x.to_le_bytes()
 }
 
 // The four bytes of a number, the low one first.
 pub fn le32_bytes(x: u32) -> [u8; 4]
     ensures { result ≡ little_of 4 x }
 {
-    [
-        (x % 256) as u8,
-        (x / 256 % 256) as u8,
-        (x / 256 / 256 % 256) as u8,
-        (x / 256 / 256 / 256 % 256) as u8,
-    ]
+    x.to_le_bytes()
 }
 
 // The two bytes of a number, the high one first.
 pub fn be16_bytes(x: u16) -> [u8; 2]
     ensures { result ≡ big_of 2 x }
 {
-    [(x / 256 % 256) as u8, (x % 256) as u8]
+    x.to_be_bytes()
 }
 
 // Copies `from` over the front of `to`, as far as both go.
 pub fn copy(from: &[u8], to: &mut [u8])
     ensures { to.new ≡ over from.now to.old }
 {
-    let n = least(from.len(), to.len());
-    let mut i = 0;
-    while i < n {
-        to[i] = from[i];
-        i += 1;
-    }
+    let n = from.len().min(to.len());
+    to[..n].copy_from_slice(&from[..n]);
 }
 
 // The smaller of two counts.
 pub fn least(a: usize, b: usize) -> usize
     ensures { result ≡ min a b }
 {
-    if a < b { a } else { b }
+    a.min(b)
 }
 
-// What writing an answer into lent room says: its length, or a refusal.
-#[derive(Clone, Copy)]
-pub enum Written {
-    Len(usize),
-    Refused(u8),
+// Why a call is refused. Each reason has the number that documents 01 and 02 give it.
+#[derive(Clone, Copy, Debug, PartialEq, Eq)]
+pub enum Reason {
+    AreaLength = 1,
+    SheetLength = 2,
+    SheetVersion = 3,
+    SheetRule = 4,
+    UnnamedControl = 5,
+    TooManyBits = 6,
+    NoEntry = 7,
+    EntryTooLong = 8,
+    PastLastAddress = 9,
+    BelowGroup = 10,
+    NotWholeBytes = 11,
+    RoomTooShort = 12,
+    FieldTooWide = 13,
+    PortionRoom = 14,
+    EntryInTheWay = 15,
+    DumpCutShort = 16,
+    DumpRecords = 17,
+    BadPairs = 18,
+}
+
+impl Reason {
+    // Its number.
+    pub fn number(self) -> u8
+        ensures { result ≡ number_of self }
+    {
+        self as u8
+    }
 }
 
 // A text goes into the room whole, or not at all.
-pub fn write_text(text: &[u8], room: &mut [u8]) -> Written
+pub fn write_text(text: &[u8], room: &mut [u8]) -> Result<usize, Reason>
     ensures { InRoom (text_in text.now room.old) text.now room.old result room.new }
 {
     if room.len() < text.len() {
-        return Written::Refused(12);
+        return Err(Reason::RoomTooShort);
     }
     copy(text, room);
-    Written::Len(text.len())
+    Ok(text.len())
 }
 
 // The character of a digit below 16.
@@ -171,10 +181,8 @@ pub fn put_bytes(room: &mut [u8], at: usize, text: &[u8]) -> usize
     ensures { Types (page room.old at) (page room.new result) text.now }
 {
     let mut next = at;
-    let mut i = 0;
-    while i < text.len() {
-        next = put_byte(room, next, text[i]);
-        i += 1;
+    for &byte in text {
+        next = put_byte(room, next, byte);
     }
     next
 }
@@ -186,12 +194,10 @@ fn put_digits(room: &mut [u8], at: usize, x: u32, base: u32, power: u32, count: 
 {
     let mut next = at;
     let mut weight = power;
-    let mut left = count;
-    while 0 < left {
+    for _ in 0..count {
         let digit = x / weight % base;
         next = put_byte(room, next, glyph(digit as u8));
-        weight = weight / base;
-        left -= 1;
+        weight /= base;
     }
     next
 }

@@ -2,7 +2,7 @@
 -- Assumes nothing.
 use mathlib.Core.Path.{◌≡◌, refl, sym, ◌∙◌, ap}
 use mathlib.Core.List.{[], ◌∷◌}
-use Prim.Native.Nat.{ℕ, ◌<◌, ◌/◌, ◌%◌}
+use Prim.Native.Nat.{ℕ, ◌<◌, ◌-◌, ◌+◌, ◌/◌, ◌%◌}
 use native.Mathlib.Nat.{mod-lt}
 use native.Mathlib.Omega.{arith}
 use Rattle.wire.specs.Text.{page, typed_all, digits_of}
@@ -10,46 +10,43 @@ use Rattle.wire.proofs.Typing.{types}
 use Rattle.wire.proofs.Digits.{weight-pos, weight-next, digits-turn}
 use Rattle.wire.proofs.put_digits.Goals as goal
 
-pub loop-left-init : goal.loop-left-init
-loop-left-init c = (c.requires.0, c.requires.1, c.requires.2, refl, refl)
-
 pub nonzero_div-digit : goal.nonzero_div-digit
 nonzero_div-digit c =
-    let l = c.loop-left in
-    weight-pos c.args.base l.left l.weight (omega arith) (omega arith) l.invariant.2
+    let l = c.loop in
+    let a = c.args in
+    weight-pos a.base (a.count - l.counter) l.weight (omega arith) (omega arith) l.invariant.0
 
 pub overflow_cast-digit : goal.overflow_cast-digit
 overflow_cast-digit c =
-    let small : c.args.x / c.loop-left.weight % c.args.base < 16 = let base = c.args.base in
-    let h = mod-lt (c.args.x / c.loop-left.weight) {m = base} (omega arith) in
+    let small : c.args.x / c.loop.weight % c.args.base < 16 = let base = c.args.base in
+    let h = mod-lt (c.args.x / c.loop.weight) {m = base} (omega arith) in
     omega arith in
     omega (arith, small)
 
 pub glyph-requires : goal.glyph-requires
 glyph-requires c =
-    let small : c.args.x / c.loop-left.weight % c.args.base < 16 = let base = c.args.base in
-    let h = mod-lt (c.args.x / c.loop-left.weight) {m = base} (omega arith) in
+    let small : c.args.x / c.loop.weight % c.args.base < 16 = let base = c.args.base in
+    let h = mod-lt (c.args.x / c.loop.weight) {m = base} (omega arith) in
     omega arith in
     small
 
-pub loop-left-preserved : goal.loop-left-preserved
-loop-left-preserved c =
+pub loop-preserved : goal.loop-preserved
+loop-preserved c =
     let put = c.put_byte-next in
     let glyph = c.glyph in
-    let l = c.loop-left in
-    let a = c.args in (
-      l.invariant.0,
-      l.invariant.1,
-      weight-next a.base l.left l.weight (omega arith) (omega arith) l.invariant.2,
-      put.auto.room ∙ l.invariant.3,
-      digits-turn a.base a.x l.left l.weight (omega arith) (omega arith) l.invariant.2
-          (types (ap (λ (b : ℕ). b ∷ []) glyph.ensures) put.ensures) ∙ l.invariant.4,
+    let l = c.loop in
+    let a = c.args in
+    let left : a.count - (l.counter + 1) ≡ a.count - l.counter - 1 = omega arith in (
+      rw left (weight-next a.base (a.count - l.counter) l.weight (omega arith) (omega arith) l.invariant.0),
+      put.auto.room ∙ l.invariant.1,
+      rw left (digits-turn a.base a.x (a.count - l.counter) l.weight (omega arith) (omega arith) l.invariant.0
+          (types (ap (λ (b : ℕ). b ∷ []) glyph.ensures) put.ensures)) ∙ l.invariant.2,
     )
 
 pub returns : goal.returns
 unfolding typed_all digits_of
 returns c =
-    let l = c.loop-left in
+    let l = c.loop in
     let a = c.args in
-    let e : l.left ≡ 0 = omega arith in
-    record { is = sym (ap (λ (n : ℕ). typed_all (page l.room l.next) (digits_of a.base n a.x)) e) ∙ l.invariant.4 }
+    let e : a.count - l.counter ≡ 0 = omega arith in
+    record { is = sym (ap (λ (n : ℕ). typed_all (page l.room l.next) (digits_of a.base n a.x)) e) ∙ l.invariant.2 }

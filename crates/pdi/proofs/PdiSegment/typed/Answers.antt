@@ -5,10 +5,10 @@ use Rattle.wire.proofs.Typing.{then}
 use Rattle.pdi.specs.Segment.{segment_text}
 use Rattle.pdi.proofs.PdiSegment.typed.Goals as goal
 
-pub returns-then-end-start : goal.returns-then-end-start
+pub returns-then-self : goal.returns-then-self
 unfolding segment_text
-returns-then-end-start c = rw (le-ltb _ _ c.if-end-start.true) c.put_bytes.ensures
+returns-then-self c = rw (le-ltb _ _ c.if-self.true) c.put_bytes.ensures
 
 pub returns : goal.returns
 unfolding segment_text
-returns c = rw (lt-ltb _ _ c.if-end-start.false) (then c.put_hex8-dots.ensures c.put_hex8.ensures)
+returns c = rw (lt-ltb _ _ c.if-self.false) (then c.put_hex8-dots.ensures c.put_hex8.ensures)
