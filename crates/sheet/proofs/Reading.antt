@@ -5,54 +5,53 @@ use mathlib.Core.List.{List, ◌++◌}
 use Prim.Native.Nat.{ℕ, ◌+◌, ◌-◌}
 use lib.ListN.{get_or, replicate}
 use lib.Seq.{take_at}
+use Rattle.std.specs.Prelude.{Result, Ok, Err}
 use Rattle.wire.specs.Field.{flag_at}
 use Rattle.wire.specs.Number.{big_at}
-use Rattle.wire.specs.Outcome.{Outcome, refused, accepted, Refusal, first, decide}
+use Rattle.wire.specs.Outcome.{Outcome, refused, accepted, Refusal, first, decide, number_of}
+use Rattle.wire.specs.declared.Reason.{Reason}
 use Rattle.wire.specs.Lists.{list_of}
 use Rattle.wire.proofs.Order.{passed, stopped}
 use Rattle.wire.proofs.Lists.{length-list_of}
 use Rattle.sheet.specs.declared.SyncManager.{SyncManager}
 use Rattle.sheet.specs.declared.Device.{Device}
-use Rattle.sheet.specs.declared.SheetRead.{SheetRead}
-use Rattle.sheet.specs.declared.Answer.{Answer}
-use Rattle.sheet.specs.declared.Answer.TheVariants.{Accepted, Refused}
 use Rattle.sheet.specs.Device.{Data, pdos_from, data_of}
 use Rattle.sheet.specs.Sheet.{manager_count, usage_count, pdo_count, manager_place, usages_place, pdos_place, manager_at, no_manager}
-use Rattle.sheet.specs.Sheet.{sheet_refusals, sheet_data, read_sheet, device_of, answer_of, sheet_read_of, device_after, Reads, ReadsAs}
+use Rattle.sheet.specs.Sheet.{sheet_refusals, sheet_data, read_sheet, device_of, answer_of, device_after, Reads, ReadsAs}
 use Rattle.sheet.proofs.Kept.{Accepts, accepted-accepts}
 
 -- a refusal has nothing beside it, whatever the bytes
-pub reads_nothing : {o : Outcome Data} {n : ℕ} (s : List ℕ) {r : SheetRead} → o ≡ refused n → r ≡ sheet_read_of (refused n) → Reads o s r
-reads_nothing s e p =
-    record {
-      says = ap (λ (x : SheetRead). answer_of x.answer (data_of x.device s)) p ∙ sym e;
-      holds = ap (λ (x : SheetRead). x.device) p ∙ sym (ap (λ (x : Outcome Data). device_after x s) e);
-    }
+pub reads_nothing : {o : Outcome Data} {e : Reason} (s : List ℕ) → o ≡ refused (number_of e) → Reads o s (Err e)
+reads_nothing s p = record { says = sym p; holds = ap (λ (x : Outcome Data). device_after x s) (sym p) }
 
 -- what `check` promises of its answer
-abbrev pub Checked : List ℕ → Answer → Type 0
-Checked s a = answer_of {A = Unit {0}} a tt ≡ decide (sheet_refusals s) tt
+abbrev pub Checked : List ℕ → Result (Unit {0}) Reason → Type 0
+Checked s r = answer_of {A = Unit {0}} r tt ≡ decide (sheet_refusals s) tt
+
+-- and where it refuses, with this number
+abbrev pub StoppedBy : List ℕ → ℕ → Type 0
+StoppedBy s n = ◌≡◌ {A = Outcome (Unit {0})} (refused n) (decide (sheet_refusals s) tt)
 
 module _ (s : List ℕ) where
   -- the case that a `match` found
-  pub checked-case : {a b : Answer} → Checked s a → a ≡ b → Checked s b
-  checked-case e p = sym (ap (λ (x : Answer). answer_of {A = Unit {0}} x tt) p) ∙ e
+  pub checked-case : {a b : Result (Unit {0}) Reason} → Checked s a → a ≡ b → Checked s b
+  checked-case e p = sym (ap (λ (x : Result (Unit {0}) Reason). answer_of {A = Unit {0}} x tt) p) ∙ e
 
   -- accepted: the sheet keeps what it has to, and what follows decides
-  pub checked-accepts : Checked s Accepted → Accepts s
+  pub checked-accepts : Checked s (Ok tt) → Accepts s
   checked-accepts e = accepted-accepts s tt tt e
 
-  pub checked-on : {B : Type 0} (o : Outcome B) → Checked s Accepted → first (sheet_refusals s) o ≡ o
+  pub checked-on : {B : Type 0} (o : Outcome B) → Checked s (Ok tt) → first (sheet_refusals s) o ≡ o
   checked-on o e = passed (sheet_refusals s) tt tt o e
 
-  pub checked-more : {B : Type 0} (more : List Refusal) (x : B) → Checked s Accepted → decide (sheet_refusals s ++ more) x ≡ decide more x
+  pub checked-more : {B : Type 0} (more : List Refusal) (x : B) → Checked s (Ok tt) → decide (sheet_refusals s ++ more) x ≡ decide more x
   checked-more more x e = checked-on (decide more x) e
 
   -- refused: so is whatever follows
-  pub checked-stop : {B : Type 0} {n : ℕ} (o : Outcome B) → Checked s (Refused n) → first (sheet_refusals s) o ≡ refused n
+  pub checked-stop : {B : Type 0} {n : ℕ} (o : Outcome B) → StoppedBy s n → first (sheet_refusals s) o ≡ refused n
   checked-stop {B} {n} o e = sym (stopped (sheet_refusals s) tt n o e)
 
-  pub checked-whole : {B : Type 0} {n : ℕ} (more : List Refusal) (x : B) → Checked s (Refused n) → decide (sheet_refusals s ++ more) x ≡ refused n
+  pub checked-whole : {B : Type 0} {n : ℕ} (more : List Refusal) (x : B) → StoppedBy s n → decide (sheet_refusals s ++ more) x ≡ refused n
   checked-whole more x e = checked-stop (decide more x) e
 
   -- the record that code holds says what the sheet says
@@ -76,16 +75,16 @@ module _ (s : List ℕ) where
       }
 
   -- reading, after a refusal
-  pub reads-refused : {n : ℕ} {r : SheetRead} → Checked s (Refused n) → r ≡ sheet_read_of (refused n) → ReadsAs s r
+  pub reads-refused : {r : Reason} → Checked s (Err r) → ReadsAs s (Err r)
   unfolding read_sheet
-  reads-refused e p = reads_nothing s (checked-stop (accepted (sheet_data s)) e) p
+  reads-refused e = reads_nothing s (checked-stop (accepted (sheet_data s)) e)
 
   -- and of a sheet that keeps the rules
-  pub reads-device : {d : Device} → Checked s Accepted → d ≡ device_of s → ReadsAs s (record { answer = Accepted; device = d })
+  pub reads-device : {d : Device} → Checked s (Ok tt) → d ≡ device_of s → ReadsAs s (Ok d)
   unfolding read_sheet
   reads-device {d} e p =
       let o : read_sheet s ≡ accepted (sheet_data s) = checked-on (accepted (sheet_data s)) e in
       record {
         says = ap (λ (x : Device). accepted (data_of x s)) p ∙ ap accepted device-data ∙ sym o;
-        holds = p ∙ sym (ap (λ (x : Outcome Data). device_after x s) o);
+        holds = ap accepted p ∙ ap (λ (x : Outcome Data). device_after x s) (sym o);
       }

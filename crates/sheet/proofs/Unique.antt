@@ -1,15 +1,15 @@
 -- Each public function's contract leaves one answer.
 -- Assumes nothing.
-use mathlib.Core.Path.{◌≡◌, refl, sym, ◌∙◌, ap}
+use mathlib.Core.Path.{◌≡◌, refl}
 use mathlib.Core.List.{List}
 use Prim.Native.Nat.{ℕ}
-use Rattle.wire.specs.Outcome.{Outcome, refused, accepted}
-use Rattle.wire.proofs.Pins.{Pins, same, same_by}
-use Rattle.sheet.specs.declared.Answer.{Answer}
-use Rattle.sheet.specs.declared.Answer.TheVariants.{Accepted, Refused}
-use Rattle.sheet.specs.declared.SheetRead.{SheetRead}
-use Rattle.sheet.specs.Device.{Data, data_of}
-use Rattle.sheet.specs.Sheet.{answer_of, Reads}
+use Rattle.std.specs.Prelude.{Result}
+use Rattle.wire.specs.Outcome.{Outcome}
+use Rattle.wire.specs.declared.Reason.{Reason}
+use Rattle.wire.proofs.Pins.{Pins, same, same_result}
+use Rattle.sheet.specs.declared.Device.{Device}
+use Rattle.sheet.specs.Device.{Data}
+use Rattle.sheet.specs.Sheet.{Reads}
 use Rattle.sheet.proofs.check.Reads as check
 use Rattle.sheet.proofs.has_mailbox.Reads as has-mailbox
 use Rattle.sheet.proofs.coe_protocol.Reads as coe-protocol
@@ -21,19 +21,9 @@ use Rattle.sheet.proofs.usage_of.Reads as usage-of
 use Rattle.sheet.proofs.start_of.Reads as start-of
 use Rattle.sheet.proofs.manager.Reads as manager
 use Rattle.sheet.proofs.read.Reads as read
-use Rattle.sheet.proofs.refused.Reads as refusing
-
--- the number determines the answer
-abbrev pub answer_back : {A : Type 0} → Outcome A → Answer
-answer_back (refused n) = Refused n
-answer_back (accepted x) = Accepted
-
-pub answer-determined : {A : Type 0} (a : Answer) (x : A) → answer_back (answer_of a x) ≡ a
-answer-determined Accepted x = refl
-answer-determined (Refused n) x = refl
 
 pub check-pins : Pins check.Post (λ κs r s. r)
-check-pins κs a x y s t p q = same_by (λ (b : Answer). answer_of {A = Unit {0}} b tt) answer_back (λ b. answer-determined b tt) p q
+check-pins κs a x y s t p q = same_result (λ u. tt) (λ u. tt) (λ u. refl) p q
 
 pub has-mailbox-pins : Pins has-mailbox.Post (λ κs r s. r)
 has-mailbox-pins κs a x y s t p q = same p q
@@ -60,17 +50,11 @@ pub manager-pins : Pins manager.Post (λ κs r s. r)
 manager-pins κs a x y s t p q = same p q
 
 -- of reading: its number, and every field of the device
-pub same_read : {o : Outcome Data} (s : List ℕ) (x y : SheetRead) → Reads o s x → Reads o s y → x ≡ y
-same_read s x y p q =
-    let a : x.answer ≡ y.answer =
-    sym (answer-determined x.answer (data_of x.device s)) ∙ ap answer_back (same p.says q.says) ∙ answer-determined y.answer (data_of y.device s) in
-    λ i. record { answer = a i; device = same p.holds q.holds i }
+pub same_read : {o : Outcome Data} (s : List ℕ) (x y : Result Device Reason) → Reads o s x → Reads o s y → x ≡ y
+same_read s x y p q = same_result (λ d. d) (λ d. d) (λ d. refl) p.holds q.holds
 
 pub read-pins : Pins read.Post (λ κs r s. r)
 read-pins κs a x y s t p q = same_read _ x y p q
-
-pub refused-pins : Pins refusing.Post (λ κs r s. r)
-refused-pins κs a x y s t p q = same p q
 
 pub front-count-pins : Pins front-count.Post (λ κs r s. r)
 front-count-pins κs a x y s t p q = same p q

@@ -1,7 +1,8 @@
 -- Reading the device sheet (document 01, 'The device sheet'), big-endian: from bytes to device data or a refusal.
 -- Assumes nothing.
-use Rattle.std.specs.Prelude.{◌≡◌, Bool, false, List, [], ◌∷◌, ◌++◌, ℕ, ◌+◌, ◌-◌, get_or, take, replicate}
-use Rattle.wire.specs.Outcome.{Outcome, refused, accepted, Refusal, when, decide}
+use Rattle.std.specs.Prelude.{◌≡◌, Bool, false, List, [], ◌∷◌, ◌++◌, ℕ, ◌+◌, ◌-◌, get_or, take, replicate, Result}
+use Rattle.wire.specs.Outcome.{Outcome, refused, accepted, Refusal, when, decide, outcome_by}
+use Rattle.wire.specs.declared.Reason.{Reason}
 use Rattle.wire.specs.Field.{flag_at}
 use Rattle.wire.specs.Number.{big_at}
 use Rattle.channel_bytes.specs.Bytes.{control_at, unnamed}
@@ -12,9 +13,6 @@ unfoldable pub use Rattle.grammar.specs.Grammar.{kind_fits, pdos_fit, some_manag
 use Rattle.sheet.specs.Device.{Data, pdos_from, data_of}
 use Rattle.sheet.specs.declared.SyncManager.{SyncManager}
 use Rattle.sheet.specs.declared.Device.{Device}
-use Rattle.sheet.specs.declared.Answer.{Answer}
-use Rattle.sheet.specs.declared.Answer.TheVariants.{Accepted, Refused}
-use Rattle.sheet.specs.declared.SheetRead.{SheetRead}
 
 -- a sync manager: start address (2), control, EEPROM enable (bit 0 is ENABLE, others ignored), usage
 abbrev pub manager_at : List ℕ → ℕ → SyncManager
@@ -82,42 +80,24 @@ device_of s =
       p = pdo_count s;
     }
 
-abbrev pub no_device : Device
-no_device =
-    record {
-      has_mailbox = false;
-      coe_protocol = false;
-      complete_access = false;
-      receive_size = record { 0 = 0 };
-      send_size = record { 0 = 0 };
-      managers = replicate 16 no_manager;
-      n = 0;
-      usages = replicate 16 0;
-      f = 0;
-      pdos = 0;
-      p = 0;
-    }
+-- what checking says, beside a value
+abbrev pub answer_of : {A : Type 0} → Result (Unit {0}) Reason → A → Outcome A
+answer_of r x = outcome_by (λ u. x) r
 
--- what the cases of `Answer` say, beside a value
-abbrev pub answer_of : {A : Type 0} → Answer → A → Outcome A
-answer_of Accepted x = accepted x
-answer_of (Refused n) x = refused n
+-- what reading says: the record that code holds, or a refusal with nothing beside it
+abbrev pub sheet_read_of : Result Device Reason → Outcome Device
+sheet_read_of r = outcome_by (λ d. d) r
 
--- an outcome in the form that code answers it: nothing beside a refusal
-abbrev pub sheet_read_of : Outcome Device → SheetRead
-sheet_read_of (refused n) = record { answer = Refused n; device = no_device }
-sheet_read_of (accepted d) = record { answer = Accepted; device = d }
+-- the same of a call with this outcome that reads these bytes
+abbrev pub device_after : Outcome Data → List ℕ → Outcome Device
+device_after (refused n) s = refused n
+device_after (accepted d) s = accepted (device_of s)
 
--- what the record holds after a call with this outcome: nothing beside a refusal
-abbrev pub device_after : Outcome Data → List ℕ → Device
-device_after (refused n) s = no_device
-device_after (accepted d) s = device_of s
-
--- the promise of a call with this outcome that reads these bytes: its answer, and the record
-pub record Reads (outcome : Outcome Data) (s : List ℕ) (r : SheetRead) : Type 0 where
-  pub says : answer_of r.answer (data_of r.device s) ≡ outcome
-  pub holds : r.device ≡ device_after outcome s
+-- the promise of a call with this outcome that reads these bytes: what its record says by them, and the record
+pub record Reads (outcome : Outcome Data) (s : List ℕ) (r : Result Device Reason) : Type 0 where
+  pub says : outcome_by (λ d. data_of d s) r ≡ outcome
+  pub holds : sheet_read_of r ≡ device_after outcome s
 
 -- the promise of reading: the grammar's answer
-abbrev pub ReadsAs : List ℕ → SheetRead → Type 0
+abbrev pub ReadsAs : List ℕ → Result Device Reason → Type 0
 ReadsAs s r = Reads (read_sheet s) s r

@@ -2,13 +2,13 @@
 #![tactic(auto)]
 
 ghost use Rattle.std.specs.Prelude.{◌≡◌, false, min, ◌+◌, ◌*◌, ◌≤◌, length};
-ghost use Rattle.wire.specs.Outcome as Outcome;
 ghost use Rattle.wire.specs.Outcome.{decide};
 ghost use Rattle.grammar.specs.Grammar.{manager_count, manager_place, broken};
-ghost use Rattle.sheet.specs.Sheet.{manager_at, some_unnamed, sheet_refusals, sheet_data, managers_of, usages_of, device_of, answer_of, sheet_read_of, ReadsAs};
+ghost use Rattle.sheet.specs.Sheet.{manager_at, some_unnamed, sheet_refusals, sheet_data, managers_of, usages_of, device_of, answer_of, ReadsAs};
 
 use channel_bytes::{Control, Direction, OperationMode};
 use pdi::ByteLen;
+use wire::Reason;
 
 // A sync manager as the sheet has it.
 #[derive(Clone, Copy)]
@@ -33,20 +33,6 @@ pub struct Device {
     pub f: usize,
     pub pdos: usize,
     pub p: u8,
-}
-
-// Whether a call is accepted.
-#[derive(Clone, Copy)]
-pub enum Answer {
-    Accepted,
-    Refused(u8),
-}
-
-// What reading a sheet answers.
-#[derive(Clone, Copy)]
-pub struct SheetRead {
-    pub answer: Answer,
-    pub device: Device,
 }
 
 const NO_CONTROL: Control = Control {
@@ -81,23 +67,23 @@ fn some_unnamed(sheet: &[u8]) -> bool
     false
 }
 
-// Whether a sheet keeps every rule: accepted, or the lowest of 2 to 5 that holds.
-pub fn check(sheet: &[u8]) -> Answer
+// Whether a sheet keeps every rule; if not, the first of the reasons 2 to 5 that holds.
+pub fn check(sheet: &[u8]) -> Result<(), Reason>
     ensures { answer_of {A = Unit {0}} result tt ≡ decide (sheet_refusals sheet.now) tt }
 {
     if grammar::wrong_length(sheet) {
-        return Answer::Refused(2);
+        return Err(Reason::SheetLength);
     }
     if sheet[2] != 1 {
-        return Answer::Refused(3);
+        return Err(Reason::SheetVersion);
     }
     if grammar::rule_broken(sheet) {
-        return Answer::Refused(4);
+        return Err(Reason::SheetRule);
     }
     if some_unnamed(sheet) {
-        return Answer::Refused(5);
+        return Err(Reason::UnnamedControl);
     }
-    Answer::Accepted
+    Ok(())
 }
 
 // What stands in a sheet; past its end there is 0. The flags: a mailbox, CoE among the protocols, complete access.
@@ -199,28 +185,6 @@ fn usages_of(sheet: &[u8], at: usize, f: usize) -> [u8; 16]
     list
 }
 
-// A refusal has nothing beside it.
-pub fn refused(number: u8) -> SheetRead
-    ensures { result ≡ sheet_read_of (Outcome.refused number) }
-{
-    SheetRead {
-        answer: Answer::Refused(number),
-        device: Device {
-            has_mailbox: false,
-            coe_protocol: false,
-            complete_access: false,
-            receive_size: ByteLen(0),
-            send_size: ByteLen(0),
-            managers: [NO_MANAGER; 16],
-            n: 0,
-            usages: [0; 16],
-            f: 0,
-            pdos: 0,
-            p: 0,
-        },
-    }
-}
-
 // The device data of a sheet that keeps every rule.
 fn device_of(sheet: &[u8]) -> Device
     requires { (length sheet.now ≤ 16386) × (broken sheet.now ≡ false) }
@@ -244,15 +208,10 @@ fn device_of(sheet: &[u8]) -> Device
     }
 }
 
-// Reads a sheet whole: device data, or the lowest of 2 to 5 that holds.
-pub fn read(sheet: &[u8]) -> SheetRead
+// Reads a sheet whole: its device data, or the first of the reasons 2 to 5 that holds.
+pub fn read(sheet: &[u8]) -> Result<Device, Reason>
     ensures { ReadsAs sheet.now result }
 {
-    match check(sheet) {
-        Answer::Refused(number) => refused(number),
-        Answer::Accepted => SheetRead {
-            answer: Answer::Accepted,
-            device: device_of(sheet),
-        },
-    }
+    check(sheet)?;
+    Ok(device_of(sheet))
 }
