@@ -77,7 +77,8 @@ def statements(path):
 
 
 USE = re.compile(r"use (\S+) as (\S+)$")
-PINS = re.compile(r"(?:pub )?(\S+) : Pins (\S+) \(λ \S+ (\S+) (\S+)\. (.*)\)$")
+# a generic function's instance holds at each value of its parameters, which its contract then takes
+PINS = re.compile(r"(?:pub )?(\S+) : (?:\(.*\) → )?Pins \(?(\S+)(?: [^()]*\))? \(λ \S+ (\S+) (\S+)\. (.*)\)$")
 SAYING = re.compile(r"abbrev (?:pub )?(\S+) : Saying (\S+)\.ended$")
 STATES = re.compile(r"(?:pub )?\S+ : States (\S+)\.ended \(λ \S+ \S+ (\S+)\. (\S+)\.clauses (?:\S+ )?\2\) (\S+)$")
 
