@@ -1,7 +1,7 @@
 -- The layout both ways: an entry written and read, and bytes read and written. The laws are those of every layout (Images, in wire/proofs),
 -- at the layout of an entry.
 -- Assumes nothing.
-use mathlib.Core.Path.{◌≡◌, sym, ◌∙◌, ap}
+use mathlib.Core.Path.{◌≡◌, refl, ◌∙◌}
 use mathlib.Core.Logic.{◌↔◌}
 use mathlib.Core.List.{List}
 use Prim.Native.Nat.{ℕ}
@@ -9,15 +9,13 @@ use lib.ListN.{length}
 use Rattle.wire.specs.Image.{Bytes, Image, Clear}
 use Rattle.wire.specs.Outcome.{accepted}
 use Rattle.wire.specs.Room.{InRoom}
-use Rattle.wire.specs.declared.Written.{Written}
-use Rattle.wire.specs.declared.Written.TheVariants.{Len}
+use Rattle.std.specs.Prelude.{Result, Ok}
+use Rattle.wire.specs.declared.Reason.{Reason}
+use Rattle.wire.proofs.Pins.{same_result}
 use Rattle.wire.proofs.Images as images
 use Rattle.fmmu.specs.declared.Fmmu.{Fmmu}
-use Rattle.fmmu.specs.declared.FmmuRead.{FmmuRead}
-use Rattle.fmmu.specs.declared.FmmuRead.TheVariants.{Entry}
 use Rattle.fmmu.specs.Image.{fields_of, image_of, reserved, InRange, Fits, read_entry, write_entry, fmmu_read_of}
 use Rattle.fmmu.proofs.Layouts.{layout, calls, fits-layout}
-use Rattle.fmmu.proofs.Unique.{fmmu_read_back, fmmu-read-determined}
 
 -- what is written is sixteen bytes, whatever the entry
 pub image-is : (f : Fmmu) → Image 16 (image_of f)
@@ -67,7 +65,7 @@ accepted-comes-back l f h e = images.accepted-comes-back layout l f h e
 -- an entry that `pack_to_slice` has written, by its promise, comes back from that room by the promise of `unpack_from_slice`;
 -- its numbers are in range at every call (`in-range`, beside the proof of `pack_to_slice`)
 pub written-comes-back :
-    (f : Fmmu) (k : ℕ) {room after : List ℕ} {w : Written} {r : FmmuRead} → InRange f → InRoom (write_entry f room) (image_of f) room w after → w ≡ Len k
-    → fmmu_read_of r ≡ read_entry after → r ≡ Entry f
+    (f : Fmmu) (k : ℕ) {room after : List ℕ} {w : Result ℕ Reason} {r : Result Fmmu Reason} → InRange f → InRoom (write_entry f room) (image_of f) room w after → w ≡ Ok k
+    → fmmu_read_of r ≡ read_entry after → r ≡ Ok f
 unfolding fields_of image_of
-written-comes-back f k {r = r} t x is e = sym (fmmu-read-determined r) ∙ ap fmmu_read_back (e ∙ images.written-comes-back layout calls f k t x is)
+written-comes-back f k t x is e = same_result (λ g. g) (λ g. g) (λ g. refl) (e ∙ images.written-comes-back layout calls f k t x is) refl

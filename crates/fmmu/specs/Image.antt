@@ -1,13 +1,12 @@
 -- ETG1000.4 Table 56, the FMMU entity: sixteen bytes, little-endian, and the fields that they hold.
 -- Assumes nothing.
-use Rattle.std.specs.Prelude.{Bool, ◌||◌, List, [], ◌∷◌, ◌++◌, ℕ, ◌+◌, ◌*◌, ◌%◌, ◌^◌, ◌<◌, get_or, ltb}
-use Rattle.wire.specs.Outcome.{Outcome, refused, accepted, when, decide}
+use Rattle.std.specs.Prelude.{Bool, ◌||◌, List, [], ◌∷◌, ◌++◌, ℕ, ◌+◌, ◌*◌, ◌%◌, ◌^◌, ◌<◌, get_or, ltb, Result}
+use Rattle.wire.specs.Outcome.{Outcome, when, decide, outcome_by}
+use Rattle.wire.specs.declared.Reason.{Reason}
 use Rattle.wire.specs.Field.{bits_at, flag_at, bit}
 use Rattle.wire.specs.Number.{little_at, little_of}
 use Rattle.wire.specs.Image.{not_long, Part, part}
 use Rattle.fmmu.specs.declared.Fmmu.{Fmmu}
-use Rattle.fmmu.specs.declared.FmmuRead.{FmmuRead}
-use Rattle.fmmu.specs.declared.FmmuRead.TheVariants.{Entry, Refused}
 
 -- what an image says
 unfoldable pub fields_of : List ℕ → Fmmu
@@ -63,7 +62,6 @@ read_entry l = decide (when 1 (not_long 16 l) ∷ []) (fields_of l)
 abbrev pub write_entry : Fmmu → List ℕ → Outcome ℕ
 write_entry f room = decide (when 1 (not_long 16 room) ∷ when 13 (too_wide f) ∷ []) 16
 
--- what the cases of `FmmuRead` say
-abbrev pub fmmu_read_of : FmmuRead → Outcome Fmmu
-fmmu_read_of (Entry f) = accepted f
-fmmu_read_of (Refused n) = refused n
+-- what reading says: the entry, or a refusal
+abbrev pub fmmu_read_of : Result Fmmu Reason → Outcome Fmmu
+fmmu_read_of r = outcome_by (λ f. f) r
