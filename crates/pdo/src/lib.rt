@@ -7,14 +7,14 @@ ghost use Rattle.pdo.specs.Direction.{terms_of, is_data};
 ghost use Rattle.pdo.specs.Bits.{some_usage, by_coe};
 
 // Which way process data goes.
-#[derive(Clone, Copy)]
+#[derive(Clone, Copy, Debug, PartialEq, Eq)]
 pub enum PdoDirection {
     MasterRead,
     MasterWrite,
 }
 
 // What a direction takes: the usage of its sync managers, of its FMMU entry, and its kind of EEPROM PDO.
-#[derive(Clone, Copy)]
+#[derive(Clone, Copy, Debug, PartialEq, Eq)]
 pub struct Terms {
     pub usage: u8,
     pub fmmu_usage: u8,
@@ -45,14 +45,12 @@ impl PdoDirection {
 pub fn is_data(usage: u8) -> bool
     ensures { result ≡ is_data usage }
 {
-    if usage == PdoDirection::MasterRead.filter_terms().usage {
-        return true;
-    }
-    usage == PdoDirection::MasterWrite.filter_terms().usage
+    usage == PdoDirection::MasterRead.filter_terms().usage
+        || usage == PdoDirection::MasterWrite.filter_terms().usage
 }
 
 // An oversampling record: a PDO index, and how many times its bits count.
-#[derive(Clone, Copy)]
+#[derive(Clone, Copy, Debug, PartialEq, Eq)]
 pub struct Oversampling {
     pub pdo_index: u16,
     pub multiplier: u8,
@@ -62,30 +60,16 @@ pub struct Oversampling {
 fn some_usage(sheet: &[u8], usage: u8) -> bool
     ensures { result ≡ some_usage usage (sheet_data sheet.now).managers }
 {
-    let n = grammar::manager_count(sheet);
-    let mut k = 0;
-    while k < n {
-        if sheet::usage_of(sheet, k) == usage {
-            return true;
-        }
-        k += 1;
-    }
-    false
+    (0..grammar::manager_count(sheet)).any(|k| sheet::usage_of(sheet, k) == usage)
 }
 
 // Whether CoE is on: flag bits 0 and 1, and a read mailbox of length above 0.
+#[tactic(auto, unfolding(crate::specs::Bits::by_coe))]
 pub fn coe_on(sheet: &[u8]) -> bool
     ensures { result ≡ by_coe (sheet_data sheet.now) }
 {
-    if !sheet::has_mailbox(sheet) {
-        return false;
-    }
-    if !sheet::coe_protocol(sheet) {
-        return false;
-    }
-    let send = sheet::send_size(sheet);
-    if send.0 == 0 {
-        return false;
-    }
-    some_usage(sheet, 2)
+    sheet::has_mailbox(sheet)
+        && sheet::coe_protocol(sheet)
+        && 0 < sheet::send_size(sheet).0
+        && some_usage(sheet, 2)
 }

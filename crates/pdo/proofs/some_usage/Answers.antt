@@ -1,24 +1,20 @@
--- `pdo::some_usage`: whether one of the rest has the usage is whether one of all has.
+-- `pdo::some_usage`: asked of each number of a sync manager.
 -- Assumes nothing.
-use mathlib.Core.Path.{refl}
-use native.Mathlib.Omega.{arith}
-use Rattle.pdo.proofs.Some.{usage-here, usage-not-here, usage-nowhere}
+use Rattle.std.proofs.Common.{rules, arith, refl, ◌∙◌, ap, ◌==◌}
+use Rattle.std.proofs.lemmas.Iterator.{YieldsList-from_range}
+use Rattle.std.proofs.lemmas.Iterator.Search.{any_from_yields_List}
+use borrow.Author.Tests.{tests}
+use Rattle.wire.specs.Lists.{list_of, some_of}
+use Rattle.sheet.specs.Sheet.{manager_place, manager_at, sheet_data}
+use Rattle.pdo.proofs.Some.{some-number}
 use Rattle.pdo.proofs.some_usage.Goals as goal
 
-pub loop-k-init : goal.loop-k-init
-loop-k-init c = (omega arith, refl)
-
-pub returns-then-usage_of-usage : goal.returns-then-usage_of-usage
-returns-then-usage_of-usage c =
-    let a = c.args in
-    usage-here a.sheet.now a.usage c.loop-k.k (omega arith) c.usage_of.ensures c.if-usage_of-usage.true c.loop-k.invariant.1
-
-pub loop-k-preserved : goal.loop-k-preserved
-loop-k-preserved c =
-    let a = c.args in
-    (omega arith, usage-not-here a.sheet.now a.usage c.loop-k.k (omega arith) c.usage_of.ensures c.if-usage_of-usage.false c.loop-k.invariant.1)
-
 pub returns : goal.returns
+unfolding sheet_data
 returns c =
-    let a = c.args in
-    usage-nowhere a.sheet.now a.usage c.loop-k.k (omega arith) c.loop-k.invariant.1
+    let s = c.args.sheet.now in
+    let n = c.manager_count.result in
+    any_from_yields_List (λ k. (manager_at s (manager_place k)).usage_type == c.args.usage) _ _ _ c.any.ensures.ran
+    (YieldsList-from_range 0 n n refl (omega arith)) (λ x b q k. search (rules, tests))
+    ∙ some-number (λ m. m.usage_type == c.args.usage) (λ k. manager_at s (manager_place k)) n
+    ∙ ap (λ k. some_of (λ m. m.usage_type == c.args.usage) (list_of (λ j. manager_at s (manager_place j)) k)) c.manager_count.ensures
