@@ -6,9 +6,10 @@ use mathlib.Core.Path.{◌≡◌}
 use contract.Lifetimes.{Lfts}
 use denote.Triple.Clauses.{AtExit}
 use denote.Triple.Entry.{Args}
-use Rattle.sheet.specs.declared.SheetRead.{SheetRead}
+use Rattle.std.specs.Prelude.{Result}
+use Rattle.wire.specs.declared.Reason.{Reason}
+use Rattle.sheet.specs.declared.Device.{Device}
 use Rattle.portions.specs.declared.State.{State}
-use Rattle.portions.specs.declared.Taken.{Taken}
 use Rattle.portions.specs.Portions.{begun, Ends}
 use Rattle.portions.specs.Arrival.{Call}
 use Rattle.portions.specs.contracts.begin as beginning
@@ -23,7 +24,7 @@ pub begun-of : (κs : Lfts 0) (a : Args beginning.signature κs) (answer : State
 begun-of κs a answer s kept = kept
 
 -- `portions::take`: state, portion, room
-pub call-of : (κs : Lfts 2) (a : Args taking.signature κs) (answer : Taken) (s : AtExit taking.ended κs) → takes.Post κs a answer s → Call
+pub call-of : (κs : Lfts 2) (a : Args taking.signature κs) (answer : Result State Reason) (s : AtExit taking.ended κs) → takes.Post κs a answer s → Call
 call-of κs a answer s kept =
     record {
       given = a.0;
@@ -35,5 +36,5 @@ call-of κs a answer s kept =
     }
 
 -- `portions::end`: state, room
-pub end_of : (κs : Lfts 1) (a : Args ending.signature κs) (answer : SheetRead) (s : AtExit ending.ended κs) → ends.Post κs a answer s → Ends a.0 a.1.0.now answer
+pub end_of : (κs : Lfts 1) (a : Args ending.signature κs) (answer : Result Device Reason) (s : AtExit ending.ended κs) → ends.Post κs a answer s → Ends a.0 a.1.0.now answer
 end_of κs a answer s kept = kept

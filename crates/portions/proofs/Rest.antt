@@ -8,13 +8,14 @@ use native.Mathlib.Nat.{zero-min}
 use native.Mathlib.Omega.{arith}
 use lib.ListN.{length, take, drop, length-take, length-append}
 use lib.Seq.{take-nil, drop-drop, drop-append-add}
+use Rattle.std.specs.Prelude.{Result, Ok, Err}
 use Rattle.wire.specs.Room.{over}
+use Rattle.wire.specs.declared.Reason.{Reason}
 use Rattle.wire.proofs.Copied.{length_over}
 use Rattle.area.specs.Area.{flat}
-use Rattle.sheet.specs.declared.Answer.{Answer}
-use Rattle.sheet.specs.declared.Answer.TheVariants.{Accepted, Refused}
+use Rattle.portions.specs.declared.State.{State}
 use Rattle.portions.specs.Portions.{held_in, short_room}
-use Rattle.portions.specs.Arrival.{Call, taken_by, taken_in, joined, Standing, at_first, bytes_after, after_call, Untouched, EachUntouched, left_by, RoomsHold, OneRoom, NobodyElse, RestStays}
+use Rattle.portions.specs.Arrival.{Call, taken_by, taken_in, joined, state_then, Standing, at_first, bytes_after, after_call, Untouched, EachUntouched, left_by, RoomsHold, OneRoom, NobodyElse, RestStays}
 use Rattle.portions.proofs.Whole.{left, took, however-cut}
 
 -- writing over no less than was written before: as if that had not been
@@ -44,15 +45,15 @@ stays : (first came now : List ℕ) (cs : List Call) (end : List ℕ) → now �
 unfolding flat
 stays first came now [] end e h o = o ∙ e ∙ ap (λ (l : List ℕ). over (take 16386 l) first) (sym (append-nil came))
 stays first came now (c ∷ cs) end e h o =
-    stays first (came ++ taken_in c) c.left cs end (go c.taken.answer h.0) h.1 o.1
+    stays first (came ++ taken_in c) c.left cs end (go c.taken h.0) h.1 o.1
     ∙ ap (λ (l : List ℕ). over (take 16386 l) first) (append_assoc came (taken_in c) (joined cs))
   where
-    go : (a : Answer) → c.left ≡ left_by a (came ++ taken_by a c.portion) c.room → c.left ≡ over (take 16386 (came ++ taken_by a c.portion)) first
-    go Accepted p =
+    go : (r : Result State Reason) → c.left ≡ left_by r (came ++ taken_by r c.portion) c.room → c.left ≡ over (take 16386 (came ++ taken_by r c.portion)) first
+    go (Ok new) p =
         p
         ∙ ap (λ (l : List ℕ). over (take 16386 (came ++ c.portion)) l) (o.0 ∙ e)
         ∙ over-over (take 16386 came) (take 16386 (came ++ c.portion)) first (take-grows 16386 came c.portion)
-    go (Refused n) p = p ∙ o.0 ∙ e ∙ ap (λ (l : List ℕ). over (take 16386 l) first) (sym (append-nil came))
+    go (Err f) p = p ∙ o.0 ∙ e ∙ ap (λ (l : List ℕ). over (take 16386 l) first) (sym (append-nil came))
 
 over_nothing : (room : List ℕ) → room ≡ over (take 16386 []) room
 over_nothing room = sym (ap (λ (l : List ℕ). over l room) (take-nil 16386) ∙ rw zero-min refl)
@@ -64,9 +65,11 @@ rest-stays a room o = stays room [] room a.calls a.room (over_nothing room) (how
 untouched-left : (w : Standing) (c : Call) → Untouched (after_call w c) c.left
 untouched-left w c e = go (short_room c.room) refl
   where
-    go : (b : Bool) → short_room c.room ≡ b → held_in c.taken.state c.left ≡ (after_call w c).bytes
+    go : (b : Bool) → short_room c.room ≡ b → held_in (state_then c) c.left ≡ (after_call w c).bytes
     go true s = absurd (false≢true (sym e ∙ ap short_room (left c s).room ∙ s))
-    go false s = sym (ap (λ (a : Answer). bytes_after a c.taken.state c.left w.bytes) (took c s).answer)
+    go false s =
+        let t = took c s in
+        ap (λ (x : State). held_in x c.left) t.state ∙ sym (ap (λ (r : Result State Reason). bytes_after r c.left w.bytes) t.answer)
 
 in-one-room : (w : Standing) (room : List ℕ) (cs : List Call) (end : List ℕ) → Untouched w room → OneRoom room cs end → EachUntouched w cs end
 in-one-room w room [] end u o = λ e. ap (held_in w.state) o ∙ u (ap short_room (sym o) ∙ e)

@@ -8,16 +8,18 @@ use native.Mathlib.Omega.{arith}
 use lib.ListN.{length, take, length-take}
 use lib.Dec.{ltb}
 use borrow.Author.Tests.{lt-ltb, le-ltb, ltb-true, ltb-false}
-use Rattle.wire.specs.Outcome.{Outcome, refused, accepted}
+use Rattle.std.specs.Prelude.{Result, Ok, Err}
+use Rattle.wire.specs.Outcome.{Outcome, refused, accepted, outcome_by}
+use Rattle.wire.specs.declared.Reason.{Reason}
+use Rattle.wire.specs.declared.Reason.TheVariants.{PortionRoom}
 use Rattle.wire.specs.Room.{over, room_after}
 use Rattle.wire.proofs.Lists.{take-least}
 use Rattle.area.specs.Area.{stored_at}
-use Rattle.sheet.specs.declared.Answer.TheVariants.{Accepted, Refused}
-use Rattle.sheet.specs.declared.SheetRead.{SheetRead}
+use Rattle.sheet.specs.declared.Device.{Device}
 use Rattle.sheet.specs.Device.{Data, data_of}
-use Rattle.sheet.specs.Sheet.{read_sheet, answer_of, device_after, Reads}
+use Rattle.sheet.specs.Sheet.{read_sheet, device_after, Reads}
 use Rattle.portions.specs.declared.State.{State}
-use Rattle.portions.specs.Portions.{held_in, stored, state_with, short_room, taking, state_after, Takes, too_many, ending}
+use Rattle.portions.specs.Portions.{held_in, stored, state_with, short_room, taking, Takes, too_many, ending}
 use Rattle.portions.proofs.Front.{stored-behind, stored-nowhere}
 
 -- a room is short, or it is enough
@@ -36,15 +38,11 @@ pub taking-enough : (st : State) (portion room : List ℕ) → short_room room �
 unfolding taking
 taking-enough st portion room e = rw e refl
 
--- refused: state and room as before
-pub takes-nothing : (st : State) (portion room : List ℕ) → length room < 16386 → Takes st portion room (record { answer = Refused 14; state = st }) room
+-- refused: the room as before
+pub takes-nothing : (st : State) (portion room : List ℕ) → length room < 16386 → Takes st portion room (Err PortionRoom) room
 takes-nothing st portion room h =
     let o = taking-short st portion room (short room h) in
-    record {
-      says = sym o;
-      state = ap (λ (x : Outcome State). state_after x st) (sym o);
-      holds = ap (λ (x : Outcome State). room_after x (held_in st room ++ stored st portion) room) (sym o);
-    }
+    record { says = sym o; holds = ap (λ (x : Outcome State). room_after x (held_in st room ++ stored st portion) room) (sym o) }
 
 -- what is stored goes behind what is held, whatever the state says
 pub stored-behind-held : (st : State) (portion room : List ℕ) → 16386 ≤ length room → stored_at st.held (stored st portion) room ≡ over (held_in st room ++ stored st portion) room
@@ -62,7 +60,7 @@ stored-behind-held st portion room h = go (16386 - st.held) refl
 -- accepted
 pub takes-portion :
     (st : State) (portion room left : List ℕ) (n : ℕ) (b : Bool) → 16386 ≤ length room → n ≡ min (16386 - st.held) (length portion) → b ≡ st.surplus || ltb n (length portion)
-    → left ≡ stored_at st.held (take n portion) room → Takes st portion room (record { answer = Accepted; state = record { held = st.held + n; surplus = b } }) left
+    → left ≡ stored_at st.held (take n portion) room → Takes st portion room (Ok (record { held = st.held + n; surplus = b })) left
 takes-portion st portion room left n b h e t p =
     let o = taking-enough st portion room (enough room h) in
     let f : take n portion ≡ stored st portion = ap (λ (k : ℕ). take k portion) e ∙ take-least (16386 - st.held) portion in
@@ -71,7 +69,6 @@ takes-portion st portion room left n b h e t p =
     let s : ◌≡◌ {A = State} (record { held = st.held + n; surplus = b }) (state_with st portion) = λ i. record { held = st.held + m i; surplus = more i } in
     record {
       says = ap accepted s ∙ sym o;
-      state = s ∙ ap (λ (x : Outcome State). state_after x st) (sym o);
       holds = p ∙ ap (λ (l : List ℕ). stored_at st.held l room) f ∙ stored-behind-held st portion room h
           ∙ ap (λ (x : Outcome State). room_after x (held_in st room ++ stored st portion) room) (sym o);
     }
@@ -90,9 +87,9 @@ unfolding ending
 ending-reads st room e t = rw (e, t) refl
 
 -- a promise by another name of its outcome and its bytes
-pub reads-by : {o p : Outcome Data} {s t : List ℕ} {r : SheetRead} → o ≡ p → s ≡ t → Reads o s r → Reads p t r
+pub reads-by : {o p : Outcome Data} {s t : List ℕ} {r : Result Device Reason} → o ≡ p → s ≡ t → Reads o s r → Reads p t r
 reads-by {o} {p} {s} {t} {r} e q x =
     record {
-      says = ap (λ (l : List ℕ). answer_of r.answer (data_of r.device l)) (sym q) ∙ x.says ∙ e;
+      says = ap (λ (l : List ℕ). outcome_by (λ d. data_of d l) r) (sym q) ∙ x.says ∙ e;
       holds = x.holds ∙ ap₂ device_after e q;
     }

@@ -10,63 +10,58 @@ use lib.ListN.{length, take, drop, length-take, length-append}
 use lib.Seq.{take_all, take-nil, take-append_seam}
 use lib.Dec.{ltb}
 use borrow.Author.Tests.{lt-ltb, le-ltb, ltb-true, ltb-false}
-use Rattle.wire.specs.Outcome.{Outcome, refused, accepted}
+use Rattle.std.specs.Prelude.{Result, Ok, Err, OnOk}
+use Rattle.wire.specs.Outcome.{Outcome, refused, outcome_by}
+use Rattle.wire.specs.declared.Reason.{Reason}
+use Rattle.wire.specs.declared.Reason.TheVariants.{PortionRoom}
 use Rattle.wire.specs.Room.{over, room_after}
 use Rattle.wire.specs.Lists.{Each}
 use Rattle.wire.proofs.Order.{never}
+use Rattle.wire.proofs.Pins.{same_result}
 use Rattle.wire.proofs.Copied.{over-front}
 use Rattle.area.specs.Area.{flat}
 use Rattle.grammar.specs.Length.{wrong_length}
 use Rattle.grammar.proofs.Length.{long}
-use Rattle.sheet.specs.declared.Answer.{Answer}
-use Rattle.sheet.specs.declared.Answer.TheVariants.{Accepted, Refused}
-use Rattle.sheet.specs.declared.SheetRead.{SheetRead}
-use Rattle.sheet.specs.Device.{Data, data_of}
-use Rattle.sheet.specs.Sheet.{read_sheet, answer_of, sheet_read_of, device_after, Reads, ReadsAs}
-use Rattle.sheet.proofs.Unique.{same_read}
-use Rattle.sheet.proofs.Reading.{reads_nothing}
+use Rattle.sheet.specs.declared.Device.{Device}
+use Rattle.sheet.specs.Device.{Data}
+use Rattle.sheet.specs.Sheet.{read_sheet, sheet_read_of, device_after, Reads, ReadsAs}
 use Rattle.portions.specs.declared.State.{State}
-use Rattle.portions.specs.Portions.{begun, held_in, stored, state_with, short_room, state_after, too_many, ending}
-use Rattle.portions.specs.Arrival.{Call, taken_by, taken_in, joined, Standing, at_first, bytes_after, after_call, after_calls, HandedOn, Untouched, EachUntouched, Arrival, last, found, OnlyShort, left_by, RoomsHold, HoweverCut}
+use Rattle.portions.specs.Portions.{begun, held_in, stored, state_with, short_room, taken_of, state_after, too_many, ending}
+use Rattle.portions.specs.Arrival.{Call, taken_by, taken_in, joined, state_then, Standing, at_first, bytes_after, after_call, after_calls, HandedOn, Untouched, EachUntouched, Arrival, last, found, OnlyShort, left_by, RoomsHold, HoweverCut}
 use Rattle.portions.proofs.Front.{take-joined}
 use Rattle.portions.proofs.Steps.{taking-short, taking-enough, ending-short, ending-many, ending-reads, reads-by}
 
 -- an answer by its outcome
-answer-refused : {A : Type 0} (a : Answer) (x : A) (n : ℕ) → answer_of a x ≡ refused n → a ≡ Refused n
-answer-refused Accepted x n e = absurd (never (sym e))
-answer-refused (Refused m) x n e = cc
-
-answer-accepted : {A : Type 0} (a : Answer) (x y : A) → answer_of a x ≡ accepted y → a ≡ Accepted
-answer-accepted Accepted x y e = refl
-answer-accepted (Refused m) x y e = absurd (never e)
+answer-by : {o : Outcome State} {x y : Result State Reason} → taken_of x ≡ o → taken_of y ≡ o → x ≡ y
+answer-by p q = same_result (λ new. new) (λ new. new) (λ new. refl) p q
 
 -- a call with a short room: refused, state and room as before
 pub record Left (c : Call) : Type 0 where
-  pub answer : c.taken.answer ≡ Refused 14
-  pub state : c.taken.state ≡ c.given
+  pub answer : c.taken ≡ Err PortionRoom
+  pub state : state_then c ≡ c.given
   pub room : c.left ≡ c.room
 
 pub left : (c : Call) → short_room c.room ≡ true → Left c
 left c e =
     let o = taking-short c.given c.portion c.room e in
     record {
-      answer = answer-refused c.taken.answer c.taken.state 14 (c.promise.says ∙ o);
-      state = c.promise.state ∙ ap (λ (x : Outcome State). state_after x c.given) o;
+      answer = answer-by (c.promise.says ∙ o) refl;
+      state = ap (λ (x : Outcome State). state_after x c.given) (c.promise.says ∙ o);
       room = c.promise.holds ∙ ap (λ (x : Outcome State). room_after x (held_in c.given c.room ++ stored c.given c.portion) c.room) o;
     }
 
 -- a call with enough room: what is stored goes behind what is held
 pub record Took (c : Call) : Type 0 where
-  pub answer : c.taken.answer ≡ Accepted
-  pub state : c.taken.state ≡ state_with c.given c.portion
+  pub answer : c.taken ≡ Ok (state_with c.given c.portion)
+  pub state : state_then c ≡ state_with c.given c.portion
   pub room : c.left ≡ over (held_in c.given c.room ++ stored c.given c.portion) c.room
 
 pub took : (c : Call) → short_room c.room ≡ false → Took c
 took c e =
     let o = taking-enough c.given c.portion c.room e in
     record {
-      answer = answer-accepted c.taken.answer c.taken.state (state_with c.given c.portion) (c.promise.says ∙ o);
-      state = c.promise.state ∙ ap (λ (x : Outcome State). state_after x c.given) o;
+      answer = answer-by (c.promise.says ∙ o) refl;
+      state = ap (λ (x : Outcome State). state_after x c.given) (c.promise.says ∙ o);
       room = c.promise.holds ∙ ap (λ (x : Outcome State). room_after x (held_in c.given c.room ++ stored c.given c.portion) c.room) o;
     }
 
@@ -99,22 +94,22 @@ front-over s room h = ap (take (length s)) (over-front s room h) ∙ take-append
 -- one call more
 record Step (w : Standing) (came : List ℕ) (c : Call) : Type 0 where
   keeps : Keeps (after_call w c) (came ++ taken_in c)
-  room : c.left ≡ left_by c.taken.answer (came ++ taken_in c) c.room
+  room : c.left ≡ left_by c.taken (came ++ taken_in c) c.room
 
 module _ (w : Standing) (came : List ℕ) (c : Call) (k : Keeps w came) (g : c.given ≡ w.state) where
   step-short : short_room c.room ≡ true → Step w came c
   step-short e =
       let l = left c e in
-      let same : came ++ taken_in c ≡ came = ap (λ (a : Answer). came ++ taken_by a c.portion) l.answer ∙ append-nil came in
-      let st : c.taken.state ≡ w.state = l.state ∙ g in
+      let same : came ++ taken_in c ≡ came = ap (λ (r : Result State Reason). came ++ taken_by r c.portion) l.answer ∙ append-nil came in
+      let st : state_then c ≡ w.state = l.state ∙ g in
       record {
         keeps =
             record {
-              bytes = ap (λ (a : Answer). bytes_after a c.taken.state c.left w.bytes) l.answer ∙ k.bytes ∙ ap (take 16386) (sym same);
+              bytes = ap (λ (r : Result State Reason). bytes_after r c.left w.bytes) l.answer ∙ k.bytes ∙ ap (take 16386) (sym same);
               held = ap (λ (s : State). s.held) st ∙ k.held ∙ ap (λ (x : List ℕ). length (take 16386 x)) (sym same);
               surplus = ap (λ (s : State). s.surplus) st ∙ k.surplus ∙ ap (λ (x : List ℕ). ltb 16386 (length x)) (sym same);
             };
-        room = l.room ∙ sym (ap (λ (a : Answer). left_by a (came ++ taken_in c) c.room) l.answer);
+        room = l.room ∙ sym (ap (λ (r : Result State Reason). left_by r (came ++ taken_in c) c.room) l.answer);
       }
 
   step-enough : short_room c.room ≡ false → held_in w.state c.room ≡ w.bytes → Step w came c
@@ -123,7 +118,7 @@ module _ (w : Standing) (came : List ℕ) (c : Call) (k : Keeps w came) (g : c.g
       let st = c.given in
       let all = came ++ taken_in c in
       let fit = stored st c.portion in
-      let taken : taken_in c ≡ c.portion = ap (λ (a : Answer). taken_by a c.portion) t.answer in
+      let taken : taken_in c ≡ c.portion = ap (λ (r : Result State Reason). taken_by r c.portion) t.answer in
       let was : held_in st c.room ≡ take 16386 came = ap (λ (s : State). held_in s c.room) g ∙ untouched ∙ k.bytes in
       let held : st.held ≡ length (take 16386 came) = ap (λ (s : State). s.held) g ∙ k.held in
       let now : held_in st c.room ++ fit ≡ take 16386 all =
@@ -131,9 +126,8 @@ module _ (w : Standing) (came : List ℕ) (c : Call) (k : Keeps w came) (g : c.g
       ∙ sym (take-joined 16386 came c.portion)
       ∙ ap (λ (p : List ℕ). take 16386 (came ++ p)) (sym taken) in
       let room : c.left ≡ over (take 16386 all) c.room = t.room ∙ ap (λ (x : List ℕ). over x c.room) now in
-      let many : c.taken.state.held ≡ length (take 16386 all) =
-      ap (λ (s : State). s.held) t.state
-      ∙ ap (λ (n : ℕ). n + length fit) (held ∙ sym (ap length was))
+      let many : (state_with st c.portion).held ≡ length (take 16386 all) =
+      ap (λ (n : ℕ). n + length fit) (held ∙ sym (ap length was))
       ∙ sym (length-append (held_in st c.room) fit)
       ∙ ap length now in
       let size : length fit ≡ min (16386 - min 16386 (length came)) (length c.portion) =
@@ -144,17 +138,17 @@ module _ (w : Standing) (came : List ℕ) (c : Call) (k : Keeps w came) (g : c.g
         keeps =
             record {
               bytes =
-                  ap (λ (a : Answer). bytes_after a c.taken.state c.left w.bytes) t.answer
+                  ap (λ (r : Result State Reason). bytes_after r c.left w.bytes) t.answer
                   ∙ ap₂ (λ (n : ℕ) (x : List ℕ). take n x) many room
                   ∙ front-over (take 16386 all) c.room (omega arith);
-              held = many;
+              held = ap (λ (s : State). s.held) t.state ∙ many;
               surplus =
                   ap (λ (s : State). s.surplus) t.state
                   ∙ ap (λ (b : Bool). b || ltb (length fit) (length c.portion)) (ap (λ (s : State). s.surplus) g ∙ k.surplus)
                   ∙ surplus-joined came c.portion (length fit) size
                   ∙ ap (λ (p : List ℕ). ltb 16386 (length (came ++ p))) (sym taken);
             };
-        room = room ∙ sym (ap (λ (a : Answer). left_by a all c.room) t.answer);
+        room = room ∙ sym (ap (λ (r : Result State Reason). left_by r all c.room) t.answer);
       }
 
   step : Untouched w c.room → Step w came c
@@ -192,8 +186,8 @@ only-short : (c : Call) → OnlyShort c
 only-short c = go (short_room c.room) refl
   where
     go : (b : Bool) → short_room c.room ≡ b → OnlyShort c
-    go true e = (left c e).answer ∙ rw e refl
-    go false e = (took c e).answer ∙ rw e refl
+    go true e = ap (outcome_by {B = Unit {0}} (λ new. tt)) (left c e).answer ∙ rw e refl
+    go false e = ap (outcome_by {B = Unit {0}} (λ new. tt)) (took c e).answer ∙ rw e refl
 
 all-only-short : (cs : List Call) → Each OnlyShort cs
 all-only-short [] = tt
@@ -212,14 +206,17 @@ too_long_lem s h = go (wrong_length s) refl
     go false e = let l = long s e in absurd (omega arith)
 
 -- of a refusal the bytes are all the same
-pub reads-from : {o : Outcome Data} {n : ℕ} {s t : List ℕ} {r : SheetRead} → (s ≡ t) ⊎ (o ≡ refused n) → Reads o s r → Reads o t r
+pub reads-from : {o : Outcome Data} {n : ℕ} {s t : List ℕ} {r : Result Device Reason} → (s ≡ t) ⊎ (o ≡ refused n) → Reads o s r → Reads o t r
 reads-from (inl q) x = reads-by refl q x
-reads-from {o} {n} {s} {t} {r} (inr e) x =
-    let a : r.answer ≡ Refused n = answer-refused r.answer (data_of r.device s) n (x.says ∙ e) in
-    record {
-      says = ap (λ (y : Answer). answer_of y (data_of r.device t)) a ∙ sym e;
-      holds = x.holds ∙ ap (λ (y : Outcome Data). device_after y s) e ∙ sym (ap (λ (y : Outcome Data). device_after y t) e);
-    }
+reads-from {o} {n} {s} {t} {r} (inr e) x = go r x
+  where
+    go : (r : Result Device Reason) → Reads o s r → Reads o t r
+    go (Ok d) x = absurd (never (sym (x.says ∙ e)))
+    go (Err f) x =
+        record {
+          says = x.says;
+          holds = x.holds ∙ ap (λ (y : Outcome Data). device_after y s) e ∙ sym (ap (λ (y : Outcome Data). device_after y t) e);
+        }
 
 -- the end's outcome is the reader's for all that came; and so are the bytes, unless that is 2
 pub record Ending (st : State) (room came : List ℕ) : Type 0 where
@@ -250,9 +247,10 @@ ending-after calls room h u e =
     ending_of w.state room (joined calls) w.bytes (steps at_first [] calls room nothing h u).0 e (end-untouched at_first calls room u e)
 
 -- where it is accepted, the bytes are all that came
-accepted-whole : {s came : List ℕ} {r : SheetRead} → (s ≡ came) ⊎ (read_sheet came ≡ refused 2) → ReadsAs came r → r.answer ≡ Accepted → s ≡ came
-accepted-whole (inl q) x a = q
-accepted-whole {s} {came} {r} (inr e) x a = absurd (never (sym e ∙ sym x.says ∙ ap (λ (y : Answer). answer_of y (data_of r.device came)) a))
+accepted-whole : {s came : List ℕ} (r : Result Device Reason) → (s ≡ came) ⊎ (read_sheet came ≡ refused 2) → ReadsAs came r → OnOk r (s ≡ came)
+accepted-whole (Ok d) (inl q) x = q
+accepted-whole (Ok d) (inr e) x = absurd (never (sym (x.says ∙ e)))
+accepted-whole (Err f) b x = tt
 
 module _ (a : Arrival) where
   after : short_room a.room ≡ false → Ending (last a) a.room (joined a.calls)
@@ -261,18 +259,19 @@ module _ (a : Arrival) where
   answers : short_room a.room ≡ false → ReadsAs (joined a.calls) a.read
   answers e = reads-from (after e).bytes (reads-by (after e).outcome refl a.promise)
 
-  fourteen : short_room a.room ≡ true → a.read ≡ sheet_read_of (refused 14)
-  fourteen e = same_read (found a) a.read (sheet_read_of (refused 14)) (reads-by (ending-short (last a) a.room e) refl a.promise) (reads_nothing (found a) refl refl)
+  fourteen : short_room a.room ≡ true → sheet_read_of a.read ≡ refused 14
+  fourteen e = a.promise.holds ∙ ap (λ (o : Outcome Data). device_after o (found a)) (ending-short (last a) a.room e)
 
-  plans : a.read.answer ≡ Accepted → found a ≡ joined a.calls
-  plans y = go (short_room a.room) refl
+  plans : OnOk a.read (found a ≡ joined a.calls)
+  plans = go (short_room a.room) refl
     where
-      refuses : Refused 14 ≡ Accepted → ⊥
-      refuses z = never (ap (λ (x : Answer). answer_of {A = Unit {0}} x tt) z)
+      refuses : (r : Result Device Reason) → sheet_read_of r ≡ refused 14 → OnOk r (found a ≡ joined a.calls)
+      refuses (Ok d) z = absurd (never (sym z))
+      refuses (Err f) z = tt
 
-      go : (b : Bool) → short_room a.room ≡ b → found a ≡ joined a.calls
-      go true e = absurd (refuses (sym (ap (λ (x : SheetRead). x.answer) (fourteen e)) ∙ y))
-      go false e = accepted-whole (after e).bytes (answers e) y
+      go : (b : Bool) → short_room a.room ≡ b → OnOk a.read (found a ≡ joined a.calls)
+      go true e = refuses a.read (fourteen e)
+      go false e = accepted-whole a.read (after e).bytes (answers e)
 
 -- the theorem
 pub however-cut : HoweverCut

@@ -1,13 +1,13 @@
 -- Taking a sheet in portions (document 02, 1/13): what one call does, whatever state and room it is handed.
 -- Assumes nothing.
-use Rattle.std.specs.Prelude.{◌≡◌, Bool, false, ◌||◌, List, [], ◌∷◌, ◌++◌, ℕ, ◌+◌, ◌-◌, length, take, ltb}
-use Rattle.wire.specs.Outcome.{Outcome, refused, accepted, when, first, decide}
+use Rattle.std.specs.Prelude.{◌≡◌, Bool, false, ◌||◌, List, [], ◌∷◌, ◌++◌, ℕ, ◌+◌, ◌-◌, length, take, ltb, Result}
+use Rattle.wire.specs.Outcome.{Outcome, refused, accepted, when, first, decide, outcome_by}
+use Rattle.wire.specs.declared.Reason.{Reason}
 use Rattle.wire.specs.Room.{room_after}
-use Rattle.sheet.specs.declared.SheetRead.{SheetRead}
+use Rattle.sheet.specs.declared.Device.{Device}
 use Rattle.sheet.specs.Device.{Data}
-use Rattle.sheet.specs.Sheet.{read_sheet, answer_of, Reads}
+use Rattle.sheet.specs.Sheet.{read_sheet, Reads}
 use Rattle.portions.specs.declared.State.{State}
-use Rattle.portions.specs.declared.Taken.{Taken}
 
 -- before the first portion nothing has come
 abbrev pub begun : State
@@ -37,15 +37,18 @@ short_room room = ltb (length room) 16386
 unfoldable pub taking : State → List ℕ → List ℕ → Outcome State
 taking st portion room = decide (when 14 (short_room room) ∷ []) (state_with st portion)
 
--- the state after a call with this outcome: as before where it is refused
+-- what taking says: how far the sheet has come then, or a refusal
+abbrev pub taken_of : Result State Reason → Outcome State
+taken_of r = outcome_by (λ new. new) r
+
+-- the state that a caller goes on with after a call with this outcome: its own, as before, where it is refused
 abbrev pub state_after : Outcome State → State → State
 state_after (refused n) st = st
 state_after (accepted new) st = new
 
--- the promise of `take`: its answer, the state, and the room, which then holds the bytes come so far at its front; its rest stays
-pub record Takes (st : State) (portion room : List ℕ) (r : Taken) (after : List ℕ) : Type 0 where
-  pub says : answer_of r.answer r.state ≡ taking st portion room
-  pub state : r.state ≡ state_after (taking st portion room) st
+-- the promise of `take`: its answer, and the room, which then holds the bytes come so far at its front; its rest stays
+pub record Takes (st : State) (portion room : List ℕ) (r : Result State Reason) (after : List ℕ) : Type 0 where
+  pub says : taken_of r ≡ taking st portion room
   pub holds : after ≡ room_after (taking st portion room) (held_in st room ++ stored st portion) room
 
 -- 2 by what is remembered: a surplus byte came. A made-up state can say more than 16,386 held; that is surplus too
@@ -57,5 +60,5 @@ unfoldable pub ending : State → List ℕ → Outcome Data
 ending st room = first (when 14 (short_room room) ∷ when 2 (too_many st) ∷ []) (read_sheet (held_in st room))
 
 -- the promise of `end`: this outcome, by the type and in the form of reading
-abbrev pub Ends : State → List ℕ → SheetRead → Type 0
+abbrev pub Ends : State → List ℕ → Result Device Reason → Type 0
 Ends st room r = Reads (ending st room) (held_in st room) r

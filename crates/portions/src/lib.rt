@@ -1,27 +1,21 @@
 // A sheet that comes in portions, as a handheld sends it over a slow line: each is taken into lent room, and the end reads what came.
 #![tactic(auto)]
 
-ghost use Rattle.std.specs.Prelude.{◌≡◌, min, ◌-◌};
-ghost use Rattle.portions.specs.Portions.{begun, held_in, Takes, too_many, Ends};
+ghost use Rattle.std.specs.Prelude.{◌≡◌};
+ghost use Rattle.portions.specs.Portions.{begun, Takes, Ends};
 
-use sheet::{Answer, SheetRead};
+use sheet::Device;
+use wire::Reason;
 
 // The longest sheet, and the least room that is enough: L is at most 16,384, and two bytes say it.
 pub const MOST: usize = 16386;
 
 // How far a sheet has come. Its bytes so far are `&room[..held]`; `surplus` says that more came than the longest sheet has.
 // It is a plain value: one that was made up stops nothing, and what it is answered is stated.
-#[derive(Clone, Copy)]
+#[derive(Clone, Copy, Debug, PartialEq, Eq)]
 pub struct State {
     pub held: usize,
     pub surplus: bool,
-}
-
-// What taking a portion answers, and how far the sheet has come then: after a refusal as far as before.
-#[derive(Clone, Copy)]
-pub struct Taken {
-    pub answer: Answer,
-    pub state: State,
 }
 
 // Before the first portion.
@@ -34,64 +28,35 @@ pub fn begin() -> State
     }
 }
 
-// How many bytes of a portion are stored: surplus ones are not.
-fn fitting(held: usize, came: usize) -> usize
-    ensures { result ≡ min (16386 - held) came }
-{
-    if MOST <= held {
-        return 0;
-    }
-    wire::least(MOST - held, came)
-}
-
-// Takes a portion of any length, none too. The room is lent at each call, with the bytes that are held at its front.
-// 14: the room is under 16,386 bytes; the portion isn't taken, and the next call with enough room goes on. Nothing else is refused here.
-pub fn take(state: State, portion: &[u8], room: &mut [u8]) -> Taken
+// Takes a portion of any length, none too, and says how far the sheet has come then. The room is lent at each call, with the bytes
+// that are held at its front. 14: the room is under 16,386 bytes; the portion isn't taken, the caller's state is as it was, and the
+// next call with enough room goes on from there. Nothing else is refused here.
+pub fn take(state: State, portion: &[u8], room: &mut [u8]) -> Result<State, Reason>
     ensures { Takes state portion.now room.old result room.new }
 {
     if room.len() < MOST {
-        return Taken {
-            answer: Answer::Refused(14),
-            state,
-        };
+        return Err(Reason::PortionRoom); // nothing is remembered of it
     }
-    let n = fitting(state.held, portion.len());
-    // they have room there: held + n is at most 16,386, or n is 0
+    // surplus bytes aren't stored; those that are have room there: held + n is at most 16,386, or n is 0
+    let n = MOST.saturating_sub(state.held).min(portion.len());
     area::store(&portion[..n], room, state.held);
-    let held = state.held + n;
-    Taken {
-        answer: Answer::Accepted,
-        state: State {
-            held,
-            surplus: state.surplus || n < portion.len(),
-        },
-    }
-}
-
-// 2, by what is remembered: more came than the longest sheet has, or a made-up state says so.
-fn too_many(state: State) -> bool
-    ensures { result ≡ too_many state }
-{
-    state.surplus || MOST < state.held
-}
-
-// The sheet so far, as far as a made-up state lets it.
-fn held_in(state: State, room: &[u8]) -> &[u8]
-    ensures { result.now ≡ held_in state room.now }
-{
-    wire::front(room, state.held)
+    Ok(State {
+        held: state.held + n,
+        surplus: state.surplus || n < portion.len(),
+    })
 }
 
 // Declares the end: what `sheet::read` answers for all that was taken, or 14 where the room is under 16,386 bytes.
 // Where it accepts, the sheet is `&room[..held]`, and that is what is planned.
-pub fn end(state: State, room: &[u8]) -> SheetRead
+pub fn end(state: State, room: &[u8]) -> Result<Device, Reason>
     ensures { Ends state room.now result }
 {
     if room.len() < MOST {
-        return sheet::refused(14);
+        return Err(Reason::PortionRoom);
     }
-    if too_many(state) {
-        return sheet::refused(2);
+    // 2 by what is remembered: more came than the longest sheet has, or a made-up state says so
+    if state.surplus || MOST < state.held {
+        return Err(Reason::SheetLength);
     }
-    sheet::read(held_in(state, room))
+    sheet::read(wire::front(room, state.held))
 }
