@@ -6,7 +6,7 @@ ghost use Rattle.channel_bytes.specs.Bytes as meaning;
 ghost use Rattle.channel_bytes.specs.Bytes.{mode_number, mode_at, mode_named, mode_unnamed, direction_number, direction_at, direction_named, direction_unnamed, is_unnamed, wrong_number, state_number, state_at, control_at, control_byte, status_at, status_byte, enable_at, enable_low, enable_high};
 
 // ETG1000.4 6.7.2, byte 4.
-#[derive(Clone, Copy)]
+#[derive(Clone, Copy, Debug, PartialEq, Eq)]
 pub struct Control {
     pub operation_mode: OperationMode,
     pub direction: Direction,
@@ -16,7 +16,7 @@ pub struct Control {
 }
 
 // Byte 5.
-#[derive(Clone, Copy)]
+#[derive(Clone, Copy, Debug, PartialEq, Eq)]
 pub struct Status {
     pub has_write_event: bool,
     pub has_read_event: bool,
@@ -27,7 +27,7 @@ pub struct Status {
 }
 
 // Bytes 6 and 7.
-#[derive(Clone, Copy)]
+#[derive(Clone, Copy, Debug, PartialEq, Eq)]
 pub struct Enable {
     pub enable: bool,
     pub repeat: bool,
@@ -38,21 +38,21 @@ pub struct Enable {
 }
 
 // The case with a number is for one that has no name; whoever makes one may put any number there.
-#[derive(Clone, Copy)]
+#[derive(Clone, Copy, Debug, PartialEq, Eq)]
 pub enum OperationMode {
     Normal,
     Mailbox,
     Unnamed(u8),
 }
 
-#[derive(Clone, Copy)]
+#[derive(Clone, Copy, Debug, PartialEq, Eq)]
 pub enum Direction {
     MasterRead,
     MasterWrite,
     Unnamed(u8),
 }
 
-#[derive(Clone, Copy)]
+#[derive(Clone, Copy, Debug, PartialEq, Eq)]
 pub enum BufferState {
     First,
     Second,

@@ -1,7 +1,7 @@
 -- The layout both ways: a channel written and read, and bytes read and written. The laws are those of every layout (Images, in wire/proofs),
 -- at the layout of a channel.
 -- Assumes nothing.
-use mathlib.Core.Path.{◌≡◌, sym, ◌∙◌, ap}
+use mathlib.Core.Path.{◌≡◌, refl, sym, ◌∙◌, ap}
 use mathlib.Core.Bool.{false}
 use mathlib.Core.Logic.{◌↔◌}
 use mathlib.Core.List.{List}
@@ -10,17 +10,15 @@ use lib.ListN.{length, get_or}
 use Rattle.wire.specs.Image.{Bytes, Image, Clear}
 use Rattle.wire.specs.Outcome.{accepted}
 use Rattle.wire.specs.Room.{InRoom}
-use Rattle.wire.specs.declared.Written.{Written}
-use Rattle.wire.specs.declared.Written.TheVariants.{Len}
+use Rattle.std.specs.Prelude.{Result, Ok}
+use Rattle.wire.specs.declared.Reason.{Reason}
+use Rattle.wire.proofs.Pins.{same_result}
 use Rattle.wire.proofs.Images as images
 use Rattle.channel_bytes.specs.Bytes.{misnumbered}
 use Rattle.channel_bytes.proofs.RoundTrip.{control-numbered}
 use Rattle.sync_manager_channel.specs.declared.SyncManagerChannel.{SyncManagerChannel}
-use Rattle.sync_manager_channel.specs.declared.ChannelRead.{ChannelRead}
-use Rattle.sync_manager_channel.specs.declared.ChannelRead.TheVariants.{Channel}
 use Rattle.sync_manager_channel.specs.Image.{channel_of, image_of, reserved, InRange, Fits, read_channel, write_channel, channel_read_of}
 use Rattle.sync_manager_channel.proofs.Layouts.{layout, calls, fits-layout}
-use Rattle.sync_manager_channel.proofs.Unique.{channel_back, channel-determined}
 
 -- what is written is eight bytes, whatever the channel
 pub image-is : (s : SyncManagerChannel) → Image 8 (image_of s)
@@ -78,7 +76,7 @@ accepted-comes-back l s h e = images.accepted-comes-back layout l s h e
 -- a channel that `pack_to_slice` has written, by its promise, comes back from that room by the promise of `unpack_from_slice`;
 -- its numbers are in range at every call (`in-range`, beside the proof of `pack_to_slice`)
 pub written-comes-back :
-    (s : SyncManagerChannel) (k : ℕ) {room after : List ℕ} {w : Written} {r : ChannelRead} → InRange s → InRoom (write_channel s room) (image_of s) room w after → w ≡ Len k
-    → channel_read_of r ≡ read_channel after → r ≡ Channel s
+    (s : SyncManagerChannel) (k : ℕ) {room after : List ℕ} {w : Result ℕ Reason} {r : Result SyncManagerChannel Reason} → InRange s → InRoom (write_channel s room) (image_of s) room w after → w ≡ Ok k
+    → channel_read_of r ≡ read_channel after → r ≡ Ok s
 unfolding channel_of image_of
-written-comes-back s k {r = r} t x is e = sym (channel-determined r) ∙ ap channel_back (e ∙ images.written-comes-back layout calls s k t x is)
+written-comes-back s k t x is e = same_result (λ g. g) (λ g. g) (λ g. refl) (e ∙ images.written-comes-back layout calls s k t x is) refl

@@ -1,33 +1,19 @@
 -- Each public function's contract leaves one answer, and one content of the room lent to it.
 -- Assumes nothing.
-use mathlib.Core.Path.{◌≡◌, refl}
-use Rattle.wire.specs.Outcome.{Outcome, refused, accepted}
-use Rattle.wire.proofs.Pins.{Pins, with_room, same, same_by}
+use mathlib.Core.Path.{refl}
+use Rattle.wire.proofs.Pins.{Pins, with_room, same, same_result}
 use Rattle.wire.proofs.Unique.{same-in-room}
-use Rattle.sync_manager_channel.specs.declared.SyncManagerChannel.{SyncManagerChannel}
-use Rattle.sync_manager_channel.specs.declared.ChannelRead.{ChannelRead}
-use Rattle.sync_manager_channel.specs.declared.ChannelRead.TheVariants.{Channel, Refused}
-use Rattle.sync_manager_channel.specs.Image.{channel_read_of}
 use Rattle.sync_manager_channel.proofs.SyncManagerChannel.unpack.Reads as unpack
 use Rattle.sync_manager_channel.proofs.SyncManagerChannel.unpack_from_slice.Reads as unpack-from-slice
 use Rattle.sync_manager_channel.proofs.SyncManagerChannel.pack.Reads as pack
 use Rattle.sync_manager_channel.proofs.SyncManagerChannel.pack_to_slice.Reads as pack-to-slice
 use Rattle.sync_manager_channel.proofs.SyncManagerChannel.fmt.Reads as fmt
 
--- number and values determine what was read
-abbrev pub channel_back : Outcome SyncManagerChannel → ChannelRead
-channel_back (refused n) = Refused n
-channel_back (accepted s) = Channel s
-
-pub channel-determined : (r : ChannelRead) → channel_back (channel_read_of r) ≡ r
-channel-determined (Channel s) = refl
-channel-determined (Refused n) = refl
-
 pub unpack-pins : Pins unpack.Post (λ κs r s. r)
 unpack-pins κs a x y s t p q = same p q
 
 pub unpack-from-slice-pins : Pins unpack-from-slice.Post (λ κs r s. r)
-unpack-from-slice-pins κs a x y s t p q = same_by channel_read_of channel_back channel-determined p q
+unpack-from-slice-pins κs a x y s t p q = same_result (λ s. s) (λ s. s) (λ s. refl) p q
 
 pub pack-pins : Pins pack.Post (λ κs r s. r)
 pack-pins κs a x y s t p q = same p q

@@ -1,13 +1,12 @@
 -- ETG1000.4 6.7.2, the sync manager attributes: eight bytes, little-endian, and the fields that they hold.
 -- Assumes nothing.
-use Rattle.std.specs.Prelude.{◌≡◌, false, List, [], ◌∷◌, ◌++◌, ℕ, ◌<◌, get_or}
-use Rattle.wire.specs.Outcome.{Outcome, refused, accepted, when, decide}
+use Rattle.std.specs.Prelude.{◌≡◌, false, List, [], ◌∷◌, ◌++◌, ℕ, ◌<◌, get_or, Result}
+use Rattle.wire.specs.Outcome.{Outcome, when, decide, outcome_by}
+use Rattle.wire.specs.declared.Reason.{Reason}
 use Rattle.wire.specs.Number.{little_at, little_of}
 use Rattle.wire.specs.Image.{not_long, Part, part}
 use Rattle.channel_bytes.specs.Bytes.{control_at, control_byte, misnumbered, status_at, status_byte, enable_at, enable_low, enable_high}
 use Rattle.sync_manager_channel.specs.declared.SyncManagerChannel.{SyncManagerChannel}
-use Rattle.sync_manager_channel.specs.declared.ChannelRead.{ChannelRead}
-use Rattle.sync_manager_channel.specs.declared.ChannelRead.TheVariants.{Channel, Refused}
 
 -- what an image says
 unfoldable pub channel_of : List ℕ → SyncManagerChannel
@@ -48,7 +47,6 @@ read_channel l = decide (when 1 (not_long 8 l) ∷ []) (channel_of l)
 abbrev pub write_channel : SyncManagerChannel → List ℕ → Outcome ℕ
 write_channel s room = decide (when 1 (not_long 8 room) ∷ when 13 (misnumbered s.control) ∷ []) 8
 
--- what the cases of `ChannelRead` say
-abbrev pub channel_read_of : ChannelRead → Outcome SyncManagerChannel
-channel_read_of (Channel s) = accepted s
-channel_read_of (Refused n) = refused n
+-- what reading says: the channel, or a refusal
+abbrev pub channel_read_of : Result SyncManagerChannel Reason → Outcome SyncManagerChannel
+channel_read_of r = outcome_by (λ s. s) r

@@ -9,10 +9,10 @@ ghost use Rattle.sync_manager_channel.specs.Text.{area_text, direction_text, mod
 
 pub use channel_bytes::{BufferState, Control, Direction, Enable, OperationMode, Status};
 use pdi::ByteLen;
-use wire::Written;
+use wire::Reason;
 
 // One channel of ETG1000.4 6.7.2.
-#[derive(Clone, Copy)]
+#[derive(Clone, Copy, Debug, PartialEq, Eq)]
 pub struct SyncManagerChannel {
     pub physical_start_address: u16,
     pub length_bytes: ByteLen,
@@ -21,21 +21,14 @@ pub struct SyncManagerChannel {
     pub enable: Enable,
 }
 
-// What reading an image answers.
-#[derive(Clone, Copy)]
-pub enum ChannelRead {
-    Channel(SyncManagerChannel),
-    Refused(u8),
-}
-
 impl SyncManagerChannel {
     // The channel that eight bytes say; reserved bits are dropped.
     pub fn unpack(image: [u8; 8]) -> SyncManagerChannel
         ensures { result ≡ channel_of image }
     {
         SyncManagerChannel {
-            physical_start_address: wire::le16(image[0], image[1]),
-            length_bytes: ByteLen(wire::le16(image[2], image[3])),
+            physical_start_address: u16::from_le_bytes([image[0], image[1]]),
+            length_bytes: ByteLen(u16::from_le_bytes([image[2], image[3]])),
             control: Control::unpack(image[4]),
             status: Status::unpack(image[5]),
             enable: Enable::unpack(image[6], image[7]),
@@ -43,58 +36,50 @@ impl SyncManagerChannel {
     }
 
     // The channel that lent bytes say, if they are eight.
-    pub fn unpack_from_slice(buf: &[u8]) -> ChannelRead
+    pub fn unpack_from_slice(buf: &[u8]) -> Result<SyncManagerChannel, Reason>
         ensures { channel_read_of result ≡ read_channel buf.now }
     {
-        let length = buf.len();
-        if length != 8 {
-            return ChannelRead::Refused(1);
-        }
-        let mut image = [0u8; 8];
-        wire::copy(buf, &mut image);
-        ChannelRead::Channel(SyncManagerChannel::unpack(image))
+        let Ok(image) = <[u8; 8]>::try_from(buf) else {
+            return Err(Reason::AreaLength);
+        };
+        Ok(SyncManagerChannel::unpack(image))
     }
 
     // The eight bytes of a channel; of an unnamed number its low two bits, reserved bits 0.
     pub fn pack(self) -> [u8; 8]
         ensures { result ≡ image_of self }
     {
-        let start = wire::le16_bytes(self.physical_start_address);
-        let length = wire::le16_bytes(self.length_bytes.0);
-        let control = self.control;
-        let status = self.status;
-        let enable = self.enable;
-        let enables = enable.pack();
+        let start = self.physical_start_address.to_le_bytes();
+        let length = self.length_bytes.0.to_le_bytes();
+        let enables = self.enable.pack();
         [
             start[0],
             start[1],
             length[0],
             length[1],
-            control.pack(),
-            status.pack(),
+            self.control.pack(),
+            self.status.pack(),
             enables[0],
             enables[1],
         ]
     }
 
     // The image into lent room of eight bytes.
-    pub fn pack_to_slice(self, buf: &mut [u8]) -> Written
+    pub fn pack_to_slice(self, buf: &mut [u8]) -> Result<usize, Reason>
         ensures { InRoom (write_channel self buf.old) (image_of self) buf.old result buf.new }
     {
-        let control = self.control;
         if buf.len() != 8 {
-            return Written::Refused(1);
+            return Err(Reason::AreaLength);
         }
-        if control.misnumbered() {
-            return Written::Refused(13);
+        if self.control.misnumbered() {
+            return Err(Reason::FieldTooWide);
         }
-        let image = self.pack();
-        wire::copy(&image, buf);
-        Written::Len(8)
+        buf.copy_from_slice(&self.pack());
+        Ok(8)
     }
 
     // Its text, into lent room.
-    pub fn fmt(self, room: &mut [u8]) -> Written
+    pub fn fmt(self, room: &mut [u8]) -> Result<usize, Reason>
         ensures { InRoom (text_in (channel_text self) room.old) (channel_text self) room.old result room.new }
     {
         let mut text = [0u8; 96];
@@ -115,14 +100,10 @@ impl SyncManagerChannel {
     fn put_settings(self, room: &mut [u8], from: usize) -> usize
         ensures { Types (page room.old from) (page room.new result) (settings_text self) }
     {
-        let control = self.control;
-        let direction = control.direction;
-        let mode = control.operation_mode;
-        let enable = self.enable;
-        let mut at = put_direction(room, from, direction);
-        at = put_mode(room, at, mode);
+        let mut at = put_direction(room, from, self.control.direction);
+        at = put_mode(room, at, self.control.operation_mode);
         at = wire::put_bytes(room, at, b", ");
-        wire::put_either(room, at, enable.enable, b"enabled", b"disabled")
+        wire::put_either(room, at, self.enable.enable, b"enabled", b"disabled")
     }
 }
 
@@ -133,7 +114,7 @@ fn put_direction(room: &mut [u8], at: usize, direction: Direction) -> usize
     match direction {
         Direction::MasterRead => wire::put_bytes(room, at, b", direction MasterRead"),
         Direction::MasterWrite => wire::put_bytes(room, at, b", direction MasterWrite"),
-        Direction::Unnamed(n) => wire::put_decimal(room, at, b", direction unnamed ", n as u16),
+        Direction::Unnamed(n) => wire::put_decimal(room, at, b", direction unnamed ", u16::from(n)),
     }
 }
 
@@ -144,6 +125,6 @@ fn put_mode(room: &mut [u8], at: usize, mode: OperationMode) -> usize
     match mode {
         OperationMode::Normal => wire::put_bytes(room, at, b", mode Normal"),
         OperationMode::Mailbox => wire::put_bytes(room, at, b", mode Mailbox"),
-        OperationMode::Unnamed(n) => wire::put_decimal(room, at, b", mode unnamed ", n as u16),
+        OperationMode::Unnamed(n) => wire::put_decimal(room, at, b", mode unnamed ", u16::from(n)),
     }
 }
