@@ -1,15 +1,14 @@
--- The walk over PDO records that fills the front of a lent list, one multiplier for each: its start, a turn of it and its end.
+-- The walk over PDO records that fills a list of places, one multiplier for each: its start, a turn of it and its end.
 -- Assumes nothing.
-use mathlib.Core.Path.{◌≡◌, refl, sym, ◌∙◌, ap}
-use mathlib.Core.List.{List, [], ◌∷◌, ◌++◌}
+use mathlib.Core.Path.{◌≡◌, refl, sym, ◌∙◌, ap, ap₂}
+use mathlib.Core.List.{List, [], ◌∷◌, ◌++◌, append-nil}
 use Prim.Native.Nat.{ℕ, suc, ◌+◌, ◌*◌, ◌-◌, ◌<◌, ◌≤◌}
 use native.Mathlib.Nat.{sub-zero}
 use native.Mathlib.Omega.{arith}
-use lib.ListN.{length, get_or, take, drop, set, length-map, length-append, length-drop}
-use lib.Seq.{length-take-le, drop-drop, get_or-drop}
+use lib.ListN.{length, get_or, take, drop, set, length-map, length-append, length-drop, drop_of_length-le}
+use lib.Seq.{length-take-le, drop-drop, get_or-drop, take_all}
 use Rattle.wire.specs.Number.{big_at}
-use Rattle.wire.specs.Room.{over}
-use Rattle.wire.proofs.Copied.{copied, copied_all}
+use Rattle.wire.proofs.Copied.{copied}
 use Rattle.grammar.specs.Grammar.{pdo_count, pdos_place}
 use Rattle.sheet.specs.Device.{Pdo, pdo_at, next_pdo, pdos_from}
 use Rattle.sheet.specs.Sheet.{sheet_data}
@@ -84,8 +83,7 @@ module _ (t : List Oversampling) (s : List ℕ) (n at : ℕ) where
         let l = length-those t s n at in
         ap (set (filled room k) k) (ey ∙ ap (multiplier_of t) ei ∙ sym (here k place f h)) ∙ copied 0 (those t s n at) room (filled room k) k (omega arith) (omega arith) refl
 
-    pub filled-all : (k place : ℕ) → Filling k place → n ≤ k → filled room k ≡ over (those t s n at) room
-    filled-all k place f h =
-        let l = length-those t s n at in
-        let w = f.within in
-        copied_all (those t s n at) room (filled room k) k (omega arith) refl
+  -- all of a room that has just these places
+  pub filled-all : (room : List ℕ) (k place : ℕ) → length room ≡ n → Filling k place → n ≤ k → filled room k ≡ those t s n at
+  filled-all room k place long f h =
+      ap₂ (λ (x y : List ℕ). x ++ y) (take_all k (those t s n at) (omega (arith, length-those t s n at))) (drop_of_length-le room {i = k} (omega arith)) ∙ append-nil (those t s n at)

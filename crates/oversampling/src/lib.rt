@@ -14,21 +14,10 @@ use pdo::Oversampling;
 pub fn multiplier_of(table: &[Oversampling], index: u16) -> u8
     ensures { result ≡ multiplier_of table.now index }
 {
-    let mut i = 0;
-    while i < table.len() {
-        if table[i].pdo_index == index {
-            return table[i].multiplier;
-        }
-        i += 1;
-    }
-    1
-}
-
-// How many PDOs a sheet has.
-fn pdos_of(sheet: &[u8]) -> usize
-    ensures { (result ≡ pdo_count sheet.now) × (result ≤ 255) }
-{
-    wire::wide(grammar::pdo_count(sheet))
+    table
+        .iter()
+        .find(|record| record.pdo_index == index)
+        .map_or(1, |record| record.multiplier)
 }
 
 // The index of the PDO at a place.
@@ -36,10 +25,10 @@ fn index_at(sheet: &[u8], at: usize) -> u16
     requires { at < 2 ^ 32 }
     ensures { result ≡ (pdo_at sheet.now at).index }
 {
-    wire::be16(
+    u16::from_be_bytes([
         wire::byte_at(sheet, at + grammar::PDO_INDEX),
         wire::byte_at(sheet, at + grammar::PDO_INDEX_LOW),
-    )
+    ])
 }
 
 // Where the next one stands.
@@ -47,19 +36,17 @@ fn next_pdo(sheet: &[u8], at: usize) -> usize
     requires { at < 2 ^ 32 }
     ensures { (result ≡ next_pdo sheet.now at) × (result ≤ at + 260) }
 {
-    at + grammar::PDO_BYTES + wire::wide(wire::byte_at(sheet, at + grammar::PDO_COUNT))
+    at + grammar::PDO_BYTES + usize::from(wire::byte_at(sheet, at + grammar::PDO_COUNT))
 }
 
 // One multiplier for each PDO of a sheet, in its order, over the front of a list.
 pub fn multipliers_for(table: &[Oversampling], sheet: &[u8], out: &mut [u8; 255])
     ensures { out.new ≡ over (multipliers_of table.now (sheet_data sheet.now).pdos) out.old }
 {
-    let count = pdos_of(sheet);
+    let front = &mut out[..usize::from(grammar::pdo_count(sheet))];
     let mut place = grammar::pdos_place(sheet);
-    let mut k = 0;
-    while k < count {
-        out[k] = multiplier_of(table, index_at(sheet, place));
+    for multiplier in front.iter_mut() {
+        *multiplier = multiplier_of(table, index_at(sheet, place));
         place = next_pdo(sheet, place);
-        k += 1;
     }
 }

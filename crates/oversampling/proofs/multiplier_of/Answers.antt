@@ -1,14 +1,16 @@
--- `oversampling::multiplier_of`: the record at i matches, or what is behind it has the same first match.
+-- `oversampling::multiplier_of`: the first match, if there is one.
 -- Assumes nothing.
-use mathlib.Core.Path.{◌∙◌}
-use Rattle.oversampling.proofs.Search.{hit, miss, at-end}
+use Rattle.std.proofs.Common.{rules}
+use Rattle.std.proofs.lemmas.Iterator.{YieldsList-from_slice}
+use Rattle.std.proofs.lemmas.Iterator.Search.{find_from_yields_List}
+use borrow.Author.Tests.{tests}
+use Rattle.oversampling.proofs.Search.{names, found}
 use Rattle.oversampling.proofs.multiplier_of.Goals as goal
 
-pub returns-then-table-i : goal.returns-then-table-i
-returns-then-table-i c = hit c.args.table.now c.loop-i.i c.args.index _ c.loop-i-test.true c.if-table-i.true ∙ c.loop-i.invariant
-
-pub loop-i-preserved : goal.loop-i-preserved
-loop-i-preserved c = miss c.args.table.now c.loop-i.i c.args.index _ c.loop-i-test.true c.if-table-i.false ∙ c.loop-i.invariant
-
 pub returns : goal.returns
-returns c = at-end c.args.table.now c.loop-i.i c.args.index c.loop-i-test.false ∙ c.loop-i.invariant
+returns c =
+    let t = c.args.table.now in
+    let index = c.args.index in
+    found (λ r. r.now) t index c.map_or.result c.find.result
+    (find_from_yields_List (names index) _ _ _ c.find.ensures.ran (YieldsList-from_slice t (cc)) (λ x b q k. search (rules, tests)))
+    c.map_or.ensures (λ x p. search rules)

@@ -1,12 +1,11 @@
--- `oversampling::multipliers_for`: the first k places are filled, and the records ahead stand from a place on.
+-- `oversampling::multipliers_for`: the first places are filled, and the records ahead stand from a place on.
 -- Assumes nothing.
-use mathlib.Core.Path.{◌≡◌}
-use Prim.Native.Nat.{◌-◌}
+use Rattle.std.proofs.Common.{◌≡◌}
+use Rattle.grammar.specs.Grammar.{pdo_count, pdos_place}
 use Rattle.oversampling.proofs.Filled.{Filling, filled}
 use Rattle.oversampling.proofs.multipliers_for.Given as goal
 
-abbrev pub invariant-loop-k : goal.invariant-loop-k
-invariant-loop-k l = Filling l.table l.sheet l.count l.initial.place l.k l.place × (l.out ≡ filled l.table l.sheet l.count l.initial.place l.initial.out l.k)
-
-abbrev pub decreases-loop-k : goal.decreases-loop-k
-decreases-loop-k l = l.count - l.k
+abbrev pub invariant-loop-multiplier : goal.invariant-loop-multiplier
+invariant-loop-multiplier l =
+    Filling l.table l.sheet (pdo_count l.sheet) (pdos_place l.sheet) l.multiplier-index l.place
+    × (l.front ≡ filled l.table l.sheet (pdo_count l.sheet) (pdos_place l.sheet) l.initial.front l.multiplier-index)
