@@ -6,13 +6,14 @@
 use contract.Lifetimes.{Lfts}
 use denote.Triple.Clauses.{AtExit}
 use denote.Triple.Entry.{Args}
-use Rattle.wire.specs.declared.Written.{Written}
+use Rattle.std.specs.Prelude.{ℕ, Result}
+use Rattle.wire.specs.declared.Reason.{Reason}
 use Rattle.writer.specs.Again.{InRange, Call}
 use Rattle.writer.specs.contracts.write as writing
 use Rattle.writer.proofs.write.Reads as writes
 
 -- `writer::write`: device, bytes, room
-pub call-of : (κs : Lfts 2) (a : Args writing.signature κs) (answer : Written) (s : AtExit writing.ended κs) → InRange a.0 a.1.0.now → writes.Post κs a answer s → Call
+pub call-of : (κs : Lfts 2) (a : Args writing.signature κs) (answer : Result ℕ Reason) (s : AtExit writing.ended κs) → InRange a.0 a.1.0.now → writes.Post κs a answer s → Call
 call-of κs a answer s range kept =
     record {
       device = a.0;

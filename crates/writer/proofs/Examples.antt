@@ -7,11 +7,12 @@ use native.Mathlib.Omega.{arith}
 use lib.ListN.{replicate}
 use Rattle.wire.specs.Image.{Bytes}
 use Rattle.wire.specs.Lists.{list_of, some_below, Each}
-use Rattle.wire.specs.Outcome.{Outcome, refused, accepted}
+use Rattle.wire.specs.Outcome.{accepted}
 use Rattle.wire.specs.Room.{room_after, written_of}
-use Rattle.wire.specs.declared.Written.TheVariants.{Len, Refused}
+use Rattle.std.specs.Prelude.{Result, Ok, Err}
+use Rattle.wire.specs.declared.Reason.{Reason}
+use Rattle.wire.specs.declared.Reason.TheVariants.{SheetRule, UnnamedControl}
 use Rattle.wire.proofs.Bytes.{no_bytes, cons-bytes}
-use Rattle.wire.proofs.Unique.{written_back}
 use Rattle.area.specs.Area.{flat}
 use Rattle.channel_bytes.specs.Bytes.{control_at, unnamed, control_byte}
 use Rattle.grammar.specs.Length.{wrong_length}
@@ -53,11 +54,6 @@ pub bay-again : sheet_of (sheet_data (bay 166 254 1)) ≡ bay 38 0 1
 unfolding sheet_of sheet_data body_bytes list_of pdos_from flat control_at control_byte
 bay-again = refl
 
--- what was read of it, with a usage, written again into a room of 34 bytes: a call that keeps the promise
-pub written_is : (o : Outcome ℕ) → written_of (written_back o) ≡ o
-written_is (refused n) = refl
-written_is (accepted n) = refl
-
 pub bytes_of : (l : List ℕ) → Each (λ (b : ℕ). b < 256) l → Bytes l
 bytes_of [] h = no_bytes
 bytes_of (b ∷ l) h = cons-bytes h.0 (bytes_of l h.1)
@@ -75,33 +71,49 @@ bay-in-range control usage g h =
       bytes = bytes_of (bay control 254 usage) (omega arith);
     }
 
-abbrev pub call : (control usage : ℕ) → control < 256 → usage < 256 → Call
-call control usage g h =
+-- what was read of it, with a usage, written again into a room of 34 bytes: what that says
+abbrev pub says : (control usage : ℕ) → Result ℕ Reason → Type 0
+says control usage r = written_of r ≡ writing (device_of (bay control 254 usage)) (bay control 254 usage) (replicate 34 7)
+
+-- a call that answers so keeps the promise
+abbrev pub call : (control usage : ℕ) → control < 256 → usage < 256 → (r : Result ℕ Reason) → says control usage r → Call
+call control usage g h r e =
     let s = bay control 254 usage in
     let d = device_of s in
     let room : List ℕ = replicate 34 7 in
-    let o = writing d s room in
     record {
       device = d;
       bytes = s;
       room = room;
-      answer = written_back o;
-      left = room_after o (sheet_of (data_of d s)) room;
+      answer = r;
+      left = room_after (writing d s room) (sheet_of (data_of d s)) room;
       range = bay-in-range control usage g h;
-      promise = record { says = written_is o; holds = refl };
+      promise = record { says = e; holds = refl };
     }
 
 -- usage 1 has a name: the sheet is written, and the rest of the room stays
-pub call-writes : (g : 166 < 256) (h : 1 < 256) → ((call 166 1 g h).answer ≡ Len 30) × ((call 166 1 g h).left ≡ bay 38 0 1 ++ replicate 4 7)
+pub says-written : says 166 1 (Ok 30)
 unfolding writing too_long rule_broken pdos_end kind_fits pdos_fit device_of data_of sheet_of body_bytes list_of pdos_from flat control_at control_byte some_unnamed unnamed
-call-writes g h = (refl, refl)
+says-written = refl
+
+pub call-writes : (g : 166 < 256) (h : 1 < 256) → (call 166 1 g h (Ok 30) says-written).left ≡ bay 38 0 1 ++ replicate 4 7
+unfolding writing too_long rule_broken pdos_end kind_fits pdos_fit device_of data_of sheet_of body_bytes list_of pdos_from flat control_at control_byte some_unnamed unnamed
+call-writes g h = refl
 
 -- usage 5 has none: all of the room stays
-pub call-refused : (g : 166 < 256) (h : 5 < 256) → ((call 166 5 g h).answer ≡ Refused 4) × ((call 166 5 g h).left ≡ (call 166 5 g h).room)
+pub says-refused : says 166 5 (Err SheetRule)
 unfolding writing too_long rule_broken pdos_end device_of list_of
-call-refused g h = (refl, refl)
+says-refused = refl
+
+pub call-refused : (g : 166 < 256) (h : 5 < 256) → let c = call 166 5 g h (Err SheetRule) says-refused in c.left ≡ c.room
+unfolding writing too_long rule_broken pdos_end device_of list_of
+call-refused g h = refl
 
 -- control 0x23 has a mode without a name: so it does
-pub call-nameless : (g : 35 < 256) (h : 1 < 256) → ((call 35 1 g h).answer ≡ Refused 5) × ((call 35 1 g h).left ≡ (call 35 1 g h).room)
+pub says-nameless : says 35 1 (Err UnnamedControl)
 unfolding writing too_long rule_broken pdos_end kind_fits pdos_fit device_of list_of control_at some_unnamed unnamed
-call-nameless g h = (refl, refl)
+says-nameless = refl
+
+pub call-nameless : (g : 35 < 256) (h : 1 < 256) → let c = call 35 1 g h (Err UnnamedControl) says-nameless in c.left ≡ c.room
+unfolding writing too_long rule_broken pdos_end kind_fits pdos_fit device_of list_of control_at some_unnamed unnamed
+call-nameless g h = refl

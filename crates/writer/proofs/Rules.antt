@@ -1,12 +1,12 @@
--- 4 as the code finds it, by one of its parts or by the last after the others; and what data keeps that isn't refused with it.
+-- What data keeps that isn't refused with 4.
 -- Assumes nothing.
-use mathlib.Core.Path.{◌≡◌, refl}
-use mathlib.Core.Bool.{Bool, true, false, not, ◌||◌, or-true}
+use mathlib.Core.Path.{◌≡◌}
+use mathlib.Core.Bool.{Bool, true, false, not, ◌||◌}
 use mathlib.Core.List.{List}
-use Prim.Native.Nat.{ℕ, ◌<◌, ◌≤◌}
+use Prim.Native.Nat.{ℕ, ◌≤◌}
 use lib.ListN.{take}
 use lib.Dec.{ltb}
-use borrow.Author.Tests.{lt-ltb, le-ltb, ltb-false, not-false}
+use borrow.Author.Tests.{le-ltb, ltb-false, not-false}
 use Rattle.wire.specs.Lists.{some_of}
 use Rattle.wire.proofs.Lists.{or-none}
 use Rattle.sheet.specs.declared.SyncManager.{SyncManager}
@@ -55,26 +55,3 @@ module _ (d : Device) (records : List ℕ) where
   pub keeping : Kept d records → rule_broken d records ≡ false
   unfolding rule_broken
   keeping k = rw (le-ltb 16 d.n k.few_managers, le-ltb 16 d.f k.few_usages, k.managers, k.usages, k.whole)
-
-  -- broken by one part
-  pub many-managers : 16 < d.n → rule_broken d records ≡ true
-  unfolding rule_broken
-  many-managers h = rw (lt-ltb 16 d.n h) refl
-
-  pub many-usages : 16 < d.f → rule_broken d records ≡ true
-  unfolding rule_broken
-  many-usages h = simp (lt-ltb 16 d.f h, or-true)
-
-  pub unnamed-manager : some_of unnamed_use (take d.n d.managers) ≡ true → rule_broken d records ≡ true
-  unfolding rule_broken
-  unnamed-manager h = simp (h, or-true)
-
-  pub unnamed-usage : some_of (ltb 3) (take d.f d.usages) ≡ true → rule_broken d records ≡ true
-  unfolding rule_broken
-  unnamed-usage h = simp (h, or-true)
-
-  -- past the others, the records decide
-  pub only-records : d.n ≤ 16 → d.f ≤ 16 → some_of unnamed_use (take d.n d.managers) ≡ false → some_of (ltb 3) (take d.f d.usages) ≡ false
-      → rule_broken d records ≡ not (pdos_fit records d.p 0)
-  unfolding rule_broken
-  only-records a b u v = rw (le-ltb 16 d.n a, le-ltb 16 d.f b, u, v) refl

@@ -10,17 +10,17 @@ use lib.ListN.{length, take, drop}
 use lib.Seq.{take-append_seam}
 use lib.Dec.{ltb}
 use borrow.Author.Tests.{ltb-false}
-use Rattle.wire.specs.Outcome.{Outcome, refused, accepted, when, decide}
+use Rattle.std.specs.Prelude.{Result, Ok, Err}
+use Rattle.wire.specs.Outcome.{Outcome, refused, accepted, when, decide, number_of, outcome_by}
 use Rattle.wire.specs.Room.{over, room_after, written_of, text_in}
-use Rattle.wire.specs.declared.Written.TheVariants.{Len, Refused}
+use Rattle.wire.specs.declared.Reason.{Reason}
+use Rattle.wire.specs.declared.Reason.TheVariants.{SheetLength, SheetRule, UnnamedControl}
 use Rattle.wire.proofs.Order.{never, passed_first, passed-answer}
 use Rattle.wire.proofs.Copied.{over-front}
-use Rattle.wire.proofs.Unique.{written_back, written-determined}
-use Rattle.sheet.specs.declared.Answer.{Answer}
-use Rattle.sheet.specs.declared.Answer.TheVariants as answer
+use Rattle.wire.proofs.Pins.{same_result}
 use Rattle.sheet.specs.declared.Device.{Device}
 use Rattle.sheet.specs.Device.{Data, data_of}
-use Rattle.sheet.specs.Sheet.{some_unnamed, sheet_refusals, sheet_data, read_sheet, device_of, answer_of, device_after}
+use Rattle.sheet.specs.Sheet.{some_unnamed, sheet_refusals, sheet_data, read_sheet, device_of, sheet_read_of, device_after}
 use Rattle.sheet.proofs.Kept.{Accepts, accepted-accepts}
 use Rattle.sheet.proofs.Reading.{device-data}
 use Rattle.writer.specs.Form.{sheet_of}
@@ -43,7 +43,7 @@ record Wrote (c : Call) (n : ℕ) : Type 0 where
   keeps : Keeps (given c)
   stands : take n c.left ≡ sheet_of (given c)
 
-wrote : (c : Call) (n : ℕ) → c.answer ≡ Len n → Wrote c n
+wrote : (c : Call) (n : ℕ) → c.answer ≡ Ok n → Wrote c n
 unfolding writing
 wrote c n e =
     let d = c.device in
@@ -68,15 +68,15 @@ wrote c n e =
     }
 
 -- an answer by its outcome
-answered : {A : Type 0} (a : Answer) (x y : A) → answer_of a x ≡ accepted y → (a ≡ answer.Accepted) × (x ≡ y)
-answered answer.Accepted x y e = (refl, cc)
-answered (answer.Refused n) x y e = absurd (never e)
+answered : (r : Result Device Reason) (s : List ℕ) (x : Data) → outcome_by (λ d. data_of d s) r ≡ accepted x → (d : Device) × ((r ≡ Ok d) × (data_of d s ≡ x))
+answered (Ok d) s x e = (d, (refl, cc))
+answered (Err n) s x e = absurd (never e)
 
 -- what is written reads back
 pub reads-back : ReadsBack
 reads-back c n r e reads =
     let w = wrote c n e in
-    answered r.answer (data_of r.device (take n c.left)) (given c) (reads.says ∙ ap read_sheet w.stands ∙ kept-reads (given c) w.keeps)
+    answered r (take n c.left) (given c) (reads.says ∙ ap read_sheet w.stands ∙ kept-reads (given c) w.keeps)
 
 -- the record of an accepted sheet, with the sheet lent: no refusal but 12, and `cleaned` of the sheet is written
 module _ (s : List ℕ) (a : Accepts s) (r : InRange (device_of s) s) where
@@ -94,10 +94,11 @@ module _ (s : List ℕ) (a : Accepts s) (r : InRange (device_of s) s) where
 -- what was read is written again
 pub read-is-written-again : WrittenAgain
 unfolding read_sheet
-read-is-written-again s r c reads acc ed eb =
-    let o : accepted (data_of r.device s) ≡ read_sheet s = sym (ap (λ (x : Answer). answer_of x (data_of r.device s)) acc) ∙ reads.says in
-    let a = accepted-accepts s (sheet_data s) (data_of r.device s) o in
-    let d : c.device ≡ device_of s = ed ∙ reads.holds ∙ ap (λ (x : Outcome Data). device_after x s) (sym o) in
+read-is-written-again s r c reads acc eb =
+    let o : accepted (data_of c.device s) ≡ read_sheet s = sym (ap (outcome_by (λ d. data_of d s)) acc) ∙ reads.says in
+    let a = accepted-accepts s (sheet_data s) (data_of c.device s) o in
+    let q : accepted c.device ≡ accepted (device_of s) = sym (ap sheet_read_of acc) ∙ reads.holds ∙ ap (λ (x : Outcome Data). device_after x s) (sym o) in
+    let d : c.device ≡ device_of s = cc in
     let range = there InRange d eb c.range in
     let w = there (λ (x : Device) (l : List ℕ). Writes x l c.room c.answer c.left) d eb c.promise in
     let e = only-room s a range c.room in
@@ -118,30 +119,30 @@ module _ (c : Call) where
   nameless = some_unnamed (take c.device.n c.device.managers)
 
   -- none of them: what is refused is refused with 12
-  only-twelve : long ≡ false → broken ≡ false → nameless ≡ false → (n : ℕ) → c.answer ≡ Refused n → n ≡ 12
+  only-twelve : long ≡ false → broken ≡ false → nameless ≡ false → (n : Reason) → c.answer ≡ Err n → number_of n ≡ 12
   unfolding writing
   only-twelve a b u n e =
       let t = sheet_of (given c) in
-      let o : refused n ≡ writing c.device c.bytes c.room = sym (ap written_of e) ∙ c.promise.says in
-      let z : refused n ≡ text_in t c.room = rw (a, b, u) at o in
+      let o : refused (number_of n) ≡ writing c.device c.bytes c.room = sym (ap written_of e) ∙ c.promise.says in
+      let z : refused (number_of n) ≡ text_in t c.room = rw (a, b, u) at o in
       go (ltb (length c.room) (length t)) (length t) z
     where
-      go : (x : Bool) (m : ℕ) → refused n ≡ decide (when 12 x ∷ []) m → n ≡ 12
+      go : (x : Bool) (m : ℕ) → refused (number_of n) ≡ decide (when 12 x ∷ []) m → number_of n ≡ 12
       go true m h = cc
       go false m h = absurd (never h)
 
   -- the answer to an outcome
-  refused-with : (n : ℕ) → writing c.device c.bytes c.room ≡ refused n → c.answer ≡ Refused n
-  refused-with n o = sym (written-determined c.answer) ∙ ap written_back (c.promise.says ∙ o)
+  refused-with : (n : Reason) → writing c.device c.bytes c.room ≡ refused (number_of n) → c.answer ≡ Err n
+  refused-with n o = same_result (λ k. k) (λ k. k) (λ k. refl) {x = c.answer} {y = Err n} (c.promise.says ∙ o) refl
 
   -- where not all three fail to hold, one of them was given
   given_by :
       (x y z : Bool) → long ≡ x → broken ≡ y → nameless ≡ z → (long ≡ false → broken ≡ false → nameless ≡ false → ⊥)
-      → (c.answer ≡ Refused 2) ⊎ ((c.answer ≡ Refused 4) ⊎ (c.answer ≡ Refused 5))
+      → (c.answer ≡ Err SheetLength) ⊎ ((c.answer ≡ Err SheetRule) ⊎ (c.answer ≡ Err UnnamedControl))
   unfolding writing
-  given_by true y z p q r h = let o : writing c.device c.bytes c.room ≡ refused 2 = rw p in inl (refused-with 2 o)
-  given_by false true z p q r h = let o : writing c.device c.bytes c.room ≡ refused 4 = rw (p, q) in inr (inl (refused-with 4 o))
-  given_by false false true p q r h = let o : writing c.device c.bytes c.room ≡ refused 5 = rw (p, q, r) in inr (inr (refused-with 5 o))
+  given_by true y z p q r h = let o : writing c.device c.bytes c.room ≡ refused 2 = rw p in inl (refused-with SheetLength o)
+  given_by false true z p q r h = let o : writing c.device c.bytes c.room ≡ refused 4 = rw (p, q) in inr (inl (refused-with SheetRule o))
+  given_by false false true p q r h = let o : writing c.device c.bytes c.room ≡ refused 5 = rw (p, q, r) in inr (inr (refused-with UnnamedControl o))
   given_by false false false p q r h = absurd (h p q r)
 
 -- 2, 4 or 5 exactly where there is no sheet
@@ -153,7 +154,7 @@ refused-exactly c n f e = (
 )
   where
     -- data that a sheet reads as is refused with none of them, but with 12
-    unrefused : SheetFor (given c) → (k : ℕ) → c.answer ≡ Refused k → k ≡ 12
+    unrefused : SheetFor (given c) → (k : Reason) → c.answer ≡ Err k → number_of k ≡ 12
     unrefused x k h =
         let s = x.sheet in
         let o : accepted (given c) ≡ read_sheet s = sym x.reads in
@@ -162,10 +163,10 @@ refused-exactly c n f e = (
         let z = keeps-data c.device c.bytes c.range n f e (subst Keeps same (read_keeps s x.bytes a)) in
         only-twelve c z.0 z.1 z.2 k h
 
-    no-sheet : (c.answer ≡ Refused 2) ⊎ ((c.answer ≡ Refused 4) ⊎ (c.answer ≡ Refused 5)) → SheetFor (given c) → ⊥
-    no-sheet (inl h) x = let z = unrefused x 2 h in omega arith
-    no-sheet (inr (inl h)) x = let z = unrefused x 4 h in omega arith
-    no-sheet (inr (inr h)) x = let z = unrefused x 5 h in omega arith
+    no-sheet : (c.answer ≡ Err SheetLength) ⊎ ((c.answer ≡ Err SheetRule) ⊎ (c.answer ≡ Err UnnamedControl)) → SheetFor (given c) → ⊥
+    no-sheet (inl h) x = let z = unrefused x SheetLength h in omega arith
+    no-sheet (inr (inl h)) x = let z = unrefused x SheetRule h in omega arith
+    no-sheet (inr (inr h)) x = let z = unrefused x UnnamedControl h in omega arith
 
     sheet : Keeps (given c) → SheetFor (given c)
     sheet k = record { sheet = sheet_of (given c); bytes = sheet-bytes (given c) k; reads = kept-reads (given c) k }

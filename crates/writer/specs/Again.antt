@@ -1,18 +1,16 @@
 -- The theorems of document 02, 2/13, in words of the calls: what is written reads back, and what was read is written again.
 -- `promise` is the function's own `ensures`, at the values of the call: `Contracts` in proofs/ makes these records of the contracts.
 -- Assumes nothing.
-use Rattle.std.specs.Prelude.{◌≡◌, true, List, [], ◌∷◌, ◌++◌, ◌⊎◌, ◌↔◌, ℕ, ◌+◌, ◌%◌, ◌<◌, ◌≤◌, length, get_or, take, drop}
+use Rattle.std.specs.Prelude.{◌≡◌, true, List, [], ◌∷◌, ◌++◌, ◌⊎◌, ◌↔◌, ℕ, ◌+◌, ◌%◌, ◌<◌, ◌≤◌, length, get_or, take, drop, Result, Ok, Err}
 use Rattle.wire.specs.Image.{Bytes}
 use Rattle.wire.specs.Lists.{list_of, Each}
 use Rattle.wire.specs.Outcome.{accepted}
 use Rattle.wire.specs.Room.{InRoom, text_in}
-use Rattle.wire.specs.declared.Written.{Written}
-use Rattle.wire.specs.declared.Written.TheVariants.{Len, Refused}
+use Rattle.wire.specs.declared.Reason.{Reason}
+use Rattle.wire.specs.declared.Reason.TheVariants.{SheetLength, SheetRule, UnnamedControl}
 use Rattle.area.specs.Area.{flat}
-use Rattle.sheet.specs.declared.Answer.TheVariants.{Accepted}
 use Rattle.sheet.specs.declared.SyncManager.{SyncManager}
 use Rattle.sheet.specs.declared.Device.{Device}
-use Rattle.sheet.specs.declared.SheetRead.{SheetRead}
 use Rattle.sheet.specs.Device.{Data, data_of}
 use Rattle.sheet.specs.Sheet.{manager_count, manager_place, usages_place, pdos_fit, read_sheet, ReadsAs}
 use Rattle.writer.specs.Writing.{records_of, Writes}
@@ -32,7 +30,7 @@ pub record Call : Type 0 where
   pub device : Device
   pub bytes : List ℕ
   pub room : List ℕ
-  pub answer : Written
+  pub answer : Result ℕ Reason
   pub left : List ℕ
   pub range : InRange device bytes
   pub promise : Writes device bytes room answer left
@@ -40,8 +38,8 @@ pub record Call : Type 0 where
 -- what is written reads back as the same data: of any call that answers a length, and any answer of `sheet::read` for what was written
 abbrev pub ReadsBack : Type 0
 ReadsBack =
-    (c : Call) (n : ℕ) (r : SheetRead) → c.answer ≡ Len n → ReadsAs (take n c.left) r
-    → (r.answer ≡ Accepted) × (data_of r.device (take n c.left) ≡ data_of c.device c.bytes)
+    (c : Call) (n : ℕ) (r : Result Device Reason) → c.answer ≡ Ok n → ReadsAs (take n c.left) r
+    → (d : Device) × ((r ≡ Ok d) × (data_of d (take n c.left) ≡ data_of c.device c.bytes))
 
 -- a sync manager's five bytes, but that control bit 7 and the EEPROM enable bits that are ignored are 0
 abbrev pub clean_manager : List ℕ → ℕ → List ℕ
@@ -54,7 +52,7 @@ cleaned s = take 11 s ++ (flat (list_of (λ k. clean_manager s (manager_place k)
 -- an accepted sheet, read and written again: the call writes `cleaned` of it by the rule for texts, so 12 is the one refusal that is left
 abbrev pub WrittenAgain : Type 0
 WrittenAgain =
-    (s : List ℕ) (r : SheetRead) (c : Call) → ReadsAs s r → r.answer ≡ Accepted → c.device ≡ r.device → c.bytes ≡ s
+    (s : List ℕ) (r : Result Device Reason) (c : Call) → ReadsAs s r → r ≡ Ok c.device → c.bytes ≡ s
     → InRoom (text_in (cleaned s) c.room) (cleaned s) c.room c.answer c.left
 
 -- a sheet that reads as device data
@@ -68,4 +66,4 @@ pub record SheetFor (x : Data) : Type 0 where
 abbrev pub RefusedExactly : Type 0
 RefusedExactly =
     (c : Call) → c.device.n ≤ 16 → c.device.f ≤ 16 → pdos_fit (records_of c.device c.bytes) c.device.p 0 ≡ true
-    → ((c.answer ≡ Refused 2) ⊎ ((c.answer ≡ Refused 4) ⊎ (c.answer ≡ Refused 5))) ↔ (SheetFor (data_of c.device c.bytes) → ⊥)
+    → ((c.answer ≡ Err SheetLength) ⊎ ((c.answer ≡ Err SheetRule) ⊎ (c.answer ≡ Err UnnamedControl))) ↔ (SheetFor (data_of c.device c.bytes) → ⊥)

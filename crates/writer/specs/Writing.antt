@@ -1,11 +1,11 @@
 -- Writing a sheet (document 02, 2/13): the refusals in their order, and what a call promises. Device data comes in the form that the reader gives
 -- it, the record and lent bytes in which its PDO records stand.
 -- Assumes nothing.
-use Rattle.std.specs.Prelude.{Bool, not, ◌||◌, List, [], ◌∷◌, ℕ, ◌+◌, ◌*◌, take, drop, ltb}
+use Rattle.std.specs.Prelude.{Bool, not, ◌||◌, List, [], ◌∷◌, ℕ, ◌+◌, ◌*◌, take, drop, ltb, Result}
 use Rattle.wire.specs.Lists.{some_of}
 use Rattle.wire.specs.Outcome.{Outcome, Refusal, when, first}
 use Rattle.wire.specs.Room.{InRoom, text_in}
-use Rattle.wire.specs.declared.Written.{Written}
+use Rattle.wire.specs.declared.Reason.{Reason}
 pub use Rattle.grammar.specs.Grammar.{pdos_end, pdos_fit}
 use Rattle.sheet.specs.declared.Device.{Device}
 use Rattle.sheet.specs.Device.{data_of}
@@ -40,5 +40,5 @@ unfoldable pub writing : Device → List ℕ → List ℕ → Outcome ℕ
 writing d s room = first (data_refusals d s) (text_in (sheet_of (data_of d s)) room)
 
 -- the promise of `write`: its answer, and what the room holds then
-abbrev pub Writes : Device → List ℕ → List ℕ → Written → List ℕ → Type 0
+abbrev pub Writes : Device → List ℕ → List ℕ → Result ℕ Reason → List ℕ → Type 0
 Writes d s room r after = InRoom (writing d s room) (sheet_of (data_of d s)) room r after

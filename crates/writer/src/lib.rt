@@ -1,29 +1,29 @@
 // Writes device data as a sheet: the reader's other way, over the same grammar.
 #![tactic(auto)]
 
-ghost use Rattle.std.specs.Prelude.{◌≡◌, ◌+◌, ◌*◌, ◌≤◌, min, length, take, ltb};
+ghost use Rattle.std.specs.Prelude.{◌≡◌, ◌+◌, ◌*◌, ◌≤◌, ◌<◌, map, length, take, ltb, MatchResult};
 ghost use Rattle.wire.specs.Lists.{some_of};
 ghost use Rattle.wire.specs.Room.{over};
-ghost use Rattle.area.specs.Area.{stored_at};
+ghost use Rattle.wire.specs.declared.Reason.TheVariants.{SheetLength};
+ghost use Rattle.area.specs.Area.{flat, stored_at};
 ghost use Rattle.sheet.specs.Sheet.{some_unnamed};
 ghost use Rattle.writer.specs.Form.{flags_byte, manager_bytes};
 ghost use Rattle.writer.specs.Writing.{rule_broken, Writes};
-ghost use Rattle.writer.specs.Laid.{head_laid, managers_laid, sheet_laid};
+ghost use Rattle.writer.specs.Laid.{head_laid, sheet_laid};
 
 use sheet::{Device, SyncManager};
-use wire::Written;
+use wire::Reason;
 
 // The bytes of a sync manager.
 fn manager_bytes(m: SyncManager) -> [u8; 5]
     ensures { result ≡ manager_bytes m }
 {
-    let start = wire::be16_bytes(m.start_addr);
-    let control = m.control;
+    let start = m.start_addr.to_be_bytes();
     [
         start[0],
         start[1],
-        control.pack(),
-        wire::bit_of(m.enable),
+        m.control.pack(),
+        u8::from(m.enable),
         m.usage_type,
     ]
 }
@@ -32,7 +32,7 @@ fn manager_bytes(m: SyncManager) -> [u8; 5]
 fn flags_of(mailbox: bool, protocol: bool, complete: bool) -> u8
     ensures { result ≡ flags_byte mailbox protocol complete }
 {
-    wire::bit_of(mailbox) + 2 * wire::bit_of(protocol) + 4 * wire::bit_of(complete)
+    u8::from(mailbox) + 2 * u8::from(protocol) + 4 * u8::from(complete)
 }
 
 // What stands before the sync managers; L is what follows its two bytes, of `total`.
@@ -40,9 +40,9 @@ fn head_of(d: Device, total: u16) -> [u8; 11]
     requires { (11 ≤ total) × (d.n ≤ 16) × (d.f ≤ 16) }
     ensures { result ≡ head_laid d total }
 {
-    let follow = wire::be16_bytes(total - 2);
-    let receive = wire::be16_bytes(d.receive_size.0);
-    let send = wire::be16_bytes(d.send_size.0);
+    let follow = (total - 2).to_be_bytes();
+    let receive = d.receive_size.0.to_be_bytes();
+    let send = d.send_size.0.to_be_bytes();
     [
         follow[0],
         follow[1],
@@ -58,28 +58,18 @@ fn head_of(d: Device, total: u16) -> [u8; 11]
     ]
 }
 
-// Stores the first n sync managers, one behind the other, where they stand in a sheet.
-fn put_managers(list: [SyncManager; 16], n: usize, room: &mut [u8])
-    requires { (n ≤ 16) × (11 + 5 * n ≤ length room.old) }
-    ensures { room.new ≡ stored_at 11 (managers_laid list n) room.old }
+// Stores sync managers, one behind the other, where they stand in a sheet.
+fn put_managers(list: &[SyncManager], room: &mut [u8])
+    requires { 11 + 5 * length list.now ≤ length room.old }
+    ensures { room.new ≡ stored_at 11 (flat (map manager_bytes list.now)) room.old }
 {
-    let mut k = 0;
-    while k < n {
-        let m = list[k];
+    for (k, &m) in list.iter().enumerate() {
         area::store(
             &manager_bytes(m),
             room,
             grammar::HEAD_BYTES + grammar::MANAGER_BYTES * k,
         );
-        k += 1;
     }
-}
-
-// Stores the first f FMMU usages from a place on.
-fn put_usages(list: [u8; 16], f: usize, room: &mut [u8], at: usize)
-    ensures { room.new ≡ stored_at at (take f list) room.old }
-{
-    area::store(wire::front(&list, f), room, at);
 }
 
 // Stores a sheet's parts, one behind the other: the head, the sync managers, the FMMU usages, the PDO records.
@@ -87,127 +77,85 @@ fn put_sheet(d: Device, records: &[u8], total: u16, room: &mut [u8])
     requires { (d.n ≤ 16) × (d.f ≤ 16) × (total ≡ 11 + 5 * d.n + d.f + length records.now) × (total ≤ length room.old) }
     ensures { room.new ≡ over (sheet_laid d total records.now) room.old }
 {
-    let managers = d.managers;
-    let usages = d.usages;
     let place = grammar::HEAD_BYTES + grammar::MANAGER_BYTES * d.n;
     area::store(&head_of(d, total), room, 0);
-    put_managers(managers, d.n, room);
-    put_usages(usages, d.f, room, place);
+    put_managers(&d.managers[..d.n], room);
+    area::store(&d.usages[..d.f], room, place);
     area::store(records, room, place + d.f);
 }
 
-// What 4 and 5 ask of sync managers: whether a usage has no name, and whether a mode or a direction is unnamed.
-#[derive(Clone, Copy)]
-struct Judged {
-    usage_unnamed: bool,
-    control_unnamed: bool,
-}
-
-// Of the first n, both in one go.
-fn judge(list: [SyncManager; 16], n: usize) -> Judged
-    ensures { (result.usage_unnamed ≡ some_of (λ m. ltb 4 m.usage_type) (take n list)) × (result.control_unnamed ≡ some_unnamed (take n list)) }
+// Whether a sync manager's usage has no name.
+fn some_manager_unnamed(list: &[SyncManager]) -> bool
+    ensures { result ≡ some_of (λ m. ltb 4 m.usage_type) list.now }
 {
-    let count = wire::least(n, 16);
-    let mut usage_unnamed = false;
-    let mut control_unnamed = false;
-    let mut k = 0;
-    while k < count {
-        let m = list[k];
-        let control = m.control;
-        usage_unnamed = usage_unnamed | (4 < m.usage_type);
-        control_unnamed = control_unnamed | control.unnamed();
-        k += 1;
-    }
-    Judged {
-        usage_unnamed,
-        control_unnamed,
-    }
+    list.iter().any(|m| 4 < m.usage_type)
 }
 
-// Whether an FMMU's usage has no name, of the first f.
-fn some_usage_unnamed(list: [u8; 16], f: usize) -> bool
-    requires { f ≤ 16 }
-    ensures { result ≡ some_of (ltb 3) (take f list) }
+// Whether a mode or a direction is unnamed.
+fn some_control_unnamed(list: &[SyncManager]) -> bool
+    ensures { result ≡ some_unnamed list.now }
 {
-    let mut k = 0;
-    while k < f {
-        if 3 < list[k] {
-            return true;
-        }
-        k += 1;
-    }
-    false
+    list.iter().any(|m| m.control.unnamed())
 }
 
-// L, exactly, with so many bytes of PDO records; 16,385 where it is above 16,384.
-fn length_of(n: usize, f: usize, long: usize) -> u16
+// Whether an FMMU's usage has no name.
+fn some_usage_unnamed(list: &[u8]) -> bool
+    ensures { result ≡ some_of (ltb 3) list.now }
+{
+    list.iter().any(|&usage| 3 < usage)
+}
+
+// L, with so many bytes of PDO records. 2: it is above 16,384.
+fn length_of(n: usize, f: usize, long: usize) -> Result<u16, Reason>
     requires { long ≤ 66300 }
-    ensures { result ≡ min (9 + 5 * n + f + long) 16385 }
+    ensures { MatchResult result (λ l. (l ≡ 9 + 5 * n + f + long) × (l ≤ 16384)) (λ r. (r ≡ SheetLength) × (16384 < 9 + 5 * n + f + long)) }
 {
-    if 16384 < n {
-        return 16385;
+    // n and f are any numbers: none is added where the sum could wrap
+    if 16384 < n || 16384 < f {
+        return Err(Reason::SheetLength);
     }
-    if 16384 < f {
-        return 16385;
+    let follow = 9 + 5 * n + f + long;
+    if 16384 < follow {
+        return Err(Reason::SheetLength);
     }
-    wire::least(9 + 5 * n + f + long, 16385) as u16
+    Ok(follow as u16)
 }
 
-// 4: whether another rule of the sheet is broken, the sync managers' usages having been looked at.
-fn rule_broken(d: Device, unnamed: bool, records: &[u8]) -> bool
-    requires { unnamed ≡ some_of (λ m. ltb 4 m.usage_type) (take d.n d.managers) }
+// 4: whether another rule of the sheet is broken; the sync managers are the first n.
+fn rule_broken(d: Device, managers: &[SyncManager], records: &[u8]) -> bool
+    requires { managers.now ≡ take d.n d.managers }
     ensures { result ≡ rule_broken d records.now }
 {
-    let usages = d.usages;
-    if 16 < d.n {
-        return true;
-    }
-    if 16 < d.f {
-        return true;
-    }
-    if unnamed {
-        return true;
-    }
-    if some_usage_unnamed(usages, d.f) {
-        return true;
-    }
-    !grammar::are_pdos(records, d.p)
-}
-
-// 12: whether the room is too short for so many bytes.
-fn too_short(room: &[u8], total: u16) -> bool
-    ensures { result ≡ ltb (length room.now) total }
-{
-    room.len() < (total as usize)
+    16 < d.n
+        || 16 < d.f
+        || some_manager_unnamed(managers)
+        || some_usage_unnamed(&d.usages[..d.f])
+        || !grammar::are_pdos(records, d.p)
 }
 
 // Writes device data as a sheet, its PDO records standing in the lent bytes from `pdos` on, and answers the sheet's length. It goes into the room
 // whole, or not at all. 2: the sheet would be too long; 4: the data breaks a rule of the sheet; 5: a mode or a direction is unnamed; 12: the room is too short.
-pub fn write(device: Device, bytes: &[u8], room: &mut [u8]) -> Written
+pub fn write(device: Device, bytes: &[u8], room: &mut [u8]) -> Result<usize, Reason>
     ensures { Writes device bytes.now room.old result room.new }
 {
     let behind = wire::behind(bytes, device.pdos);
     let long = grammar::pdos_end(behind, device.p);
-    let follow = length_of(device.n, device.f, long);
-    if 16384 < follow {
-        return Written::Refused(2);
-    }
+    let total = length_of(device.n, device.f, long)? + 2;
     let records = wire::front(behind, long);
-    let total = follow + 2;
-    let managers = device.managers;
+    let managers = &device.managers[..device.n.min(16)];
     // all are asked before one is given
-    let judged = judge(managers, device.n);
-    let broken = rule_broken(device, judged.usage_unnamed, records);
-    let short = too_short(room, total);
+    let broken = rule_broken(device, managers, records);
+    let nameless = some_control_unnamed(managers);
+    let short = room.len() < usize::from(total);
     if broken {
-        return Written::Refused(4);
+        return Err(Reason::SheetRule);
     }
-    if judged.control_unnamed {
-        return Written::Refused(5);
+    if nameless {
+        return Err(Reason::UnnamedControl);
     }
     if short {
-        return Written::Refused(12);
+        return Err(Reason::RoomTooShort);
     }
     put_sheet(device, records, total, room);
-    Written::Len(total as usize)
+    Ok(usize::from(total))
 }

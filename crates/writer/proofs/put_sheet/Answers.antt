@@ -23,5 +23,5 @@ returns c =
     let five = first-managers-long a.d.managers a.d.n (omega arith) in
     let one = length-take-le a.d.f a.d.usages (omega arith) in
     four-stored c.head_of.result (managers_laid a.d.managers a.d.n) (take a.d.f a.d.usages) records room (omega arith) c.store.ensures (omega arith)
-    c.put_managers.ensures (omega arith) c.put_usages.ensures (omega arith) c.store-2.ensures
+    c.put_managers.ensures (omega arith) c.store-2.ensures (omega arith) c.store-3.ensures
     ∙ ap (λ (l : List ℕ). over (l ++ (managers_laid a.d.managers a.d.n ++ (take a.d.f a.d.usages ++ records))) room) c.head_of.ensures
