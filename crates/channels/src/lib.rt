@@ -9,7 +9,7 @@ ghost use Rattle.channels.specs.Channels.{channel_for, written, channels_after, 
 
 use pdi::ByteLen;
 use sheet::SyncManager;
-use sync_manager_channel::{BufferState, Enable, Status, SyncManagerChannel};
+use sync_manager_channel::{Enable, Status, SyncManagerChannel};
 
 // The channel of a sync manager of a given size: enabled only if the sheet says so and there is something to map.
 pub fn sm_config(manager: SyncManager, size: ByteLen) -> SyncManagerChannel
@@ -20,14 +20,7 @@ pub fn sm_config(manager: SyncManager, size: ByteLen) -> SyncManagerChannel
         physical_start_address: manager.start_addr,
         length_bytes: size,
         control,
-        status: Status {
-            has_write_event: false,
-            has_read_event: false,
-            mailbox_full: false,
-            buffer_state: BufferState::First,
-            read_buffer_open: false,
-            write_buffer_open: false,
-        },
+        status: Status::unpack(0),
         enable: Enable {
             enable: manager.enable && 0 < size.0,
             repeat: false,
@@ -43,11 +36,10 @@ pub fn sm_config(manager: SyncManager, size: ByteLen) -> SyncManagerChannel
 pub fn write_channel(area: &mut [u8], sheet: &[u8], k: u8, size: ByteLen)
     ensures { area.new ≡ channel_area (written k (manager_at sheet.now (manager_place k)) (some size.0)) area.old }
 {
-    if area.len() != 128 {
-        return;
+    if area.len() == 128 {
+        let image = sm_config(sheet::manager(sheet, k), size).pack();
+        area::store(&image, area, 8 * usize::from(k));
     }
-    let image = sm_config(sheet::manager(sheet, k), size).pack();
-    area::store(&image, area, 8 * wire::wide(k));
 }
 
 // Writes it if the sync manager has process data.
@@ -63,10 +55,7 @@ fn write_wanted(area: &mut [u8], sheet: &[u8], k: u8, size: ByteLen)
 pub fn write_channels(area: &mut [u8], sheet: &[u8], sizes: [ByteLen; 16])
     ensures { area.new ≡ channel_area (channels_after (size_by sizes) 0 (managers_in sheet.now)) area.old }
 {
-    let n = sheet::front_count(sheet);
-    let mut k = 0;
-    while k < n {
-        write_wanted(area, sheet, k, sizes[wire::wide(k)]);
-        k += 1;
+    for k in 0..sheet::front_count(sheet) {
+        write_wanted(area, sheet, k, sizes[usize::from(k)]);
     }
 }

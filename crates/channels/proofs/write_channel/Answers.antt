@@ -10,14 +10,13 @@ use Rattle.channels.specs.Channels.{channel_for, written}
 use Rattle.channels.proofs.After.{area-other, image-stored}
 use Rattle.channels.proofs.write_channel.Goals as goal
 
-pub returns-then-area-ne128 : goal.returns-then-area-ne128
-returns-then-area-ne128 c =
+pub returns-else-area-eq128 : goal.returns-else-area-eq128
+returns-else-area-eq128 c =
     let a = c.args in
-    sym (area-other (written a.k (manager_at a.sheet.now (manager_place a.k)) (some a.size.0)) a.area.now (λ e. c.if-area-ne128.true (omega arith)))
+    sym (area-other (written a.k (manager_at a.sheet.now (manager_place a.k)) (some a.size.0)) a.area.now (λ e. c.if-area-eq128.false (omega arith)))
 
-pub returns : goal.returns
-returns c =
+pub returns-then-area-eq128 : goal.returns-then-area-eq128
+returns-then-area-eq128 c =
     let a = c.args in
     let image = c.pack-image.ensures ∙ ap image_of (c.sm_config.ensures ∙ ap (λ m. channel_for m a.size.0) c.manager.ensures) in
-    let w = c.wide.ensures.0 in
-    image-stored a.k (manager_at a.sheet.now (manager_place a.k)) a.size.0 (8 * c.wide.result) _ a.area.now _ (omega arith) (omega arith) image c.store.ensures
+    image-stored a.k (manager_at a.sheet.now (manager_place a.k)) a.size.0 (8 * c.from.result) _ a.area.now _ (omega arith) (omega arith) image c.store.ensures
