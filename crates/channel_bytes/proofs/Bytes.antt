@@ -1,6 +1,9 @@
 -- The fields of the four bytes, from bit 0 up, with 0 where bits are reserved.
 -- Assumes nothing.
+use mathlib.Core.Path.{◌≡◌}
+use mathlib.Core.Bool.{Bool, true, false}
 use mathlib.Core.List.{List, [], ◌∷◌}
+use mir.Val.{bool_byte}
 use Prim.Native.Nat.{ℕ, ◌%◌, ◌<◌}
 use native.Mathlib.Omega.{arith}
 use Rattle.channel_bytes.specs.declared.BufferState.{BufferState}
@@ -9,7 +12,13 @@ use Rattle.channel_bytes.specs.declared.Control.{Control}
 use Rattle.channel_bytes.specs.declared.Status.{Status}
 use Rattle.channel_bytes.specs.declared.Enable.{Enable}
 use Rattle.channel_bytes.specs.Bytes.{mode_number, direction_number, state_number, control_byte, status_byte, enable_low, enable_high}
+use Rattle.wire.specs.Field.{bit}
 use Rattle.wire.proofs.Packed.{Field, field, flag, reserve, Laid, laid}
+
+-- the byte that the library makes of a flag
+pub made : {n : ℕ} (x : Bool) → n ≡ bool_byte x → (n ≡ bit x) × (n < 2)
+made true e = (e, omega arith)
+made false e = (e, omega arith)
 
 -- the low two bits of a number
 pub two-bits : (x : ℕ) → x % 4 < 4

@@ -3,7 +3,7 @@
 use mathlib.Core.Path.{◌≡◌, refl, sym, ◌∙◌, ap, ap₂}
 use mathlib.Core.Bool.{Bool, true, false, false≢true, cond, not, ◌&&◌, ◌||◌}
 use mathlib.Core.Logic.{◌↔◌}
-use mathlib.Core.Option.{some}
+use Rattle.std.specs.Prelude.{Some}
 use Prim.Native.Nat.{ℕ, zero, suc, ◌/◌, ◌%◌, ◌<◌}
 use native.Mathlib.Omega.{arith}
 use lib.Dec.{eqb, ltb}
@@ -27,7 +27,7 @@ use Rattle.channel_bytes.specs.Bytes.{control_at, control_byte, unnamed, misnumb
 use Rattle.channel_bytes.proofs.Bytes.{two-bits, control-laid, status-laid, low-laid, high-laid}
 
 -- a number above 3 is wrong, whichever are named
-above-3 : (named : ℕ → Bool) (k : ℕ) → wrong_number named (some (suc (suc (suc (suc k))))) ≡ false → ⊥
+above-3 : (named : ℕ → Bool) (k : ℕ) → wrong_number named (Some (suc (suc (suc (suc k))))) ≡ false → ⊥
 above-3 named k h = let big = ltb-false 3 (suc (suc (suc (suc k)))) (or-none (named (suc (suc (suc (suc k))))) (ltb 3 (suc (suc (suc (suc k))))) h).1 in omega arith
 
 -- a mode whose number isn't wrong comes back from its low two bits, and so does a direction

@@ -1,7 +1,7 @@
 -- ETG1000.4 6.7.2, the bytes of a sync manager that are made up of fields: control, status and enable.
 -- Assumes nothing.
 use Rattle.std.specs.Prelude.{Bool, true, false, cond, ◌||◌, ℕ, ◌+◌, ◌*◌, ◌%◌, eqb, ltb}
-use Rattle.std.proofs.Math.Option.{Option, none, some}
+use Rattle.std.specs.Prelude.{Option, None, Some}
 use Rattle.wire.specs.Field.{bits_at, flag_at, bit}
 use Rattle.channel_bytes.specs.declared.OperationMode.{OperationMode}
 use Rattle.channel_bytes.specs.declared.OperationMode.TheVariants as mode
@@ -27,9 +27,9 @@ mode_named n = eqb n 0 || eqb n 2
 
 -- the number of the case with a number
 abbrev pub mode_unnamed : OperationMode → Option ℕ
-mode_unnamed mode.Normal = none
-mode_unnamed mode.Mailbox = none
-mode_unnamed (mode.Unnamed k) = some k
+mode_unnamed mode.Normal = None
+mode_unnamed mode.Mailbox = None
+mode_unnamed (mode.Unnamed k) = Some k
 
 -- direction is MasterRead 0 or MasterWrite 1; any other likewise
 abbrev pub direction_number : Direction → ℕ
@@ -44,9 +44,9 @@ abbrev pub direction_named : ℕ → Bool
 direction_named n = eqb n 0 || eqb n 1
 
 abbrev pub direction_unnamed : Direction → Option ℕ
-direction_unnamed direction.MasterRead = none
-direction_unnamed direction.MasterWrite = none
-direction_unnamed (direction.Unnamed k) = some k
+direction_unnamed direction.MasterRead = None
+direction_unnamed direction.MasterWrite = None
+direction_unnamed (direction.Unnamed k) = Some k
 
 -- buffer state: First, Second, Third, Next as 0-3
 abbrev pub state_number : BufferState → ℕ
@@ -80,16 +80,16 @@ control_byte c =
 
 -- an unnamed mode or direction, whatever its number
 abbrev pub is_unnamed : Option ℕ → Bool
-is_unnamed none = false
-is_unnamed (some k) = true
+is_unnamed None = false
+is_unnamed (Some k) = true
 
 unfoldable pub unnamed : Control → Bool
 unnamed c = is_unnamed (mode_unnamed c.operation_mode) || is_unnamed (direction_unnamed c.direction)
 
 -- 13: an unnamed number that is named or above 3
 abbrev pub wrong_number : (ℕ → Bool) → Option ℕ → Bool
-wrong_number named none = false
-wrong_number named (some k) = named k || ltb 3 k
+wrong_number named None = false
+wrong_number named (Some k) = named k || ltb 3 k
 
 unfoldable pub misnumbered : Control → Bool
 misnumbered c = wrong_number mode_named (mode_unnamed c.operation_mode) || wrong_number direction_named (direction_unnamed c.direction)

@@ -1,9 +1,9 @@
 // src/sync_manager_channel.rs: the bytes of a channel that are made up of fields, each way.
 #![tactic(auto)]
 
-ghost use Rattle.std.specs.Prelude.{◌≡◌, cond, ◌||◌, [], ◌∷◌, ◌<◌, eqb, ltb};
+ghost use Rattle.std.specs.Prelude.{◌≡◌, ◌||◌, [], ◌∷◌, ◌<◌, eqb};
 ghost use Rattle.channel_bytes.specs.Bytes as meaning;
-ghost use Rattle.channel_bytes.specs.Bytes.{mode_number, mode_at, mode_named, mode_unnamed, direction_number, direction_at, direction_named, direction_unnamed, is_unnamed, wrong_number, state_number, state_at, control_at, control_byte, status_at, status_byte, enable_at, enable_low, enable_high};
+ghost use Rattle.channel_bytes.specs.Bytes.{mode_number, mode_at, mode_unnamed, direction_number, direction_at, direction_unnamed, wrong_number, state_number, state_at, control_at, control_byte, status_at, status_byte, enable_at, enable_low, enable_high};
 
 // ETG1000.4 6.7.2, byte 4.
 #[derive(Clone, Copy, Debug, PartialEq, Eq)]
@@ -60,62 +60,37 @@ pub enum BufferState {
     Next,
 }
 
-// Whether an unnamed number is one of the two that have names, or above 3.
-fn wrong_number(number: u8, one: u8, other: u8) -> bool
-    ensures { result ≡ (eqb number one || eqb number other) || ltb 3 number }
-{
-    if number == one {
-        return true;
-    }
-    if number == other {
-        return true;
-    }
-    3 < number
-}
-
 impl OperationMode {
     // The number that stands for it; in two choices, so that the compiler makes a mask of reading a byte and writing it again.
     pub fn number(self) -> u8
         ensures { result ≡ mode_number self }
     {
-        let given = self.given();
+        let given = self.unnamed().unwrap_or(0);
         match self {
-            OperationMode::Normal => given,
             OperationMode::Mailbox => 2,
-            OperationMode::Unnamed(_) => given,
+            _ => given,
         }
     }
 
-    // The number of the case with a number, else 0.
-    fn given(self) -> u8
-        ensures { result ≡ cond (is_unnamed (mode_unnamed self)) (mode_number self) 0 }
+    // The number of the case with a number.
+    fn unnamed(self) -> Option<u8>
+        ensures { result ≡ mode_unnamed self }
     {
         match self {
-            OperationMode::Normal => 0,
-            OperationMode::Mailbox => 0,
-            OperationMode::Unnamed(number) => number,
+            OperationMode::Unnamed(number) => Some(number),
+            _ => None,
         }
     }
+}
 
-    // Whether it is the case with a number.
-    fn is_unnamed(self) -> bool
-        ensures { result ≡ is_unnamed (mode_unnamed self) }
-    {
-        match self {
-            OperationMode::Normal => false,
-            OperationMode::Mailbox => false,
-            OperationMode::Unnamed(_) => true,
-        }
-    }
+impl From<u8> for OperationMode {
+    ghost from_gives = { λ n r. r ≡ mode_at n };
 
-    // Whether it is the case with a number, but of a number that has a name or is above 3.
-    fn misnumbered(self) -> bool
-        ensures { result ≡ wrong_number mode_named (mode_unnamed self) }
-    {
-        match self {
-            OperationMode::Normal => false,
-            OperationMode::Mailbox => false,
-            OperationMode::Unnamed(number) => wrong_number(number, 0, 2),
+    fn from(number: u8) -> OperationMode {
+        match number {
+            0 => OperationMode::Normal,
+            2 => OperationMode::Mailbox,
+            _ => OperationMode::Unnamed(number),
         }
     }
 }
@@ -125,46 +100,41 @@ impl Direction {
     pub fn number(self) -> u8
         ensures { result ≡ direction_number self }
     {
-        let given = self.given();
+        let given = self.unnamed().unwrap_or(0);
         match self {
-            Direction::MasterRead => given,
             Direction::MasterWrite => 1,
-            Direction::Unnamed(_) => given,
+            _ => given,
         }
     }
 
-    // The number of the case with a number, else 0.
-    fn given(self) -> u8
-        ensures { result ≡ cond (is_unnamed (direction_unnamed self)) (direction_number self) 0 }
+    // The number of the case with a number.
+    fn unnamed(self) -> Option<u8>
+        ensures { result ≡ direction_unnamed self }
     {
         match self {
-            Direction::MasterRead => 0,
-            Direction::MasterWrite => 0,
-            Direction::Unnamed(number) => number,
+            Direction::Unnamed(number) => Some(number),
+            _ => None,
         }
     }
+}
 
-    // Whether it is the case with a number.
-    fn is_unnamed(self) -> bool
-        ensures { result ≡ is_unnamed (direction_unnamed self) }
-    {
-        match self {
-            Direction::MasterRead => false,
-            Direction::MasterWrite => false,
-            Direction::Unnamed(_) => true,
-        }
-    }
+impl From<u8> for Direction {
+    ghost from_gives = { λ n r. r ≡ direction_at n };
 
-    // Whether it is the case with a number, but of a number that has a name or is above 3.
-    fn misnumbered(self) -> bool
-        ensures { result ≡ wrong_number direction_named (direction_unnamed self) }
-    {
-        match self {
-            Direction::MasterRead => false,
-            Direction::MasterWrite => false,
-            Direction::Unnamed(number) => wrong_number(number, 0, 1),
+    fn from(number: u8) -> Direction {
+        match number {
+            0 => Direction::MasterRead,
+            1 => Direction::MasterWrite,
+            _ => Direction::Unnamed(number),
         }
     }
+}
+
+// Whether an unnamed number is one of the two that have names, or above 3.
+fn wrong_number(unnamed: Option<u8>, one: u8, other: u8) -> bool
+    ensures { result ≡ meaning.wrong_number (λ n. eqb n one || eqb n other) unnamed }
+{
+    unnamed.is_some_and(|number| number == one || number == other || 3 < number)
 }
 
 impl BufferState {
@@ -172,49 +142,20 @@ impl BufferState {
     pub fn number(self) -> u8
         ensures { (result ≡ state_number self) × (result < 4) }
     {
-        match self {
-            BufferState::First => 0,
-            BufferState::Second => 1,
-            BufferState::Third => 2,
-            BufferState::Next => 3,
-        }
-    }
-
-    // The state that a number stands for.
-    fn at(number: u8) -> BufferState
-        ensures { result ≡ state_at number }
-    {
-        if number == 0 {
-            return BufferState::First;
-        }
-        if number == 1 {
-            return BufferState::Second;
-        }
-        if number == 2 {
-            return BufferState::Third;
-        }
-        BufferState::Next
+        self as u8
     }
 }
 
-// The mode and the direction that numbers stand for.
-fn mode_at(number: u8) -> OperationMode
-    ensures { result ≡ mode_at number }
-{
-    match number {
-        0 => OperationMode::Normal,
-        2 => OperationMode::Mailbox,
-        _ => OperationMode::Unnamed(number),
-    }
-}
+impl From<u8> for BufferState {
+    ghost from_gives = { λ n r. r ≡ state_at n };
 
-fn direction_at(number: u8) -> Direction
-    ensures { result ≡ direction_at number }
-{
-    match number {
-        0 => Direction::MasterRead,
-        1 => Direction::MasterWrite,
-        _ => Direction::Unnamed(number),
+    fn from(number: u8) -> BufferState {
+        match number {
+            0 => BufferState::First,
+            1 => BufferState::Second,
+            2 => BufferState::Third,
+            _ => BufferState::Next,
+        }
     }
 }
 
@@ -224,8 +165,8 @@ impl Control {
         ensures { result ≡ control_at byte }
     {
         Control {
-            operation_mode: mode_at(byte & 0x03),
-            direction: direction_at((byte >> 2) & 0x03),
+            operation_mode: OperationMode::from(byte & 0x03),
+            direction: Direction::from((byte >> 2) & 0x03),
             ecat_event_enable: wire::flag(byte, 4),
             dls_user_event_enable: wire::flag(byte, 5),
             watchdog_enable: wire::flag(byte, 6),
@@ -233,40 +174,31 @@ impl Control {
     }
 
     // Whether its mode or its direction is the case with a number, whatever the number.
+    #[tactic(auto, unfolding(crate::specs::Bytes::unnamed))]
     pub fn unnamed(self) -> bool
         ensures { result ≡ meaning.unnamed self }
     {
-        let mode = self.operation_mode;
-        let direction = self.direction;
-        if mode.is_unnamed() {
-            return true;
-        }
-        direction.is_unnamed()
+        self.operation_mode.unnamed().is_some() || self.direction.unnamed().is_some()
     }
 
     // 13: whether an unnamed number is one that is named, or above 3.
+    #[tactic(auto, unfolding(crate::specs::Bytes::misnumbered))]
     pub fn misnumbered(self) -> bool
         ensures { result ≡ meaning.misnumbered self }
     {
-        let mode = self.operation_mode;
-        let direction = self.direction;
-        if mode.misnumbered() {
-            return true;
-        }
-        direction.misnumbered()
+        wrong_number(self.operation_mode.unnamed(), 0, 2)
+            || wrong_number(self.direction.unnamed(), 0, 1)
     }
 
     // The byte of a control: of an unnamed number its low two bits, and the reserved bit is 0.
     pub fn pack(self) -> u8
         ensures { result ≡ control_byte self }
     {
-        let mode = self.operation_mode;
-        let direction = self.direction;
-        (mode.number() & 0x03)
-            | ((direction.number() & 0x03) << 2)
-            | (wire::bit_of(self.ecat_event_enable) << 4)
-            | (wire::bit_of(self.dls_user_event_enable) << 5)
-            | (wire::bit_of(self.watchdog_enable) << 6)
+        (self.operation_mode.number() & 0x03)
+            | ((self.direction.number() & 0x03) << 2)
+            | (u8::from(self.ecat_event_enable) << 4)
+            | (u8::from(self.dls_user_event_enable) << 5)
+            | (u8::from(self.watchdog_enable) << 6)
     }
 }
 
@@ -279,7 +211,7 @@ impl Status {
             has_write_event: wire::flag(byte, 0),
             has_read_event: wire::flag(byte, 1),
             mailbox_full: wire::flag(byte, 3),
-            buffer_state: BufferState::at((byte >> 4) & 0x03),
+            buffer_state: BufferState::from((byte >> 4) & 0x03),
             read_buffer_open: wire::flag(byte, 6),
             write_buffer_open: wire::flag(byte, 7),
         }
@@ -289,13 +221,12 @@ impl Status {
     pub fn pack(self) -> u8
         ensures { result ≡ status_byte self }
     {
-        let state = self.buffer_state;
-        wire::bit_of(self.has_write_event)
-            | (wire::bit_of(self.has_read_event) << 1)
-            | (wire::bit_of(self.mailbox_full) << 3)
-            | (state.number() << 4)
-            | (wire::bit_of(self.read_buffer_open) << 6)
-            | (wire::bit_of(self.write_buffer_open) << 7)
+        u8::from(self.has_write_event)
+            | (u8::from(self.has_read_event) << 1)
+            | (u8::from(self.mailbox_full) << 3)
+            | (self.buffer_state.number() << 4)
+            | (u8::from(self.read_buffer_open) << 6)
+            | (u8::from(self.write_buffer_open) << 7)
     }
 }
 
@@ -319,11 +250,11 @@ impl Enable {
         ensures { result ≡ enable_low self ∷ enable_high self ∷ [] }
     {
         [
-            wire::bit_of(self.enable)
-                | (wire::bit_of(self.repeat) << 1)
-                | (wire::bit_of(self.enable_dc_event_bus_write) << 6)
-                | (wire::bit_of(self.enable_dc_event_local_write) << 7),
-            wire::bit_of(self.channel_pdi_disabled) | (wire::bit_of(self.repeat_ack) << 1),
+            u8::from(self.enable)
+                | (u8::from(self.repeat) << 1)
+                | (u8::from(self.enable_dc_event_bus_write) << 6)
+                | (u8::from(self.enable_dc_event_local_write) << 7),
+            u8::from(self.channel_pdi_disabled) | (u8::from(self.repeat_ack) << 1),
         ]
     }
 }

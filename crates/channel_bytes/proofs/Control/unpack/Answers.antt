@@ -11,8 +11,8 @@ returns c =
     let b = c.args.byte in
     λ i.
     record {
-      operation_mode = (c.mode_at.ensures ∙ ap mode_at (masked_low b 2)) i;
-      direction = (c.direction_at.ensures ∙ ap direction_at (masked b 2 2)) i;
+      operation_mode = (c.from.ensures ∙ ap mode_at (masked_low b 2)) i;
+      direction = (c.from-2.ensures ∙ ap direction_at (masked b 2 2)) i;
       ecat_event_enable = c.flag.ensures i;
       dls_user_event_enable = c.flag-2.ensures i;
       watchdog_enable = c.flag-3.ensures i;

@@ -14,7 +14,7 @@ returns c =
       has_write_event = c.flag.ensures i;
       has_read_event = c.flag-2.ensures i;
       mailbox_full = c.flag-3.ensures i;
-      buffer_state = (c.at.ensures ∙ ap state_at (masked b 4 2)) i;
+      buffer_state = (c.from.ensures ∙ ap state_at (masked b 4 2)) i;
       read_buffer_open = c.flag-4.ensures i;
       write_buffer_open = c.flag-5.ensures i;
     }
