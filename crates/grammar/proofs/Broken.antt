@@ -1,61 +1,17 @@
--- The rules of a sheet as the code finds them broken, and what a sheet that keeps them is known to hold.
+-- The rules of a sheet, and what a sheet that keeps them is known to hold.
 -- Assumes nothing.
-use mathlib.Core.Path.{◌≡◌, refl, sym, ◌∙◌, ap}
-use mathlib.Core.Bool.{Bool, true, false, not, ◌||◌, or-true}
+use mathlib.Core.Path.{◌≡◌, refl}
+use mathlib.Core.Bool.{Bool, true, false, not, ◌||◌}
 use mathlib.Core.List.{List}
-use Prim.Native.Nat.{ℕ, ◌+◌, ◌*◌, ◌≤◌, ◌<◌}
-use native.Mathlib.Omega.{arith}
+use Prim.Native.Nat.{ℕ, ◌≤◌}
 use lib.ListN.{length, get_or}
 use lib.Dec.{ltb}
-use borrow.Author.Tests.{lt-ltb, le-ltb, ltb-false, not-false}
-use Rattle.wire.specs.Lists.{some_below}
-use Rattle.grammar.specs.Grammar.{manager_count, usage_count, pdo_count, manager_place, usages_place, pdos_place, pdos_fit, some_manager_wrong, some_usage_wrong, broken}
-use Rattle.wire.proofs.Lists.{or-none, some_same}
+use borrow.Author.Tests.{le-ltb, ltb-false, not-false}
+use Rattle.grammar.specs.Grammar.{manager_count, usage_count, pdo_count, pdos_place, pdos_fit, some_manager_wrong, some_usage_wrong, broken}
+use Rattle.wire.proofs.Lists.{or-none}
 
--- 4, as the code finds it: by one of its parts, or by the last after the others
+-- 4, where only the walk over the PDOs is left to decide
 module _ (s : List ℕ) where
-  pub flags-broken : 7 < get_or s 3 0 → broken s ≡ true
-  unfolding broken
-  flags-broken h = rw (lt-ltb 7 (get_or s 3 0) h) refl
-
-  pub managers-broken : 16 < manager_count s → broken s ≡ true
-  unfolding broken
-  managers-broken h = simp (lt-ltb 16 (manager_count s) h, or-true)
-
-  pub usages-broken : 16 < usage_count s → broken s ≡ true
-  unfolding broken
-  usages-broken h = simp (lt-ltb 16 (usage_count s) h, or-true)
-
-  pub places-broken : length s < pdos_place s → broken s ≡ true
-  unfolding broken
-  places-broken h = simp (lt-ltb (length s) (pdos_place s) h, or-true)
-
-  -- the two questions over bytes, from what the code asks
-  pub manager-bytes : (n : ℕ) {b : Bool} → n ≡ manager_count s → b ≡ some_below (λ k. ltb 4 (get_or s (15 + 5 * k) 0)) n → some_manager_wrong s ≡ b
-  unfolding some_manager_wrong
-  manager-bytes n {b} e h =
-      some_same (λ k. ltb 4 (get_or s (manager_place k + 4) 0)) (λ k. ltb 4 (get_or s (15 + 5 * k) 0)) (manager_count s)
-      (λ k l. ap (λ (x : ℕ). ltb 4 (get_or s x 0)) (omega arith))
-      ∙ ap (some_below (λ k. ltb 4 (get_or s (15 + 5 * k) 0))) (sym e) ∙ sym h
-
-  pub usage-bytes : (at f : ℕ) {b : Bool} → at ≡ usages_place s → f ≡ usage_count s → b ≡ some_below (λ k. ltb 3 (get_or s (at + 1 * k) 0)) f → some_usage_wrong s ≡ b
-  unfolding some_usage_wrong
-  usage-bytes at f {b} ea ef h =
-      some_same (λ k. ltb 3 (get_or s (usages_place s + k) 0)) (λ k. ltb 3 (get_or s (at + 1 * k) 0)) (usage_count s)
-      (λ k l. ap (λ (x : ℕ). ltb 3 (get_or s x 0)) (omega arith))
-      ∙ ap (some_below (λ k. ltb 3 (get_or s (at + 1 * k) 0))) (sym ef) ∙ sym h
-
-  pub manager-broken : some_manager_wrong s ≡ true → broken s ≡ true
-  unfolding broken
-  manager-broken h = simp (h, or-true)
-
-  pub usage-broken : some_usage_wrong s ≡ true → broken s ≡ true
-  unfolding broken
-  usage-broken h = simp (h, or-true)
-
-  pub walk_same : {p at : ℕ} → p ≡ pdo_count s → at ≡ pdos_place s → pdos_fit s p at ≡ pdos_fit s (pdo_count s) (pdos_place s)
-  walk_same ep ea = rw (ep, ea) refl
-
   pub only-walk :
       get_or s 3 0 ≤ 7 → manager_count s ≤ 16 → usage_count s ≤ 16 → pdos_place s ≤ length s → some_manager_wrong s ≡ false → some_usage_wrong s ≡ false
       → broken s ≡ not (pdos_fit s (pdo_count s) (pdos_place s))

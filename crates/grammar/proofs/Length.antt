@@ -1,4 +1,4 @@
--- The length's rule as the code finds it broken, and the length of a sheet that keeps it.
+-- The length's rule, and the length of a sheet that keeps it.
 -- Assumes nothing.
 use mathlib.Core.Path.{◌≡◌, refl, sym, ◌∙◌}
 use mathlib.Core.Bool.{Bool, true, false, or-true, false≢true}
@@ -10,12 +10,8 @@ use lib.Dec.{eqb, ltb}
 use borrow.Author.Tests.{eq-eqb, ne_eqb, lt-ltb, le-ltb, ltb-true, ltb-false, eqb-true, eqb-false}
 use Rattle.grammar.specs.Length.{follow, wrong_length}
 
--- 2, as the code finds it: by one of its parts, or by the last after the others
+-- 2: by one of its parts, or by the last after the others
 module _ (s : List ℕ) where
-  pub short : length s < 2 → wrong_length s ≡ true
-  unfolding wrong_length
-  short h = rw (lt-ltb (length s) 2 h) refl
-
   pub other_length : (length s ≡ follow s + 2 → ⊥) → wrong_length s ≡ true
   unfolding wrong_length
   other_length h = rw (ne_eqb (length s) (follow s + 2) h) (or-true (ltb (length s) 2))

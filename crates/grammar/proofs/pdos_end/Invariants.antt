@@ -1,12 +1,9 @@
 -- `grammar::pdos_end`: where the records left end from where the walk stands is where all end.
 -- Assumes nothing.
 use mathlib.Core.Path.{◌≡◌}
-use Prim.Native.Nat.{◌+◌, ◌*◌, ◌≤◌}
+use Prim.Native.Nat.{◌*◌, ◌-◌, ◌≤◌}
 use Rattle.grammar.specs.Grammar.{pdos_end}
 use Rattle.grammar.proofs.pdos_end.Given as goal
 
-abbrev pub invariant-loop-left : goal.invariant-loop-left
-invariant-loop-left l = (pdos_end l.bytes l.left l.place ≡ pdos_end l.bytes l.p 0) × (l.place + 260 * l.left ≤ 66300)
-
-abbrev pub decreases-loop-left : goal.decreases-loop-left
-decreases-loop-left l = l.left
+abbrev pub invariant-loop : goal.invariant-loop
+invariant-loop l = (pdos_end l.bytes (l.p - l.counter) l.place ≡ pdos_end l.bytes l.p 0) × (l.place ≤ 260 * l.counter)
