@@ -3,38 +3,28 @@
 use mathlib.Core.Path.{◌≡◌, refl}
 use mathlib.Core.List.{List}
 use Prim.Native.Nat.{ℕ}
-use Rattle.wire.specs.Outcome.{Outcome, refused, accepted}
-use Rattle.wire.proofs.Pins.{same, same_by}
+use Rattle.wire.specs.Outcome.{Outcome}
+use Rattle.wire.proofs.Pins.{same, same_result}
 use Rattle.passes.specs.declared.Chosen.{Chosen}
+use Rattle.passes.specs.declared.Both as two
 use Rattle.passes.specs.declared.Mapping.{Mapping}
-use Rattle.passes.specs.declared.Configured.{Configured}
-use Rattle.passes.specs.declared.Configured.TheVariants.{Mapped, Refused}
-use Rattle.passes.specs.declared.Offsets.{Offsets}
-use Rattle.passes.specs.declared.Segments.{Segments}
-use Rattle.passes.specs.declared.Segments.TheVariants as segments
 use Rattle.passes.specs.declared.Settings.{Settings}
-use Rattle.passes.specs.Start.{Planned, Both, configured_of, TwoSegments, segments_of}
+use Rattle.passes.specs.Start.{Offsets, Both, Configured, both_of_mappings, configured_of, TwoSegments, Segments, segments_of}
 use Rattle.passes.specs.Call.{Calls}
 
--- number and values determine each enum's answer
-abbrev mapping_back : Planned → Mapping
-mapping_back p = record { segment = p.segment; next = record { start_address = p.next } }
+-- an answer says all that it holds
+abbrev mappings_back : Both → two.Both Mapping
+mappings_back b =
+    record {
+      inputs = record { segment = b.inputs.segment; next = record { start_address = b.inputs.next } };
+      outputs = record { segment = b.outputs.segment; next = record { start_address = b.outputs.next } };
+    }
 
-abbrev pub configured_back : Outcome Both → Configured
-configured_back (refused n) = Refused n
-configured_back (accepted b) = Mapped (mapping_back b.inputs) (mapping_back b.outputs)
+pub configured-same : {x y : Configured} {o : Outcome Both} → configured_of x ≡ o → configured_of y ≡ o → x ≡ y
+configured-same p q = same_result both_of_mappings mappings_back (λ m. refl) p q
 
-pub configured-determined : (x : Configured) → configured_back (configured_of x) ≡ x
-configured-determined (Mapped i o) = refl
-configured-determined (Refused n) = refl
-
-abbrev pub segments_back : Outcome TwoSegments → Segments
-segments_back (refused n) = segments.Refused n
-segments_back (accepted s) = segments.Both s.inputs s.outputs
-
-pub segments-determined : (x : Segments) → segments_back (segments_of x) ≡ x
-segments-determined (segments.Both i o) = refl
-segments-determined (segments.Refused n) = refl
+pub segments-same : {x y : Segments} {o : Outcome TwoSegments} → segments_of x ≡ o → segments_of y ≡ o → x ≡ y
+segments-same p q = same_result (λ s. s) (λ s. s) (λ s. refl) p q
 
 -- two promises of a call: the same answer, the same offsets, the same areas
 pub calls-once :
@@ -42,5 +32,5 @@ pub calls-once :
     → Calls sheet ws k offsets settings fmmus channels x o f c → Calls sheet ws k offsets settings fmmus channels y p g d
     → ◌≡◌ {A = Segments × Offsets × List ℕ × List ℕ} (x, o, f, c) (y, p, g, d)
 calls-once sheet ws k offsets settings fmmus channels x y o p f g c d m n =
-    let a : x ≡ y = same_by segments_of segments_back segments-determined m.says n.says in
+    let a : x ≡ y = segments-same m.says n.says in
     λ i. (a i, same m.moves n.moves i, same m.entries n.entries i, same m.images n.images i)

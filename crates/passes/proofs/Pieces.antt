@@ -25,9 +25,10 @@ use Rattle.pdo.specs.Bits.{Piece, by_coe, path_kind, bits_of, pieces_from, piece
 use Rattle.passes.specs.declared.FmmuMode.{FmmuMode}
 use Rattle.passes.specs.declared.FmmuMode.TheVariants.{OwnNumber, Paired}
 use Rattle.passes.specs.declared.Chosen.{Chosen}
+use Rattle.passes.specs.declared.Route.TheVariants.{Given}
 use Rattle.passes.specs.Use.{Use, use_of, own, given, coe_entry, by_mode, uses_of, total, size_of}
 use Rattle.passes.specs.Call.{or_else, both_size}
-use Rattle.passes.specs.Handed.{exact_bits, data_bits, sizes_of_both, route_by, route_of, pieces_by, uses_by, uses_by_both}
+use Rattle.passes.specs.Handed.{exact_bits, data_bits, sizes_of_both, route_by, wanted_from, route_of, pieces_by, uses_by, uses_by_both}
 
 -- bits take bytes exactly if there are any
 pub some_bytes : (bits : ℕ) → ltb 0 (bytes_of bits) ≡ ltb 0 bits
@@ -154,7 +155,7 @@ module _ (d : Data) (ws : List ℕ) where
       uses-are mode c = go mode (by_coe d)
         where
           go : (m : FmmuMode) (b : Bool)
-              → uses_by (cond b (record { own = false; entries = replicate 16 (coe_entry d r) }) (route_by m c)) (sizes_of_both d ws) r d.managers
+              → uses_by (cond b (Given (replicate 16 (coe_entry d r))) (route_by m c)) (sizes_of_both d ws) r d.managers
               ≡ cond b (given (λ number. coe_entry d r) (pieces_of d ws r)) (by_mode m c (pieces_of d ws r))
           go m true =
               handed false (λ number. get_or (replicate 16 (coe_entry d r)) number 0) (λ number. coe_entry d r)
@@ -163,10 +164,10 @@ module _ (d : Data) (ws : List ℕ) where
           go Paired false = handed false (λ number. get_or c.entries number 0) (λ number. get_or c.entries number 0) (λ j l z. refl)
 
     -- of both directions at once
-    pub both-are : (mode : FmmuMode) (c : Chosen) → uses_by_both (route_of mode c d MasterRead) (route_of mode c d MasterWrite) (sizes_of_both d ws) d.managers ≡ uses_of mode c d ws
+    pub both-are : (mode : FmmuMode) (c : Chosen) → uses_by_both (wanted_from mode c d ws) d.managers ≡ uses_of mode c d ws
     both-are mode c = λ i r. go r i
       where
-        go : (r : PdoDirection) → uses_by_both (route_of mode c d MasterRead) (route_of mode c d MasterWrite) (sizes_of_both d ws) d.managers r ≡ uses_of mode c d ws r
+        go : (r : PdoDirection) → uses_by_both (wanted_from mode c d ws) d.managers r ≡ uses_of mode c d ws r
         go MasterRead = uses-are MasterRead mode c
         go MasterWrite = uses-are MasterWrite mode c
 

@@ -18,16 +18,13 @@ use Rattle.pdo.specs.Bits.{path_kind, pieces_from, pieces_of}
 use Rattle.pdo.proofs.Lacking.{SameBits}
 use Rattle.area.specs.Area.{entries_of, flat}
 use Rattle.channels.specs.Channels.{channels_after}
-use Rattle.passes.specs.declared.Configured.{Configured}
 use Rattle.passes.specs.declared.Chosen.{Chosen}
 use Rattle.passes.specs.declared.FmmuMode.{FmmuMode}
 use Rattle.passes.specs.declared.FmmuMode.TheVariants.{OwnNumber, Paired}
-use Rattle.passes.specs.declared.Offsets.{Offsets}
-use Rattle.passes.specs.declared.Segments.{Segments}
 use Rattle.passes.specs.declared.Settings.{Settings}
 use Rattle.passes.specs.Use.{uses_of, size_of}
 use Rattle.passes.specs.Pairs.{bad_pairs}
-use Rattle.passes.specs.Start.{of_either, start_of, Both, both_planned, segments_alone, offsets_after}
+use Rattle.passes.specs.Start.{of_either, start_of, Both, both_planned, segments_alone, offsets_after, Offsets, Configured, Segments}
 use Rattle.passes.specs.Entries.{entry_refusals, entry_area}
 use Rattle.passes.specs.Pass.{not_areas, some_too_many, no_entry, wanted_refusals, data_size}
 use Rattle.passes.specs.Call.{call, or_else, both_size, entries_after, images_after, Configures, Calls}

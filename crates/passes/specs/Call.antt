@@ -12,14 +12,11 @@ use Rattle.area.specs.Area.{entries_of, flat}
 use Rattle.channels.specs.Channels.{channels_after}
 use Rattle.passes.specs.Use.{Use, uses_of, size_of}
 use Rattle.passes.specs.Pairs.{bad_pairs}
-use Rattle.passes.specs.Start.{of_either, start_of, Both, both_planned, configured_of, segments_alone, segments_of, offsets_after}
+use Rattle.passes.specs.Start.{of_either, start_of, Both, both_planned, configured_of, segments_alone, segments_of, offsets_after, Offsets, Configured, Segments}
 use Rattle.passes.specs.Entries.{entry_refusals, entry_area}
 use Rattle.passes.specs.Pass.{not_areas, some_too_many, no_entry, data_size}
 use Rattle.passes.specs.declared.Chosen.{Chosen}
-use Rattle.passes.specs.declared.Offsets.{Offsets}
 use Rattle.passes.specs.declared.Settings.{Settings}
-use Rattle.passes.specs.declared.Configured.{Configured}
-use Rattle.passes.specs.declared.Segments.{Segments}
 
 -- the uses of each direction
 abbrev pub uses_for : Settings → Chosen → Data → List ℕ → PdoDirection → List Use

@@ -12,12 +12,10 @@ use Rattle.pdo.specs.declared.PdoDirection.TheVariants.{MasterRead, MasterWrite}
 use Rattle.pdo.specs.Direction.{is_read, is_write}
 use Rattle.passes.specs.Use.{Use, total, total_on}
 use Rattle.passes.specs.Old.{beginning, in_the_way}
-use Rattle.passes.specs.Start.{offset_of, start_of, end_of, of_either, is_given, Both, both_planned, configured_of}
+use Rattle.passes.specs.Start.{offset_of, start_of, end_of, of_either, is_given, Both, both_planned, configured_of, Offsets, Configured}
 use Rattle.passes.specs.declared.OldEntries.{OldEntries}
 use Rattle.passes.specs.declared.OldEntries.TheVariants.{Clear, Keep}
-use Rattle.passes.specs.declared.Offsets.{Offsets}
 use Rattle.passes.specs.declared.Settings.{Settings}
-use Rattle.passes.specs.declared.Configured.{Configured}
 
 -- a disabled entry becomes: logical start the offset, the size, bits 0 to 7, the physical start, physical bit 0, its direction bit, enabled
 abbrev pub mapped : PdoDirection → ℕ → ℕ → ℕ → Fmmu

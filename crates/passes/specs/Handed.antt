@@ -1,6 +1,6 @@
 -- What the parts of a call hand to one another: a size in bytes for each of sixteen numbers, and the routes.
 -- Assumes nothing.
-use Rattle.std.specs.Prelude.{◌≡◌, Bool, true, false, cond, ◌&&◌, List, [], ℕ, ◌+◌, ◌*◌, ◌<◌, ◌≤◌, length, get_or, replicate, eqb, ltb}
+use Rattle.std.specs.Prelude.{◌≡◌, Bool, cond, ◌&&◌, List, [], ℕ, ◌+◌, ◌*◌, ◌<◌, ◌≤◌, length, get_or, replicate, eqb, ltb}
 use Rattle.wire.specs.Lists.{list_of}
 use Rattle.pdi.specs.Unit.{bytes_of}
 use Rattle.pdi.specs.declared.ByteLen.{ByteLen}
@@ -18,6 +18,8 @@ use Rattle.passes.specs.declared.FmmuMode.{FmmuMode}
 use Rattle.passes.specs.declared.FmmuMode.TheVariants.{OwnNumber, Paired}
 use Rattle.passes.specs.declared.Chosen.{Chosen}
 use Rattle.passes.specs.declared.Route.{Route}
+use Rattle.passes.specs.declared.Route.TheVariants.{Own, Given}
+use Rattle.passes.specs.declared.Wanted.{Wanted}
 
 -- the sync manager with a number is there and has the usage
 abbrev pub has_usage : ℕ → List SyncManager → ℕ → Bool
@@ -40,16 +42,21 @@ sizes_of_both d ws = list_of (λ k. record { 0 = bytes_of (data_bits d ws k) }) 
 
 -- the route of a mode on the EEPROM path
 abbrev pub route_by : FmmuMode → Chosen → Route
-route_by OwnNumber c = record { own = true; entries = replicate 16 0 }
-route_by Paired c = record { own = false; entries = c.entries }
+route_by OwnNumber c = Own
+route_by Paired c = Given c.entries
 
 -- by CoE each number has the CoE entry
 abbrev pub route_of : FmmuMode → Chosen → Data → PdoDirection → Route
-route_of mode c d r = cond (by_coe d) (record { own = false; entries = replicate 16 (coe_entry d r) }) (route_by mode c)
+route_of mode c d r = cond (by_coe d) (Given (replicate 16 (coe_entry d r))) (route_by mode c)
 
--- which entry it gives a number
-abbrev pub entry_by : Route → ℕ → ℕ
-entry_by route number = get_or route.entries number 0
+-- what a call wants of a sheet
+abbrev pub wanted_from : FmmuMode → Chosen → Data → List ℕ → Wanted
+wanted_from mode c d ws =
+    record { sizes = sizes_of_both d ws; routes = record { inputs = route_of mode c d MasterRead; outputs = route_of mode c d MasterWrite } }
+
+-- which of sixteen entries a number has
+abbrev pub entry_by : List ℕ → ℕ → ℕ
+entry_by entries number = get_or entries number 0
 
 -- the sync managers of a usage with these sizes: pieces with eight bits for each byte
 abbrev pub pieces_by : ℕ → List ByteLen → List SyncManager → List Piece
@@ -57,15 +64,16 @@ pieces_by usage sizes ms = pieces_from usage (λ k. 8 * size_at sizes k) 0 ms
 
 -- their uses by a route
 abbrev pub by_route : Route → List Piece → List Use
-by_route route ps = cond route.own (own ps) (given (entry_by route) ps)
+by_route Own ps = own ps
+by_route (Given entries) ps = given (entry_by entries) ps
 
 abbrev pub uses_by : Route → List ByteLen → PdoDirection → List SyncManager → List Use
 uses_by route sizes r ms = by_route route (pieces_by (usage_of r) sizes ms)
 
 -- of both directions
-abbrev pub uses_by_both : Route → Route → List ByteLen → List SyncManager → PdoDirection → List Use
-uses_by_both inputs outputs sizes ms MasterRead = uses_by inputs sizes MasterRead ms
-uses_by_both inputs outputs sizes ms MasterWrite = uses_by outputs sizes MasterWrite ms
+abbrev pub uses_by_both : Wanted → List SyncManager → PdoDirection → List Use
+uses_by_both w ms MasterRead = uses_by w.routes.inputs w.sizes MasterRead ms
+uses_by_both w ms MasterWrite = uses_by w.routes.outputs w.sizes MasterWrite ms
 
 -- a use's own entry has no room for it; a number past the last one is no entry
 abbrev pub no_room : Use → List (List ℕ) → Bool

@@ -1,7 +1,8 @@
 -- Where each direction starts and ends, and what an accepted call answers of it (document 02, 7/13).
 -- Assumes nothing.
-use Rattle.std.specs.Prelude.{Bool, true, false, ◌||◌, ℕ, ◌+◌, ◌-◌}
-use Rattle.wire.specs.Outcome.{Outcome, refused, accepted}
+use Rattle.std.specs.Prelude.{Bool, true, false, ◌||◌, ℕ, ◌+◌, ◌-◌, Result}
+use Rattle.wire.specs.Outcome.{Outcome, refused, accepted, outcome_by}
+use Rattle.wire.specs.declared.Reason.{Reason}
 use Rattle.pdi.specs.Segment.{segment}
 use Rattle.pdi.specs.declared.PdiOffset.{PdiOffset}
 use Rattle.pdi.specs.declared.PdiSegment.{PdiSegment}
@@ -9,12 +10,12 @@ use Rattle.pdo.specs.declared.PdoDirection.{PdoDirection}
 use Rattle.pdo.specs.declared.PdoDirection.TheVariants.{MasterRead, MasterWrite}
 use Rattle.passes.specs.declared.OutputStart.{OutputStart}
 use Rattle.passes.specs.declared.OutputStart.TheVariants.{Given, AfterInputs}
-use Rattle.passes.specs.declared.Offsets.{Offsets}
+use Rattle.passes.specs.declared.Both as two
 use Rattle.passes.specs.declared.Mapping.{Mapping}
-use Rattle.passes.specs.declared.Configured.{Configured}
-use Rattle.passes.specs.declared.Configured.TheVariants.{Mapped, Refused}
-use Rattle.passes.specs.declared.Segments.{Segments}
-use Rattle.passes.specs.declared.Segments.TheVariants as segments
+
+-- the offsets of both directions
+abbrev pub Offsets : Type 0
+Offsets = two.Both PdiOffset
 
 -- one direction or the other
 abbrev pub of_either : (PdoDirection → Bool) → Bool
@@ -56,9 +57,8 @@ abbrev pub planned : ℕ → ℕ → ℕ → Planned
 planned start group size = record { segment = segment (start - group) (start + size - group); next = start + size }
 
 -- an accepted call: both are, from one group start
-pub record Both : Type 0 where
-  pub inputs : Planned
-  pub outputs : Planned
+abbrev pub Both : Type 0
+Both = two.Both Planned
 
 abbrev pub planned_for : PdoDirection → Both → Planned
 planned_for MasterRead b = b.inputs
@@ -68,26 +68,32 @@ abbrev pub both_planned : OutputStart → Offsets → ℕ → (PdoDirection → 
 both_planned how o group size =
     record { inputs = planned (start_of how o size MasterRead) group (size MasterRead); outputs = planned (start_of how o size MasterWrite) group (size MasterWrite) }
 
--- what the cases of `Configured` say
+-- what a call answers, and what that says
+abbrev pub Configured : Type 0
+Configured = Result (two.Both Mapping) Reason
+
 abbrev pub planned_of : Mapping → Planned
 planned_of m = record { segment = m.segment; next = m.next.start_address }
 
-abbrev pub configured_of : Configured → Outcome Both
-configured_of (Mapped i o) = accepted (record { inputs = planned_of i; outputs = planned_of o })
-configured_of (Refused n) = refused n
+abbrev pub both_of_mappings : two.Both Mapping → Both
+both_of_mappings m = record { inputs = planned_of m.inputs; outputs = planned_of m.outputs }
 
--- the segments alone, and what the cases of `Segments` say
-pub record TwoSegments : Type 0 where
-  pub inputs : PdiSegment
-  pub outputs : PdiSegment
+abbrev pub configured_of : Configured → Outcome Both
+configured_of r = outcome_by both_of_mappings r
+
+-- the segments alone, which a caller that lends its offsets is answered
+abbrev pub TwoSegments : Type 0
+TwoSegments = two.Both PdiSegment
+
+abbrev pub Segments : Type 0
+Segments = Result TwoSegments Reason
 
 abbrev pub segments_alone : Outcome Both → Outcome TwoSegments
 segments_alone (refused n) = refused n
 segments_alone (accepted b) = accepted (record { inputs = b.inputs.segment; outputs = b.outputs.segment })
 
 abbrev pub segments_of : Segments → Outcome TwoSegments
-segments_of (segments.Both i o) = accepted (record { inputs = i; outputs = o })
-segments_of (segments.Refused n) = refused n
+segments_of r = outcome_by (λ s. s) r
 
 -- each offset at its direction's end, or both as they were after a refusal
 abbrev pub offsets_after : Outcome Both → Offsets → Offsets

@@ -7,31 +7,45 @@ ghost use Rattle.passes.specs.declared.OutputStart.TheVariants as start;
 ghost use Rattle.passes.specs.Old as Old;
 ghost use Rattle.passes.specs.Use.{nothing_chosen};
 
-use pdi::{PdiOffset, PdiSegment};
+use pdi::{ByteLen, PdiOffset, PdiSegment};
+
+// One thing for each direction: offsets, routes, mappings, segments.
+#[derive(Clone, Copy, Debug, PartialEq, Eq)]
+pub struct Both<T> {
+    pub inputs: T,
+    pub outputs: T,
+}
 
 // Which entry a sync manager uses: the one with its own number, also at 0 bits; or the one given for its number, with bits only.
-#[derive(Clone, Copy)]
-pub struct Route {
-    pub own: bool,
-    pub entries: [u8; 16],
+#[derive(Clone, Copy, Debug, PartialEq, Eq)]
+pub enum Route {
+    Own,
+    Given([u8; 16]),
+}
+
+// What a call wants: a size for each sync manager with process data, and each direction's route.
+#[derive(Clone, Copy, Debug, PartialEq, Eq)]
+pub struct Wanted {
+    pub sizes: [ByteLen; 16],
+    pub routes: Both<Route>,
 }
 
 // A pair: an FMMU number, and the number of the sync manager that it is for.
-#[derive(Clone, Copy)]
+#[derive(Clone, Copy, Debug, PartialEq, Eq)]
 pub struct FmmuPair {
     pub fmmu: u8,
     pub sync_manager: u8,
 }
 
 // Which entry the EEPROM path uses: the one with the sync manager's own number, as the crate has it, or the one that a list of pairs gives.
-#[derive(Clone, Copy)]
+#[derive(Clone, Copy, Debug, PartialEq, Eq)]
 pub enum FmmuMode {
     OwnNumber,
     Paired,
 }
 
 // What a list of pairs hands on: the entry of each of sixteen sync managers, and whether a number of the list is above 15.
-#[derive(Clone, Copy)]
+#[derive(Clone, Copy, Debug, PartialEq, Eq)]
 pub struct Chosen {
     pub entries: [u8; 16],
     pub above: bool,
@@ -51,21 +65,21 @@ impl Chosen {
 
 // What a call does with entries that it finds enabled: it clears those that carry one direction's bit alone and refuses what else is in its way, or it adds to
 // whatever is there.
-#[derive(Clone, Copy)]
+#[derive(Clone, Copy, Debug, PartialEq, Eq)]
 pub enum OldEntries {
     Clear,
     Keep,
 }
 
 // Where the outputs start: at the offset that is lent for them, or straight after the inputs.
-#[derive(Clone, Copy)]
+#[derive(Clone, Copy, Debug, PartialEq, Eq)]
 pub enum OutputStart {
     Given,
     AfterInputs,
 }
 
 // How a call is made: its group's start, what becomes of old entries, which entries the EEPROM path uses, and where the outputs start.
-#[derive(Clone, Copy)]
+#[derive(Clone, Copy, Debug, PartialEq, Eq)]
 pub struct Settings {
     pub group: u32,
     pub old: OldEntries,
@@ -87,30 +101,9 @@ impl Settings {
     }
 }
 
-// The offsets of both directions.
-#[derive(Clone, Copy)]
-pub struct Offsets {
-    pub inputs: PdiOffset,
-    pub outputs: PdiOffset,
-}
-
 // What a call answers for a direction: the segment, counted from the group start, and the next offset.
-#[derive(Clone, Copy)]
+#[derive(Clone, Copy, Debug, PartialEq, Eq)]
 pub struct Mapping {
     pub segment: PdiSegment,
     pub next: PdiOffset,
-}
-
-// What a call answers: the inputs' mapping and the outputs'.
-#[derive(Clone, Copy)]
-pub enum Configured {
-    Mapped(Mapping, Mapping),
-    Refused(u8),
-}
-
-// What a caller that lends its offsets is answered: the inputs' segment and the outputs', counted from the group start.
-#[derive(Clone, Copy)]
-pub enum Segments {
-    Both(PdiSegment, PdiSegment),
-    Refused(u8),
 }
