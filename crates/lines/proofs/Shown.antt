@@ -3,7 +3,7 @@
 use mathlib.Core.Path.{◌≡◌, refl, sym, ◌∙◌, ap}
 use mathlib.Core.Bool.{Bool, true, false, cond}
 use mathlib.Core.List.{List, [], ◌∷◌, ◌++◌}
-use Prim.Native.Nat.{ℕ, ◌≤◌, min}
+use Prim.Native.Nat.{ℕ, ◌≤◌}
 use lib.ListN.{length, take, drop}
 use lib.Seq.{take-append_seam}
 use native.Mathlib.Omega.{arith}
@@ -12,31 +12,25 @@ use borrow.Author.Tests.{le-ltb, ltb-false}
 use Rattle.wire.specs.Outcome.{Outcome, refused, accepted}
 use Rattle.wire.specs.Room.{written_of, room_after, InRoom, text_in}
 use Rattle.wire.specs.Text.{Page, Types}
-use Rattle.wire.specs.declared.Written.{Written}
-use Rattle.wire.specs.declared.Written.TheVariants.{Len, Refused}
+use Rattle.std.specs.Prelude.{Result, Ok, Err}
+use Rattle.std.specs.Result.{result_unwrap_or}
+use Rattle.wire.specs.declared.Reason.{Reason}
 use Rattle.wire.proofs.Copied.{over-front}
-use Rattle.wire.proofs.Lists.{take-least}
 use Rattle.wire.proofs.Order.{never}
 use Rattle.wire.proofs.Typing.{then, types}
 use Rattle.lines.specs.Text.{line, shown}
 
-module _ (l : List ℕ) (n m : ℕ) {w : Written} {p q r : Page} where
-  -- the front of a text, then the newline
-  pub front-typed : m ≡ min n (length l) → w ≡ Len n → Types p q (take m l) → Types q r (10 ∷ []) → Types p r (shown w l ++ (10 ∷ []))
-  front-typed e is t end =
-      let text : take m l ≡ shown w l = ap (λ (k : ℕ). take k l) e ∙ take-least n l ∙ ap (λ (v : Written). shown v l) (sym is) in
-      then (types text t) end
-
--- no text, then the newline
-pub none-typed : (l : List ℕ) (n : ℕ) {w : Written} {p q : Page} → w ≡ Refused n → Types p q (10 ∷ []) → Types p q (shown w l ++ (10 ∷ []))
-none-typed l n is end = types (ap (λ (v : Written). shown v l ++ (10 ∷ [])) (sym is)) end
+-- the front of a text that its answer says
+pub shown-front : (w : Result ℕ Reason) (l : List ℕ) → take (result_unwrap_or w 0) l ≡ shown w l
+shown-front (Ok n) l = refl
+shown-front (Err r) l = refl
 
 fits : (s room : List ℕ) → length s ≤ length room → text_in s room ≡ accepted (length s)
 fits s room h = rw (le-ltb (length room) (length s) h)
 
-pub shown-text : {s room after : List ℕ} (w : Written) → length s ≤ length room → InRoom (text_in s room) s room w after → shown w after ≡ s
-shown-text {s} {room} {after} (Refused n) h x = absurd (never (x.says ∙ fits s room h))
-shown-text {s} {room} {after} (Len n) h x =
+pub shown-text : {s room after : List ℕ} (w : Result ℕ Reason) → length s ≤ length room → InRoom (text_in s room) s room w after → shown w after ≡ s
+shown-text {s} {room} {after} (Err n) h x = absurd (never (x.says ∙ fits s room h))
+shown-text {s} {room} {after} (Ok n) h x =
     let says : accepted n ≡ accepted (length s) = x.says ∙ fits s room h in
     let long : n ≡ length s = cc in
     let holds = x.holds ∙ ap (λ (o : Outcome ℕ). room_after o s room) (fits s room h) ∙ over-front s room h in
@@ -44,12 +38,12 @@ shown-text {s} {room} {after} (Len n) h x =
 
 -- a line: its front, then the text that was written to one side
 pub line-typed :
-    {s room after front : List ℕ} {w : Written} {p q r : Page} → length s ≤ length room → InRoom (text_in s room) s room w after
+    {s room after front : List ℕ} {w : Result ℕ Reason} {p q r : Page} → length s ≤ length room → InRoom (text_in s room) s room w after
     → Types p q front → Types q r (shown w after ++ (10 ∷ [])) → Types p r (line front s)
 line-typed {s} {room} {after} {front} {w} h x a b = then a (types (ap (λ (t : List ℕ). t ++ (10 ∷ [])) (shown-text w h x)) b)
 
 -- an accepted text is no longer than the room
-pub within : {s room after : List ℕ} {w : Written} (n : ℕ) → w ≡ Len n → InRoom (text_in s room) s room w after → n ≤ length room
+pub within : {s room after : List ℕ} {w : Result ℕ Reason} (n : ℕ) → w ≡ Ok n → InRoom (text_in s room) s room w after → n ≤ length room
 within {s} {room} n is x = go (ltb (length room) (length s)) (ltb-false (length room) (length s)) (sym (ap written_of is) ∙ x.says)
   where
     go : (t : Bool) → (t ≡ false → length s ≤ length room) → accepted n ≡ cond t (refused 12) (accepted (length s)) → n ≤ length room

@@ -10,20 +10,14 @@ ghost use Rattle.lines.specs.Text.{shown, line, numbered, image_line, enabled_li
 use fmmu::Fmmu;
 use pdi::PdiSegment;
 use sync_manager_channel::SyncManagerChannel;
-use wire::Written;
+use wire::Reason;
 
 // Types the text that was written at the front of a room of its own, and ends the line.
-fn put_shown(room: &mut [u8], from: usize, text: &[u8], written: Written) -> usize
+fn put_shown(room: &mut [u8], from: usize, text: &[u8], written: Result<usize, Reason>) -> usize
     ensures { Types (page room.old from) (page room.new result) (shown written text.now ++ (10 ∷ [])) }
 {
-    match written {
-        Written::Len(n) => {
-            let m = wire::least(n, text.len());
-            let at = wire::put_bytes(room, from, &text[..m]);
-            wire::put_bytes(room, at, b"\n")
-        }
-        Written::Refused(_) => wire::put_bytes(room, from, b"\n"),
-    }
+    let at = wire::put_bytes(room, from, wire::front(text, written.unwrap_or(0)));
+    wire::put_bytes(room, at, b"\n")
 }
 
 // Types the front of a numbered line.
@@ -73,13 +67,10 @@ fn put_entry(room: &mut [u8], from: usize, k: u16, image: [u8; 16]) -> usize
 fn put_channels(room: &mut [u8], from: usize, channels: &[u8], n: u8) -> usize
     ensures { Types (page room.old from) (page room.new result) (lines image_line 0 (take n (entries_of 8 (area_of 128 channels.now)))) }
 {
-    let count = wire::least(n as usize, 16);
     let mut at = from;
-    let mut k = 0;
-    while k < count {
-        let image = area::channel_at(channels, k);
-        at = put_channel(room, at, k as u16, image);
-        k += 1;
+    for k in 0..n.min(16) {
+        let image = area::channel_at(channels, usize::from(k));
+        at = put_channel(room, at, u16::from(k), image);
     }
     at
 }
@@ -89,11 +80,9 @@ fn put_entries(room: &mut [u8], from: usize, fmmus: &[u8]) -> usize
     ensures { Types (page room.old from) (page room.new result) (lines enabled_line 0 (entries_of 16 (area_of 256 fmmus.now))) }
 {
     let mut at = from;
-    let mut k = 0;
-    while k < 16 {
-        let image = area::fmmu_at(fmmus, k);
-        at = put_entry(room, at, k as u16, image);
-        k += 1;
+    for k in 0..16 {
+        let image = area::fmmu_at(fmmus, usize::from(k));
+        at = put_entry(room, at, k, image);
     }
     at
 }
@@ -102,7 +91,7 @@ fn put_entries(room: &mut [u8], from: usize, fmmus: &[u8]) -> usize
 pub fn put_refused(room: &mut [u8], number: u8) -> usize
     ensures { Types (page room.old 0) (page room.new result) (refused_text number) }
 {
-    let at = wire::put_decimal(room, 0, b"refused ", number as u16);
+    let at = wire::put_decimal(room, 0, b"refused ", u16::from(number));
     wire::put_bytes(room, at, b"\n")
 }
 

@@ -1,48 +1,41 @@
 -- `put_channels`: typing the lines that are left where the loop stands is typing all of them from the start.
 -- Assumes nothing.
-use mathlib.Core.Path.{refl, sym, ◌∙◌, ap}
-use mathlib.Core.List.{[]}
-use Prim.Native.Nat.{◌<◌, min}
-use native.Mathlib.Nat.{min-le_left, min-le_right}
+use mathlib.Core.Path.{◌≡◌, sym, ◌∙◌, ap}
+use mathlib.Core.List.{List, []}
+use Prim.Native.Nat.{ℕ, ◌<◌, min}
 use native.Mathlib.Omega.{arith}
-use lib.ListN.{take, length-take}
+use lib.ListN.{length, take, length-take}
 use lib.Seq.{get_or-take}
 use Rattle.wire.specs.Text.{page}
-use Rattle.area.specs.Area.{area_of, entries_of}
+use Rattle.wire.proofs.Typing.{types}
+use Rattle.area.specs.Area.{area_of, entries_of, entry_at}
 use Rattle.area.proofs.Flat.{length-chunks}
 use Rattle.area.proofs.Entry.{entry-any}
 use Rattle.lines.specs.Text.{image_line}
 use Rattle.lines.proofs.Lines.{lines-turn, lines_end}
 use Rattle.lines.proofs.put_channels.Goals as goal
 
-pub loop-k-init : goal.loop-k-init
-loop-k-init c =
-    let a = c.args in
-    let images = entries_of 8 (area_of 128 a.channels.now) in
-    let all = c.least-count.ensures ∙ sym (length-take a.n images ∙ ap (min a.n) (length-chunks 8 16 (area_of 128 a.channels.now))) in
-    let few = min-le_left a.n 16 in
-    let most = min-le_right a.n 16 in
-    (omega arith, omega arith, omega arith, all, refl, refl)
+-- how many lines there are
+many : (n : ℕ) (area : List ℕ) → length (take n (entries_of 8 (area_of 128 area))) ≡ min n 16
+many n area = length-take n (entries_of 8 (area_of 128 area)) ∙ ap (min n) (length-chunks 8 16 (area_of 128 area))
 
 pub loop-k-preserved : goal.loop-k-preserved
 loop-k-preserved c =
     let l = c.loop-k in
-    let put = c.put_channel-at in
-    let a = c.args in
-    let images = entries_of 8 (area_of 128 a.channels.now) in
+    let n = c.args.n in
+    let area = c.args.channels.now in
+    let images = entries_of 8 (area_of 128 area) in
+    let all = many n area in
+    let here : l.k < n = omega arith in
     let read = c.channel_at-image in
-    let here : l.k < a.n = omega arith in
-    let is = get_or-take a.n images l.k [] here ∙ sym (read.ensures ∙ entry-any 8 a.channels.now l.k [] (omega arith)) in (
-      omega arith,
-      l.invariant.1,
-      l.invariant.2,
-      l.invariant.3,
-      put.auto.room ∙ l.invariant.4,
-      lines-turn image_line (take a.n images) l.k read.result (omega arith) is put.ensures ∙ l.invariant.5,
-    )
+    let is = get_or-take n images l.k [] here ∙ sym (read.ensures ∙ ap (entry_at 8 area) c.from.ensures ∙ entry-any 8 area l.k [] (omega arith)) in
+    let put = types (ap (λ (k : ℕ). image_line k read.result) c.from-in-loop-k.ensures) c.put_channel-at.ensures in
+    lines-turn image_line (take n images) l.k read.result (omega arith) is put ∙ l.invariant
 
 pub returns : goal.returns
 returns c =
     let l = c.loop-k in
-    let a = c.args in
-    record { is = sym (lines_end image_line (take a.n (entries_of 8 (area_of 128 a.channels.now))) l.k {p = page l.room l.at} (omega arith)) ∙ l.invariant.5 }
+    let n = c.args.n in
+    let area = c.args.channels.now in
+    let all = many n area in
+    record { is = sym (lines_end image_line (take n (entries_of 8 (area_of 128 area))) l.k {p = page l.room l.at} (omega arith)) ∙ l.invariant }

@@ -1,8 +1,7 @@
 -- `put_channels`: typing the lines that are left where the loop stands is typing all of them from the start.
 -- Assumes nothing.
 use mathlib.Core.Path.{◌≡◌}
-use Prim.Native.Nat.{◌-◌, ◌≤◌}
-use lib.ListN.{length, take, drop}
+use lib.ListN.{take, drop}
 use Rattle.wire.specs.Text.{page, typed_all}
 use Rattle.area.specs.Area.{area_of, entries_of}
 use Rattle.lines.specs.Text.{lines, image_line}
@@ -10,9 +9,5 @@ use Rattle.lines.proofs.put_channels.Given as goal
 
 abbrev pub invariant-loop-k : goal.invariant-loop-k
 invariant-loop-k l =
-    (l.k ≤ l.count) × (l.count ≤ l.n) × (l.count ≤ 16) × (l.count ≡ length (take l.n (entries_of 8 (area_of 128 l.channels)))) × (length l.room ≡ length l.initial.room)
-    × (typed_all (page l.room l.at) (lines image_line l.k (drop l.k (take l.n (entries_of 8 (area_of 128 l.channels)))))
-    ≡ typed_all (page l.initial.room l.from) (lines image_line 0 (take l.n (entries_of 8 (area_of 128 l.channels)))))
-
-abbrev pub decreases-loop-k : goal.decreases-loop-k
-decreases-loop-k l = l.count - l.k
+    typed_all (page l.room l.at) (lines image_line l.k (drop l.k (take l.n (entries_of 8 (area_of 128 l.channels)))))
+    ≡ typed_all (page l.initial.room l.from) (lines image_line 0 (take l.n (entries_of 8 (area_of 128 l.channels))))

@@ -1,8 +1,7 @@
 -- `put_entries`: typing the lines that are left where the loop stands is typing all of them from the start.
 -- Assumes nothing.
 use mathlib.Core.Path.{◌≡◌}
-use Prim.Native.Nat.{◌-◌, ◌≤◌}
-use lib.ListN.{length, drop}
+use lib.ListN.{drop}
 use Rattle.wire.specs.Text.{page, typed_all}
 use Rattle.area.specs.Area.{area_of, entries_of}
 use Rattle.lines.specs.Text.{lines, enabled_line}
@@ -10,8 +9,4 @@ use Rattle.lines.proofs.put_entries.Given as goal
 
 abbrev pub invariant-loop-k : goal.invariant-loop-k
 invariant-loop-k l =
-    (l.k ≤ 16) × (length l.room ≡ length l.initial.room)
-    × (typed_all (page l.room l.at) (lines enabled_line l.k (drop l.k (entries_of 16 (area_of 256 l.fmmus)))) ≡ typed_all (page l.initial.room l.from) (lines enabled_line 0 (entries_of 16 (area_of 256 l.fmmus))))
-
-abbrev pub decreases-loop-k : goal.decreases-loop-k
-decreases-loop-k l = 16 - l.k
+    typed_all (page l.room l.at) (lines enabled_line l.k (drop l.k (entries_of 16 (area_of 256 l.fmmus)))) ≡ typed_all (page l.initial.room l.from) (lines enabled_line 0 (entries_of 16 (area_of 256 l.fmmus)))
