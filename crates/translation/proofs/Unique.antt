@@ -1,35 +1,22 @@
 -- Each public function's contract leaves one answer.
 -- Assumes nothing.
-use mathlib.Core.Path.{◌≡◌, refl, ap}
-use mathlib.Core.Option.{Option, none, some}
-use Prim.Native.Nat.{ℕ}
-use Rattle.wire.specs.Outcome.{Outcome, refused, accepted}
-use Rattle.wire.proofs.Pins.{Pins, same, same_by}
-use Rattle.translation.specs.declared.Reached.{Reached}
-use Rattle.translation.specs.declared.Reached.TheVariants.{Nowhere, At}
-use Rattle.translation.specs.declared.Translated.{Translated}
-use Rattle.translation.specs.declared.Translated.TheVariants.{To, Refused}
-use Rattle.translation.specs.Translate.{reached_of, translated_of}
+use Rattle.std.proofs.Common.{◌≡◌, refl, ℕ}
+use Rattle.std.specs.Prelude as std
+use Rattle.std.proofs.Math.Option.{Option, none, some}
+use Rattle.wire.proofs.Pins.{Pins, same, same_by, same_result}
+use Rattle.translation.specs.Translate.{reached_of}
 use Rattle.translation.proofs.named.Reads as named
 use Rattle.translation.proofs.within.Reads as within
 use Rattle.translation.proofs.translate.Reads as translate
 
--- number and values determine the answer
-abbrev pub reached_back : Option ℕ → Reached
-reached_back none = Nowhere
-reached_back (some x) = At x
+-- what it says determines a device address
+abbrev pub reached_back : Option ℕ → std.Option ℕ
+reached_back none = std.None
+reached_back (some x) = std.Some x
 
-pub reached-determined : (x : Reached) → reached_back (reached_of x) ≡ x
-reached-determined Nowhere = refl
-reached-determined (At x) = refl
-
-abbrev translated_back : Outcome (Option ℕ) → Translated
-translated_back (refused n) = Refused n
-translated_back (accepted x) = To (reached_back x)
-
-pub translated-determined : (x : Translated) → translated_back (translated_of x) ≡ x
-translated-determined (To x) = ap To (reached-determined x)
-translated-determined (Refused n) = refl
+pub reached-determined : (x : std.Option ℕ) → reached_back (reached_of x) ≡ x
+reached-determined std.None = refl
+reached-determined (std.Some x) = refl
 
 pub named-pins : Pins named.Post (λ κs r s. r)
 named-pins κs a x y s t p q = same_by reached_of reached_back reached-determined p q
@@ -38,4 +25,4 @@ pub within-pins : Pins within.Post (λ κs r s. r)
 within-pins κs a x y s t p q = same p q
 
 pub translate-pins : Pins translate.Post (λ κs r s. r)
-translate-pins κs a x y s t p q = same_by translated_of translated_back translated-determined p q
+translate-pins κs a x y s t p q = same_result reached_of reached_back reached-determined p q

@@ -1,20 +1,16 @@
 -- Translation through the FMMU bytes (document 01, 'Translation').
 -- Assumes nothing.
 use Rattle.std.specs.Prelude.{Bool, cond, not, ◌&&◌, List, [], ◌∷◌, map, ℕ, ◌+◌, ◌-◌, eqb, ltb, leb}
+use Rattle.std.specs.Prelude as std
 use Rattle.std.proofs.Math.Option.{Option, none, some}
-use Rattle.wire.specs.Outcome.{Outcome, refused, accepted, when, decide}
+use Rattle.wire.specs.Outcome.{Outcome, when, decide, outcome_by}
+use Rattle.wire.specs.declared.Reason.{Reason}
 use Rattle.fmmu.specs.declared.Fmmu.{Fmmu}
 use Rattle.fmmu.specs.Image.{fields_of}
 use Rattle.pdo.specs.declared.PdoDirection.{PdoDirection}
 use Rattle.pdo.specs.declared.PdoDirection.TheVariants.{MasterRead, MasterWrite}
 use Rattle.wire.specs.Lists.{some_of}
 use Rattle.area.specs.Area.{entries_of, not_entries}
-use Rattle.translation.specs.declared.Reached.{Reached}
-use Rattle.translation.specs.declared.Reached.TheVariants.{Nowhere, At}
-use Rattle.translation.specs.declared.Said.{Said}
-use Rattle.translation.specs.declared.Said.TheVariants as said
-use Rattle.translation.specs.declared.Translated.{Translated}
-use Rattle.translation.specs.declared.Translated.TheVariants as translated
 
 -- start ≤ a < start + length, unbounded
 abbrev pub within : ℕ → ℕ → ℕ → Bool
@@ -67,15 +63,14 @@ translate r area a =
     (when 1 (not_entries area) ∷ when 11 (some_of (odd r) (entries_of 16 area)) ∷ [])
     (or_none (first_said (map (says r a) (entries_of 16 area))))
 
--- what the cases of `Reached`, `Said` and `Translated` say
-abbrev pub reached_of : Reached → Option ℕ
-reached_of Nowhere = none
-reached_of (At x) = some x
+-- what an answer says: a device address, what an entry says of one, and what translation does
+abbrev pub reached_of : std.Option ℕ → Option ℕ
+reached_of std.None = none
+reached_of (std.Some x) = some x
 
-abbrev pub said_of : Said → Option (Option ℕ)
-said_of said.Nothing = none
-said_of (said.That x) = some (reached_of x)
+abbrev pub said_of : std.Option (std.Option ℕ) → Option (Option ℕ)
+said_of std.None = none
+said_of (std.Some x) = some (reached_of x)
 
-abbrev pub translated_of : Translated → Outcome (Option ℕ)
-translated_of (translated.To x) = accepted (reached_of x)
-translated_of (translated.Refused n) = refused n
+abbrev pub translated_of : std.Result (std.Option ℕ) Reason → Outcome (Option ℕ)
+translated_of r = outcome_by reached_of r
