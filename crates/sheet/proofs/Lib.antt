@@ -1,5 +1,4 @@
 -- Laws that belong to no one function.
-pub mod Fields
 pub mod Managers
 pub mod Kept
 pub mod Sound

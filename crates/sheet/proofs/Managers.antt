@@ -1,19 +1,42 @@
 -- The sync managers and usages of a sheet as loops meet them: by number, a turn, the end.
 -- Assumes nothing.
-use mathlib.Core.Path.{◌≡◌, sym, ◌∙◌, ap}
-use mathlib.Core.Bool.{Bool, false, ◌||◌}
-use mathlib.Core.List.{List, [], ◌∷◌}
-use Prim.Native.Nat.{ℕ, suc, ◌+◌, ◌≤◌, ◌<◌, min}
+use mathlib.Core.Path.{◌≡◌, refl, sym, ◌∙◌, ap, ap₂}
+use mathlib.Core.Bool.{Bool, ◌||◌}
+use mathlib.Core.List.{List, [], ◌∷◌, ◌++◌}
+use Prim.Native.Nat.{ℕ, zero, suc, ◌+◌, ◌≤◌, ◌<◌, min}
 use native.Mathlib.Numerals.{add-one}
 use native.Mathlib.Omega.{arith}
-use lib.ListN.{length, get_or, take, drop, set, length-take, drop_of_length-le}
-use lib.Seq.{drop-cons, get_or-take, take_all}
-use Rattle.wire.specs.Lists.{list_of}
-use Rattle.wire.proofs.Lists.{length-list_of, get_d-list_of, filled}
-use Rattle.channel_bytes.specs.declared.Control.{Control}
-use Rattle.channel_bytes.specs.Bytes.{control_at, unnamed}
+use lib.ListN.{length, get_or, take, drop, set, length-take, length-drop, drop_of_length-le}
+use lib.Seq.{drop-cons, get_or-take, take_all, take-suc}
+use Rattle.std.specs.List.{range_with_len}
+use Rattle.std.proofs.lemmas.List.{get_or-drop}
+use Rattle.std.proofs.lemmas.List.Folds.{list_any-append}
+use Rattle.wire.specs.Lists.{list_of, some_below, some_of}
+use Rattle.wire.proofs.Lists.{length-list_of, get_d-list_of, filled, or-false}
+use Rattle.grammar.proofs.Asked.{some-number}
+use Rattle.channel_bytes.specs.Bytes.{unnamed}
 use Rattle.sheet.specs.declared.SyncManager.{SyncManager}
 use Rattle.sheet.specs.Sheet.{manager_count, usage_count, manager_place, usages_place, manager_at, some_unnamed, sheet_data, managers_in, no_manager, managers_of}
+
+-- a question of the elements of a list by number, asked of each number
+pub some-numbered : {A : Type 0} (f : A → Bool) (g : ℕ → A) (n : ℕ) → some_of (λ k. f (g k)) (range_with_len 0 n) ≡ some_of f (list_of g n)
+unfolding some_below list_of
+some-numbered {A} f g n = some-number (λ k. f (g k)) n ∙ listed n
+  where
+    listed : (n : ℕ) → some_below (λ k. f (g k)) n ≡ some_of f (list_of g n)
+    listed zero = refl
+    listed (suc n) =
+        ap (λ (b : Bool). b || f (g n)) (listed n)
+        ∙ ap (λ (b : Bool). some_of f (list_of g n) || b) (sym (or-false (f (g n))))
+        ∙ sym (list_any-append f (list_of g n) (g n ∷ []))
+
+-- a row of a list, by number
+pub row-numbered : (s : List ℕ) (at n : ℕ) → at + n ≤ length s → take n (drop at s) ≡ list_of (λ k. get_or s (at + k) 0) n
+unfolding list_of
+row-numbered s at zero h = refl
+row-numbered s at (suc n) h =
+    take-suc (drop at s) n 0 (omega (arith, length-drop at s))
+    ∙ ap₂ (λ (l : List ℕ) (x : ℕ). l ++ (x ∷ [])) (row-numbered s at n (omega arith)) (get_or-drop at s n 0)
 
 -- of a list by number: a turn, and the end
 module _ {A : Type 0} (f : ℕ → A) (n : ℕ) where
@@ -94,21 +117,10 @@ module _ (s : List ℕ) where
   unfolding sheet_data
   usage-end k h = number-end usage_at (usage_count s) k h
 
-  -- the loop that asks for an unnamed control, of those that are left: this one or a later one, and none at the end
-  abbrev pub unnamed_left : ℕ → Bool
-  unnamed_left k = some_unnamed (drop k (sheet_data s).managers)
-
-  pub unnamed-turn :
-      (k : ℕ) {at : ℕ} {c : Control} {b : Bool} → k < manager_count s → at ≡ manager_place k → c ≡ control_at (get_or s (at + 2) 0) → b ≡ unnamed c
-      → unnamed_left k ≡ b || unnamed_left (k + 1)
-  unfolding some_unnamed
-  unnamed-turn k {at} {c} {b} h ea ec eb =
-      let is : unnamed (control_at (get_or s (manager_place k + 2) 0)) ≡ b = ap (λ (x : ℕ). unnamed (control_at (get_or s (x + 2) 0))) (sym ea) ∙ ap unnamed (sym ec) ∙ sym eb in
-      ap some_unnamed (manager-turn k h) ∙ ap (λ (x : Bool). x || unnamed_left (k + 1)) is
-
-  pub unnamed-none : (k : ℕ) → manager_count s ≤ k → unnamed_left k ≡ false
-  unfolding some_unnamed
-  unnamed-none k h = ap some_unnamed (manager-end k h)
+  -- whether some control is unnamed, asked of each number
+  pub unnamed-numbered : some_of (λ k. unnamed (manager_at s (manager_place k)).control) (range_with_len 0 (manager_count s)) ≡ some_unnamed (sheet_data s).managers
+  unfolding sheet_data some_unnamed
+  unnamed-numbered = some-numbered (λ m. unnamed m.control) at_number (manager_count s)
 
   -- a turn of the loop that gathers them
   pub gathered : {k i : ℕ} {m : SyncManager} {l : List SyncManager} → k < 16 → l ≡ managers_of s k → i ≡ k → m ≡ manager_at s (manager_place k) → set l i m ≡ managers_of s (k + 1)

@@ -1,8 +1,9 @@
 // The device sheet: the one form in which a bay comes in, read whole.
-#![tactic(auto)]
+#![tactic(auto, unfolding(crate::specs::Sheet::sheet_data))]
 
 ghost use Rattle.std.specs.Prelude.{◌≡◌, false, min, ◌+◌, ◌*◌, ◌≤◌, length};
 ghost use Rattle.wire.specs.Outcome.{decide};
+ghost use Rattle.wire.specs.Number.{big_at};
 ghost use Rattle.grammar.specs.Grammar.{manager_count, manager_place, broken};
 ghost use Rattle.sheet.specs.Sheet.{manager_at, some_unnamed, sheet_refusals, sheet_data, managers_of, usages_of, device_of, answer_of, ReadsAs};
 
@@ -11,7 +12,7 @@ use pdi::ByteLen;
 use wire::Reason;
 
 // A sync manager as the sheet has it.
-#[derive(Clone, Copy)]
+#[derive(Clone, Copy, Debug, PartialEq, Eq)]
 pub struct SyncManager {
     pub start_addr: u16,
     pub control: Control,
@@ -20,7 +21,7 @@ pub struct SyncManager {
 }
 
 // Device data: what planning reads. Its PDO records stay in the lent bytes, `p` of them from the place `pdos` on.
-#[derive(Clone, Copy)]
+#[derive(Clone, Copy, Debug, PartialEq, Eq)]
 pub struct Device {
     pub has_mailbox: bool,
     pub coe_protocol: bool,
@@ -52,19 +53,9 @@ pub const NO_MANAGER: SyncManager = SyncManager {
 
 // Whether some control has an unnamed mode or direction.
 fn some_unnamed(sheet: &[u8]) -> bool
-    requires { 11 + 5 * manager_count sheet.now ≤ length sheet.now }
     ensures { result ≡ some_unnamed (sheet_data sheet.now).managers }
 {
-    let n = grammar::manager_count(sheet);
-    let mut k = 0;
-    while k < n {
-        let control = Control::unpack(sheet[grammar::manager_place(k) + grammar::CONTROL]);
-        if control.unnamed() {
-            return true;
-        }
-        k += 1;
-    }
-    false
+    (0..grammar::manager_count(sheet)).any(|k| control_of(sheet, k).unnamed())
 }
 
 // Whether a sheet keeps every rule; if not, the first of the reasons 2 to 5 that holds.
@@ -74,7 +65,7 @@ pub fn check(sheet: &[u8]) -> Result<(), Reason>
     if grammar::wrong_length(sheet) {
         return Err(Reason::SheetLength);
     }
-    if sheet[2] != 1 {
+    if wire::byte_at(sheet, 2) != 1 {
         return Err(Reason::SheetVersion);
     }
     if grammar::rule_broken(sheet) {
@@ -109,24 +100,28 @@ pub fn complete_access(sheet: &[u8]) -> bool
 pub fn receive_size(sheet: &[u8]) -> ByteLen
     ensures { result.0 ≡ (sheet_data sheet.now).receive }
 {
-    ByteLen(wire::be16(wire::byte_at(sheet, 4), wire::byte_at(sheet, 5)))
+    ByteLen(word_at(sheet, 4))
 }
 
 pub fn send_size(sheet: &[u8]) -> ByteLen
     ensures { result.0 ≡ (sheet_data sheet.now).send }
 {
-    ByteLen(wire::be16(wire::byte_at(sheet, 6), wire::byte_at(sheet, 7)))
+    ByteLen(word_at(sheet, 6))
+}
+
+// Two bytes as a number, the high one first.
+fn word_at(sheet: &[u8], at: usize) -> u16
+    requires { at ≤ 1286 }
+    ensures { result ≡ big_at sheet.now at 2 }
+{
+    u16::from_be_bytes([wire::byte_at(sheet, at), wire::byte_at(sheet, at + 1)])
 }
 
 // How many sync managers are looked at: sixteen at most, and a sheet that keeps the rules has no more.
 pub fn front_count(sheet: &[u8]) -> u8
     ensures { result ≡ min (manager_count sheet.now) 16 }
 {
-    let n = grammar::manager_count(sheet);
-    if 16 < n {
-        return 16;
-    }
-    n
+    grammar::manager_count(sheet).min(16)
 }
 
 // The usage of the sync manager with a number.
@@ -140,20 +135,35 @@ pub fn usage_of(sheet: &[u8], k: u8) -> u8
 pub fn start_of(sheet: &[u8], k: u8) -> u16
     ensures { result ≡ (manager_at sheet.now (manager_place k)).start_addr }
 {
-    let at = grammar::manager_place(k);
-    wire::be16(wire::byte_at(sheet, at), wire::byte_at(sheet, at + 1))
+    word_at(sheet, grammar::manager_place(k))
+}
+
+// Its control.
+fn control_of(sheet: &[u8], k: u8) -> Control
+    ensures { result ≡ (manager_at sheet.now (manager_place k)).control }
+{
+    Control::unpack(wire::byte_at(sheet, grammar::manager_place(k) + grammar::CONTROL))
+}
+
+// Whether it is enabled.
+fn enable_of(sheet: &[u8], k: u8) -> bool
+    ensures { result ≡ (manager_at sheet.now (manager_place k)).enable }
+{
+    wire::flag(
+        wire::byte_at(sheet, grammar::manager_place(k) + grammar::ENABLE),
+        0,
+    )
 }
 
 // The sync manager itself.
 pub fn manager(sheet: &[u8], k: u8) -> SyncManager
     ensures { result ≡ manager_at sheet.now (manager_place k) }
 {
-    let at = grammar::manager_place(k);
     SyncManager {
-        start_addr: wire::be16(wire::byte_at(sheet, at), wire::byte_at(sheet, at + 1)),
-        control: Control::unpack(wire::byte_at(sheet, at + grammar::CONTROL)),
-        enable: wire::flag(wire::byte_at(sheet, at + grammar::ENABLE), 0),
-        usage_type: wire::byte_at(sheet, at + grammar::USAGE),
+        start_addr: start_of(sheet, k),
+        control: control_of(sheet, k),
+        enable: enable_of(sheet, k),
+        usage_type: usage_of(sheet, k),
     }
 }
 
@@ -163,36 +173,29 @@ fn managers_of(sheet: &[u8], n: u8) -> [SyncManager; 16]
     ensures { result ≡ managers_of sheet.now n }
 {
     let mut list = [NO_MANAGER; 16];
-    let mut k = 0;
-    while k < n {
-        list[wire::wide(k)] = manager(sheet, k);
-        k += 1;
+    for k in 0..n {
+        list[usize::from(k)] = manager(sheet, k);
     }
     list
 }
 
 // The FMMU usages of a sheet.
 fn usages_of(sheet: &[u8], at: usize, f: usize) -> [u8; 16]
-    requires { (f ≤ 16) × (at + f ≤ length sheet.now) × (length sheet.now ≤ 16386) }
+    requires { (f ≤ 16) × (at + f ≤ length sheet.now) }
     ensures { result ≡ usages_of sheet.now at f }
 {
     let mut list = [0u8; 16];
-    let mut k = 0;
-    while k < f {
-        list[k] = sheet[at + k];
-        k += 1;
-    }
+    list[..f].copy_from_slice(&sheet[at..at + f]);
     list
 }
 
 // The device data of a sheet that keeps every rule.
 fn device_of(sheet: &[u8]) -> Device
-    requires { (length sheet.now ≤ 16386) × (broken sheet.now ≡ false) }
+    requires { broken sheet.now ≡ false }
     ensures { result ≡ device_of sheet.now }
 {
     let n = grammar::manager_count(sheet);
-    let f = grammar::usage_count(sheet);
-    let usages = grammar::usages_place(sheet);
+    let f = usize::from(grammar::usage_count(sheet));
     Device {
         has_mailbox: has_mailbox(sheet),
         coe_protocol: coe_protocol(sheet),
@@ -200,9 +203,9 @@ fn device_of(sheet: &[u8]) -> Device
         receive_size: receive_size(sheet),
         send_size: send_size(sheet),
         managers: managers_of(sheet, n),
-        n: wire::wide(n),
-        usages: usages_of(sheet, usages, wire::wide(f)),
-        f: wire::wide(f),
+        n: usize::from(n),
+        usages: usages_of(sheet, grammar::usages_place(sheet), f),
+        f,
         pdos: grammar::pdos_place(sheet),
         p: grammar::pdo_count(sheet),
     }

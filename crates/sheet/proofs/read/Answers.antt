@@ -10,9 +10,7 @@ returns-in_err-check c =
     rw (p.1, p.2) (reads-refused c.args.sheet.now c.in_err-check.ensures)
 
 pub device_of-requires : goal.device_of-requires
-device_of-requires c =
-    let k = checked-accepts c.args.sheet.now c.in_ok-check.ensures in
-    (k.high, k.whole)
+device_of-requires c = (checked-accepts c.args.sheet.now c.in_ok-check.ensures).whole
 
 pub returns : goal.returns
 returns c = reads-device c.args.sheet.now c.in_ok-check.ensures c.device_of.ensures

@@ -1,34 +1,21 @@
--- `sheet::some_unnamed`: whether some control is unnamed is whether one is of those that are left.
+-- `sheet::some_unnamed`: asked of each number of a sync manager.
 -- Assumes nothing.
-use mathlib.Core.Path.{◌≡◌, refl, sym, ◌∙◌, ap}
-use mathlib.Core.Bool.{Bool, true, false, ◌||◌}
-use Prim.Native.Nat.{◌+◌}
-use native.Mathlib.Omega.{arith}
-use Rattle.sheet.proofs.Managers.{unnamed_left, unnamed-turn, unnamed-none}
+use Rattle.std.proofs.Common.{rules, ℕ, arith, refl, ◌∙◌, ap}
+use Rattle.std.specs.List.{range_with_len}
+use Rattle.std.proofs.lemmas.Iterator.{YieldsList-from_range}
+use Rattle.std.proofs.lemmas.Iterator.Search.{any_from_yields_List}
+use borrow.Author.Tests.{tests}
+use Rattle.wire.specs.Lists.{some_of}
+use Rattle.channel_bytes.specs.Bytes.{unnamed}
+use Rattle.sheet.specs.Sheet.{manager_place, manager_at}
+use Rattle.sheet.proofs.Managers.{unnamed-numbered}
 use Rattle.sheet.proofs.some_unnamed.Goals as goal
 
-pub loop-k-init : goal.loop-k-init
-loop-k-init c = (omega arith, refl)
-
-pub returns-then-unnamed : goal.returns-then-unnamed
-returns-then-unnamed c =
-    let l = c.loop-k in
-    let s = c.args.sheet.now in
-    let behind = unnamed_left s (l.k + 1) in
-    let turned : true || behind ≡ unnamed_left s 0 =
-    ap (λ (x : Bool). x || behind) (sym c.if-unnamed.true)
-    ∙ sym (unnamed-turn s l.k (omega arith) c.manager_place.ensures.0 c.unpack-control.ensures c.unnamed.ensures) ∙ l.invariant.1 in
-    turned
-
-pub loop-k-preserved : goal.loop-k-preserved
-loop-k-preserved c =
-    let l = c.loop-k in
-    let s = c.args.sheet.now in
-    let behind = unnamed_left s (l.k + 1) in
-    let turned : false || behind ≡ unnamed_left s 0 =
-    ap (λ (x : Bool). x || behind) (sym c.if-unnamed.false)
-    ∙ sym (unnamed-turn s l.k (omega arith) c.manager_place.ensures.0 c.unpack-control.ensures c.unnamed.ensures) ∙ l.invariant.1 in
-    (omega arith, turned)
-
 pub returns : goal.returns
-returns c = sym (unnamed-none c.args.sheet.now c.loop-k.k (omega arith)) ∙ c.loop-k.invariant.1
+returns c =
+    let s = c.args.sheet.now in
+    let n = c.manager_count.result in
+    let ask = λ (k : ℕ). unnamed (manager_at s (manager_place k)).control in
+    any_from_yields_List ask _ _ _ c.any.ensures.ran (YieldsList-from_range 0 n n refl (omega arith)) (λ x b q k. search (rules, tests))
+    ∙ ap (λ (j : ℕ). some_of ask (range_with_len 0 j)) c.manager_count.ensures
+    ∙ unnamed-numbered s

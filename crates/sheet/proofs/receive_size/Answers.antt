@@ -1,9 +1,0 @@
--- `sheet::receive_size`: bytes 4 and 5, the high one first.
--- Assumes nothing.
-use Rattle.sheet.specs.Sheet.{sheet_data}
-use Rattle.sheet.proofs.Fields.{two_bytes_lem}
-use Rattle.sheet.proofs.receive_size.Goals as goal
-
-pub returns : goal.returns
-unfolding sheet_data
-returns c = two_bytes_lem c.args.sheet.now 4 c.byte_at.ensures c.byte_at-2.ensures c.be16.ensures
