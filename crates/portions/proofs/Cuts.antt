@@ -15,7 +15,7 @@ use Rattle.wire.proofs.Copied.{length_over}
 use Rattle.area.specs.Area.{flat}
 use Rattle.sheet.specs.Sheet.{read_sheet}
 use Rattle.portions.specs.declared.State.{State}
-use Rattle.portions.specs.Portions.{begun, held_in, stored, state_with, short_room, taken_of, taking}
+use Rattle.portions.specs.Portions.{begun, held_in, stored, state_with, short_room, taken_of, taking, state_after}
 use Rattle.portions.specs.Arrival.{Call, taken_by, joined, state_then, OneRoom, HandedOn, EveryCut}
 use Rattle.portions.proofs.Steps.{taking-enough, reads-by}
 use Rattle.portions.proofs.Whole.{reads-from, ending-after}
@@ -44,7 +44,7 @@ call_of st portion room =
       room = room;
       taken = answer_for st portion room;
       left = room_after (taking st portion room) (held_in st room ++ stored st portion) room;
-      promise = record { says = answer-says st portion room; holds = refl };
+      promise = record { says = answer-says st portion room; state = ap (λ (o : Outcome State). state_after o st) (answer-says st portion room); holds = refl };
     }
 
 -- one after the other in one room, and what that room ends as

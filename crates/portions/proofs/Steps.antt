@@ -19,7 +19,7 @@ use Rattle.sheet.specs.declared.Device.{Device}
 use Rattle.sheet.specs.Device.{Data, data_of}
 use Rattle.sheet.specs.Sheet.{read_sheet, device_after, Reads}
 use Rattle.portions.specs.declared.State.{State}
-use Rattle.portions.specs.Portions.{held_in, stored, state_with, short_room, taking, Takes, too_many, ending}
+use Rattle.portions.specs.Portions.{held_in, stored, state_with, short_room, taking, state_after, Takes, too_many, ending}
 use Rattle.portions.proofs.Front.{stored-behind, stored-nowhere}
 
 -- a room is short, or it is enough
@@ -42,7 +42,11 @@ taking-enough st portion room e = rw e refl
 pub takes-nothing : (st : State) (portion room : List ℕ) → length room < 16386 → Takes st portion room (Err PortionRoom) room
 takes-nothing st portion room h =
     let o = taking-short st portion room (short room h) in
-    record { says = sym o; holds = ap (λ (x : Outcome State). room_after x (held_in st room ++ stored st portion) room) (sym o) }
+    record {
+      says = sym o;
+      state = ap (λ (x : Outcome State). state_after x st) (sym o);
+      holds = ap (λ (x : Outcome State). room_after x (held_in st room ++ stored st portion) room) (sym o);
+    }
 
 -- what is stored goes behind what is held, whatever the state says
 pub stored-behind-held : (st : State) (portion room : List ℕ) → 16386 ≤ length room → stored_at st.held (stored st portion) room ≡ over (held_in st room ++ stored st portion) room
@@ -69,6 +73,7 @@ takes-portion st portion room left n b h e t p =
     let s : ◌≡◌ {A = State} (record { held = st.held + n; surplus = b }) (state_with st portion) = λ i. record { held = st.held + m i; surplus = more i } in
     record {
       says = ap accepted s ∙ sym o;
+      state = s ∙ ap (λ (x : Outcome State). state_after x st) (sym o);
       holds = p ∙ ap (λ (l : List ℕ). stored_at st.held l room) f ∙ stored-behind-held st portion room h
           ∙ ap (λ (x : Outcome State). room_after x (held_in st room ++ stored st portion) room) (sym o);
     }

@@ -46,7 +46,7 @@ left c e =
     let o = taking-short c.given c.portion c.room e in
     record {
       answer = answer-by (c.promise.says ∙ o) refl;
-      state = ap (λ (x : Outcome State). state_after x c.given) (c.promise.says ∙ o);
+      state = c.promise.state ∙ ap (λ (x : Outcome State). state_after x c.given) o;
       room = c.promise.holds ∙ ap (λ (x : Outcome State). room_after x (held_in c.given c.room ++ stored c.given c.portion) c.room) o;
     }
 
@@ -61,7 +61,7 @@ took c e =
     let o = taking-enough c.given c.portion c.room e in
     record {
       answer = answer-by (c.promise.says ∙ o) refl;
-      state = ap (λ (x : Outcome State). state_after x c.given) (c.promise.says ∙ o);
+      state = c.promise.state ∙ ap (λ (x : Outcome State). state_after x c.given) o;
       room = c.promise.holds ∙ ap (λ (x : Outcome State). room_after x (held_in c.given c.room ++ stored c.given c.portion) c.room) o;
     }
 

@@ -46,9 +46,11 @@ abbrev pub state_after : Outcome State → State → State
 state_after (refused n) st = st
 state_after (accepted new) st = new
 
--- the promise of `take`: its answer, and the room, which then holds the bytes come so far at its front; its rest stays
+-- the promise of `take`: its answer, the state that the caller goes on with, and the room, which then holds the bytes come so far at its front; its
+-- rest stays
 pub record Takes (st : State) (portion room : List ℕ) (r : Result State Reason) (after : List ℕ) : Type 0 where
   pub says : taken_of r ≡ taking st portion room
+  pub state : state_after (taken_of r) st ≡ state_after (taking st portion room) st
   pub holds : after ≡ room_after (taking st portion room) (held_in st room ++ stored st portion) room
 
 -- 2 by what is remembered: a surplus byte came. A made-up state can say more than 16,386 held; that is surplus too
