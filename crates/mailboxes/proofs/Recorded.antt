@@ -1,11 +1,11 @@
--- The mailboxes as the code records and writes them: a turn of the loop, its end, and what the usage of one decides.
+-- The mailboxes as the code records and writes them: a turn of the loop, its end, and one that gets no size.
 -- Assumes nothing.
 use mathlib.Core.Path.{◌≡◌, refl}
 use mathlib.Core.List.{List, [], ◌∷◌}
 use Prim.Native.Nat.{ℕ, ◌+◌}
 use native.Mathlib.Numerals.{add-one}
-use mathlib.Core.Option.{Option, none, some}
-use borrow.Author.Tests.{eq-eqb, ne_eqb}
+use mathlib.Core.Option.{Option, none}
+use borrow.Author.Tests.{ne_eqb}
 use Rattle.sheet.specs.declared.SyncManager.{SyncManager}
 use Rattle.mailboxes.specs.declared.Mailbox.{Mailbox}
 use Rattle.mailboxes.specs.Mailbox.{size_for, later_of, last_of}
@@ -21,21 +21,6 @@ pub last_end : (usage size k : ℕ) (before : Option Mailbox) (l : List SyncMana
 unfolding last_of
 last_end usage size k before l e = rw e
 
--- a sync manager of the usage is recorded, any other isn't
-module _ (usage size k : ℕ) (before : Option Mailbox) (m : SyncManager) where
-  pub later-on : m.usage_type ≡ usage → some (record { address = m.start_addr; len = record { 0 = size }; sync_manager = k }) ≡ later_of usage size before k m
-  later-on e = rw (eq-eqb m.usage_type usage e) refl
-
-  pub later-off : (m.usage_type ≡ usage → ⊥) → before ≡ later_of usage size before k m
-  later-off e = rw (ne_eqb m.usage_type usage e) refl
-
--- with which size it is written
-module _ (receive send : ℕ) (m : SyncManager) where
-  pub size-receive : m.usage_type ≡ 1 → size_for receive send m ≡ some receive
-  size-receive e = rw (eq-eqb m.usage_type 1 e) refl
-
-  pub size_send : m.usage_type ≡ 2 → size_for receive send m ≡ some send
-  size_send e = rw e refl
-
-  pub size_none : (m.usage_type ≡ 1 → ⊥) → (m.usage_type ≡ 2 → ⊥) → size_for receive send m ≡ none
-  size_none a b = rw (ne_eqb m.usage_type 1 a, ne_eqb m.usage_type 2 b) refl
+-- neither usage, and no size
+pub size_none : (receive send : ℕ) (m : SyncManager) → (m.usage_type ≡ 1 → ⊥) → (m.usage_type ≡ 2 → ⊥) → size_for receive send m ≡ none
+size_none receive send m a b = rw (ne_eqb m.usage_type 1 a, ne_eqb m.usage_type 2 b) refl

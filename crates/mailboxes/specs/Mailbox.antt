@@ -1,17 +1,15 @@
 -- The mailbox pass.
 -- Assumes nothing.
 use Rattle.std.specs.Prelude.{◌≡◌, Bool, false, cond, List, [], ◌∷◌, ℕ, suc, eqb}
+use Rattle.std.specs.Prelude as std
 use Rattle.std.proofs.Math.Option.{Option, none, some}
-use Rattle.wire.specs.Outcome.{Outcome, refused, accepted, Refusal, when, decide}
+use Rattle.wire.specs.Outcome.{Outcome, refused, accepted, Refusal, when, decide, outcome_by}
+use Rattle.wire.specs.declared.Reason.{Reason}
 use Rattle.sheet.specs.Device.{Data}
 use Rattle.sheet.specs.Sheet.{sheet_refusals, sheet_data}
 use Rattle.sheet.specs.declared.SyncManager.{SyncManager}
 use Rattle.mailboxes.specs.declared.Mailbox.{Mailbox}
-use Rattle.mailboxes.specs.declared.Slot.{Slot}
-use Rattle.mailboxes.specs.declared.Slot.TheVariants.{None, At}
 use Rattle.mailboxes.specs.declared.MailboxConfig.{MailboxConfig}
-use Rattle.mailboxes.specs.declared.MailboxAnswer.{MailboxAnswer}
-use Rattle.mailboxes.specs.declared.MailboxAnswer.TheVariants.{Config, Refused}
 use Rattle.pdo.specs.Bits.{by_coe}
 use Rattle.area.specs.Area.{entries_of, flat, not_channels}
 use Rattle.channels.specs.Channels.{channels_after}
@@ -65,19 +63,18 @@ abbrev pub mailbox_area : Outcome Recorded → Data → List ℕ → List ℕ
 mailbox_area (refused n) d area = area
 mailbox_area (accepted c) d area = cond d.mailbox (mailbox_channels d area) area
 
--- what the cases of `Slot` say, and so what is recorded; and those of `MailboxAnswer`
-abbrev pub slot_of : Slot → Option Mailbox
-slot_of None = none
-slot_of (At m) = some m
+-- what an answer says: a mailbox, if there is one, what is recorded, and what the pass does
+abbrev pub slot_of : std.Option Mailbox → Option Mailbox
+slot_of std.None = none
+slot_of (std.Some m) = some m
 
 abbrev pub record_of : MailboxConfig → Recorded
 record_of c = record { read = slot_of c.read; write = slot_of c.write; coe_on = c.has_coe; complete = c.complete_access }
 
-abbrev pub mailbox_of : MailboxAnswer → Outcome Recorded
-mailbox_of (Config c) = accepted (record_of c)
-mailbox_of (Refused n) = refused n
+abbrev pub mailbox_of : std.Result MailboxConfig Reason → Outcome Recorded
+mailbox_of r = outcome_by record_of r
 
 -- the promise of the pass
-pub record ConfiguresMailboxes (sheet area : List ℕ) (r : MailboxAnswer) (after : List ℕ) : Type 0 where
+pub record ConfiguresMailboxes (sheet area : List ℕ) (r : std.Result MailboxConfig Reason) (after : List ℕ) : Type 0 where
   pub says : mailbox_of r ≡ mailbox_pass sheet area
   pub holds : after ≡ mailbox_area (mailbox_pass sheet area) (sheet_data sheet) area
