@@ -1,7 +1,6 @@
 -- Laws that belong to no one function.
 pub mod Part
 pub mod Records
-pub mod Some
 pub mod Bits
 pub mod Lacking
 pub mod Sums

@@ -6,7 +6,7 @@ use Rattle.std.proofs.lemmas.Iterator.Search.{any_from_yields_List}
 use borrow.Author.Tests.{tests}
 use Rattle.wire.specs.Lists.{list_of, some_of}
 use Rattle.sheet.specs.Sheet.{manager_place, manager_at, sheet_data}
-use Rattle.pdo.proofs.Some.{some-number}
+use Rattle.sheet.proofs.Managers.{some-numbered}
 use Rattle.pdo.proofs.some_usage.Goals as goal
 
 pub returns : goal.returns
@@ -16,5 +16,5 @@ returns c =
     let n = c.manager_count.result in
     any_from_yields_List (λ k. (manager_at s (manager_place k)).usage_type == c.args.usage) _ _ _ c.any.ensures.ran
     (YieldsList-from_range 0 n n refl (omega arith)) (λ x b q k. search (rules, tests))
-    ∙ some-number (λ m. m.usage_type == c.args.usage) (λ k. manager_at s (manager_place k)) n
+    ∙ some-numbered (λ m. m.usage_type == c.args.usage) (λ k. manager_at s (manager_place k)) n
     ∙ ap (λ k. some_of (λ m. m.usage_type == c.args.usage) (list_of (λ j. manager_at s (manager_place j)) k)) c.manager_count.ensures
