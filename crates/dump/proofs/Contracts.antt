@@ -6,8 +6,9 @@
 use contract.Lifetimes.{Lfts}
 use denote.Triple.Clauses.{AtExit}
 use denote.Triple.Entry.{Args}
-use Rattle.wire.specs.declared.Written.{Written}
-use Rattle.sheet.specs.declared.SheetRead.{SheetRead}
+use Rattle.std.specs.Prelude.{ℕ, Result}
+use Rattle.wire.specs.declared.Reason.{Reason}
+use Rattle.sheet.specs.declared.Device.{Device}
 use Rattle.dump.specs.Calls.{InRange, Call, SheetCall}
 use Rattle.dump.specs.contracts.read as reading
 use Rattle.dump.proofs.read.Reads as reads
@@ -15,7 +16,7 @@ use Rattle.dump.specs.contracts.write_sheet as writing
 use Rattle.dump.proofs.write_sheet.Reads as writes
 
 -- `dump::read`: dump, head, room
-pub call-of : (κs : Lfts 2) (a : Args reading.signature κs) (answer : SheetRead) (s : AtExit reading.ended κs) → InRange a.1.0 a.0.now a.1.1.0.now → reads.Post κs a answer s → Call
+pub call-of : (κs : Lfts 2) (a : Args reading.signature κs) (answer : Result Device Reason) (s : AtExit reading.ended κs) → InRange a.1.0 a.0.now a.1.1.0.now → reads.Post κs a answer s → Call
 call-of κs a answer s range kept =
     record {
       head = a.1.0;
@@ -28,7 +29,7 @@ call-of κs a answer s range kept =
     }
 
 -- `dump::write_sheet`: dump, head, room
-pub sheet-call-of : (κs : Lfts 2) (a : Args writing.signature κs) (answer : Written) (s : AtExit writing.ended κs) → writes.Post κs a answer s → SheetCall
+pub sheet-call-of : (κs : Lfts 2) (a : Args writing.signature κs) (answer : Result ℕ Reason) (s : AtExit writing.ended κs) → writes.Post κs a answer s → SheetCall
 sheet-call-of κs a answer s kept =
     record {
       head = a.1.0;

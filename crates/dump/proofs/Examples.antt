@@ -15,7 +15,7 @@ use Rattle.wire.specs.Field.{flag_at}
 use Rattle.wire.proofs.Lists.{none_of}
 use Rattle.area.specs.Area.{flat}
 use Rattle.channel_bytes.specs.Bytes.{control_at, unnamed, control_byte}
-use Rattle.sheet.specs.declared.Answer.TheVariants.{Accepted}
+use Rattle.std.specs.Prelude.{Ok}
 use Rattle.sheet.specs.Device.{Data, pdos_from, data_of}
 use Rattle.sheet.specs.Sheet.{some_unnamed}
 use Rattle.writer.specs.Form.{body_bytes, sheet_of}
@@ -24,7 +24,7 @@ use Rattle.dump.specs.declared.Head.{Head}
 use Rattle.dump.specs.Parts.{cut_in}
 use Rattle.dump.specs.Categories.{categories, unended}
 use Rattle.dump.specs.Records.{pdos_in, not_records}
-use Rattle.dump.specs.Dump.{dump_data, read_dump, device_after, records_after}
+use Rattle.dump.specs.Dump.{dump_data, read_dump, device_with, records_after}
 use Rattle.dump.specs.Calls.{Call, Category, Between, Behind}
 
 abbrev pub head_with : (flags : ℕ) → Head
@@ -132,7 +132,7 @@ call =
       head = head_with 0;
       dump = bay 32;
       room = replicate 16 9;
-      read = record { answer = Accepted; device = device_after (head_with 0) o };
+      read = Ok (device_with (head_with 0) bay_data.managers bay_data.usages 2);
       left = records_after o (replicate 16 9);
       range = record { receive = omega arith; send = omega arith; bytes = all-bytes (bay 32) refl; room_bytes = all-bytes (replicate 16 9) refl };
       promise = record { says = refl; holds = refl; leaves = refl };

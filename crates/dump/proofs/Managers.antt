@@ -1,7 +1,7 @@
 -- SyncM records by number, each at eight times its number: how many there are, what is left behind them, and the loops over them.
 -- Assumes nothing.
-use mathlib.Core.Path.{◌≡◌, sym, ◌∙◌, ap, subst₂}
-use mathlib.Core.Bool.{Bool, true, false}
+use mathlib.Core.Path.{◌≡◌, refl, sym, ◌∙◌, ap, subst₂}
+use mathlib.Core.Bool.{Bool, true, false, not}
 use mathlib.Core.List.{List, [], map}
 use Prim.Native.Nat.{ℕ, zero, suc, ◌+◌, ◌*◌, ◌/◌, ◌%◌, ◌≤◌, ◌<◌}
 use native.Mathlib.Nat.{add-zero}
@@ -9,9 +9,10 @@ use native.Mathlib.Numerals.{add-one}
 use native.Mathlib.Omega.{arith}
 use lib.ListN.{length, get_or, take, drop, length-drop, length-map, get_or-map}
 use lib.Seq.{get_or-take, get_or-drop}
-use lib.Dec.{ltb}
-use borrow.Author.Tests.{le-leb, lt-leb, lt-ltb, le-ltb}
-use Rattle.wire.specs.Lists.{list_of, some_below, some_of}
+use lib.Dec.{eqb, ltb}
+use borrow.Author.Tests.{le-leb, lt-leb, lt-ltb, le-ltb, eqb-true, eqb-false}
+use Rattle.std.specs.List.{list_any, range_with_len}
+use Rattle.wire.specs.Lists.{list_of, some_of}
 use Rattle.wire.specs.Field.{flag_at}
 use Rattle.channel_bytes.specs.Bytes.{control_at, unnamed}
 use Rattle.sheet.specs.declared.SyncManager.{SyncManager}
@@ -82,7 +83,7 @@ module _ (l : List ℕ) where
       list-numbered (map manager_for (parts_of manager_long l)) (manager_for []) (length l / 8) managers-many nth_manager manager-nth
 
   -- whether some has it, by the numbers
-  some-manager : (f : SyncManager → Bool) (q : ℕ → Bool) → ((k : ℕ) → f (nth_manager k) ≡ q k) → some_of f (map manager_for (parts_of manager_long l)) ≡ some_below q (length l / 8)
+  some-manager : (f : SyncManager → Bool) (q : ℕ → Bool) → ((k : ℕ) → f (nth_manager k) ≡ q k) → some_of f (map manager_for (parts_of manager_long l)) ≡ list_any q (range_with_len 0 (length l / 8))
   some-manager f q is =
       some-numbered (map manager_for (parts_of manager_long l)) (manager_for []) (length l / 8) managers-many f q (λ k h. ap f (manager-nth k h) ∙ is k)
 
@@ -93,17 +94,21 @@ module _ (l : List ℕ) where
   abbrev pub control_unnamed_at : ℕ → Bool
   control_unnamed_at k = unnamed (control_at (get_or l (8 * k + 4) 0))
 
-  pub some-usage-numbered : some_of (λ m. ltb 4 m.usage_type) (map manager_for (parts_of manager_long l)) ≡ some_below usage_unnamed_at (length l / 8)
+  pub some-usage-numbered : some_of (λ m. ltb 4 m.usage_type) (map manager_for (parts_of manager_long l)) ≡ list_any usage_unnamed_at (range_with_len 0 (length l / 8))
   some-usage-numbered = some-manager (λ m. ltb 4 m.usage_type) usage_unnamed_at (λ k. ap (ltb 4) (get_or-drop (8 * k) l 7 0))
 
-  pub some-control-numbered : some_unnamed (map manager_for (parts_of manager_long l)) ≡ some_below control_unnamed_at (length l / 8)
+  pub some-control-numbered : some_unnamed (map manager_for (parts_of manager_long l)) ≡ list_any control_unnamed_at (range_with_len 0 (length l / 8))
   unfolding some_unnamed
   some-control-numbered =
       some-manager (λ m. unnamed m.control) control_unnamed_at (λ k. ap (λ (b : ℕ). unnamed (control_at b)) (get_or-drop (8 * k) l 4 0))
 
 -- whether something stands behind the last record, by the remainder
-pub managers-cut : {l m : List ℕ} → l ≡ m → (length l % 8 ≡ 0 → ⊥) → nonempty (rest_of manager_long m) ≡ true
-managers-cut {l} {m} e n = let r = managers-rest m in let z = ap length e in lt-ltb 0 (length (rest_of manager_long m)) (omega (arith, n))
+pub managers-cut : (l : List ℕ) → nonempty (rest_of manager_long l) ≡ not (eqb (length l % 8) 0)
+managers-cut l = go (eqb (length l % 8) 0) refl
+  where
+    r : length (rest_of manager_long l) ≡ length l % 8
+    r = managers-rest l
 
-pub managers-whole : {l m : List ℕ} → l ≡ m → length l % 8 ≡ 0 → nonempty (rest_of manager_long m) ≡ false
-managers-whole {l} {m} e n = let r = managers-rest m in let z = ap length e in le-ltb 0 (length (rest_of manager_long m)) (omega arith)
+    go : (b : Bool) → eqb (length l % 8) 0 ≡ b → nonempty (rest_of manager_long l) ≡ not b
+    go true e = let z = eqb-true (length l % 8) 0 e in le-ltb 0 (length (rest_of manager_long l)) (omega (arith, r))
+    go false e = let z = eqb-false (length l % 8) 0 e in lt-ltb 0 (length (rest_of manager_long l)) (omega (arith, r))

@@ -10,6 +10,8 @@ use lib.Seq.{drop-drop}
 use lib.Dec.{eqb, leb, ltb}
 use borrow.Author.Tests.{eq-eqb, ne_eqb, eqb-false, leb-true, lt-ltb, le-ltb, ltb-true, ltb-false}
 use Rattle.wire.proofs.Lists.{cond_same}
+use Rattle.std.specs.Prelude.{Option, Some, None, is_some, unwrap_or}
+use Rattle.dump.specs.Looked.{LongIs}
 use Rattle.dump.specs.Parts.{whole, Cut, uncut, before, cut_in, cut_of, parts_of, rest_of}
 
 -- a part that is whole is within the bytes
@@ -19,6 +21,15 @@ whole-fits n l = go (leb n (length l)) (leb-true n (length l))
     go : (b : Bool) → (b ≡ true → n ≤ length l) → cond b n 0 ≤ length l
     go true h = h refl
     go false h = omega arith
+
+-- a length, or none: 0 says that no part stands there
+pub long-or : {n : ℕ} (r : Option ℕ) → LongIs n r → unwrap_or r 0 ≡ n
+long-or None e = sym e
+long-or (Some k) e = e.0
+
+pub long-stands : (n : ℕ) (r : Option ℕ) → LongIs n r → is_some r ≡ ltb 0 n
+long-stands n None e = sym (le-ltb 0 n (omega arith))
+long-stands n (Some k) e = sym (lt-ltb 0 n (omega (arith, e.0, e.1)))
 
 -- something stands behind a place exactly if it is before the end
 pub left_over : (at : ℕ) (l : List ℕ) {rest : List ℕ} → drop at l ≡ rest → ltb at (length l) ≡ ltb 0 (length rest)

@@ -21,11 +21,19 @@ use Rattle.writer.proofs.Parts.{pdos_bytes}
 use Rattle.writer.proofs.Stored.{stored-nothing, stored_next}
 use Rattle.dump.specs.Parts.{parts_of}
 use Rattle.dump.specs.Records.{pdo_long, bits_in, pdo_for, pdos_for}
+use Rattle.dump.specs.declared.Kind.{Kind}
+use Rattle.dump.specs.declared.Kind.TheVariants.{Input, Output}
+use Rattle.dump.specs.Looked.{number_of}
 use Rattle.dump.proofs.Parts.{whole-fits, parts_none, parts-on, Walk, walk_start, walk_turn, walk_end}
 
 -- a record that stands at the front is within the bytes
 pub pdo-fits : (l : List ℕ) → pdo_long l ≤ length l
 pdo-fits l = whole-fits (8 + 8 * get_or l 2 0) l
+
+-- each kind has a number above 0
+pub kind-some : (k : Kind) → 0 < number_of k
+kind-some Input = omega arith
+kind-some Output = omega arith
 
 -- the sum of one more
 pub sum-next : (f : ℕ → ℕ) (k : ℕ) → sum (list_of f (k + 1)) ≡ sum (list_of f k) + f k

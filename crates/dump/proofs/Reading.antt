@@ -8,17 +8,18 @@ use lib.ListN.{length}
 use lib.Dec.{ltb}
 use borrow.Author.Tests.{ltb-false}
 use Rattle.wire.specs.Lists.{some_of}
-use Rattle.wire.specs.Outcome.{Outcome, refused, accepted}
+use Rattle.std.specs.Prelude.{Ok, Err}
+use Rattle.wire.specs.Outcome.{Outcome, refused, accepted, number_of}
+use Rattle.wire.specs.declared.Reason.{Reason}
+use Rattle.wire.specs.declared.Reason.TheVariants.{SheetRule, UnnamedControl, RoomTooShort, DumpCutShort, DumpRecords}
 use Rattle.wire.specs.Room.{over}
 use Rattle.wire.proofs.Lists.{or-none}
 use Rattle.wire.proofs.Order.{never}
 use Rattle.area.specs.Area.{flat}
 use Rattle.writer.specs.Form.{pdo_bytes}
-use Rattle.sheet.specs.declared.Answer.TheVariants.{Accepted}
 use Rattle.sheet.specs.declared.Device.{Device}
-use Rattle.sheet.specs.declared.SheetRead.{SheetRead}
 use Rattle.sheet.specs.Device.{Data, data_of}
-use Rattle.sheet.specs.Sheet.{some_unnamed, answer_of, sheet_read_of}
+use Rattle.sheet.specs.Sheet.{some_unnamed}
 use Rattle.writer.proofs.Keeps.{Keeps}
 use Rattle.dump.specs.declared.Head.{Head}
 use Rattle.dump.specs.Parts.{rest_of}
@@ -73,37 +74,30 @@ module _ (h : Head) (dump room : List ℕ) where
   Short = ltb (length room) (length (pdo_records x))
 
   -- the refusals in their order
-  module _ {r : SheetRead} {n : ℕ} (e : r ≡ sheet_read_of (refused n)) where
-    refuses : read_dump h dump room ≡ refused n → ReadsDump h dump room r room
-    refuses o =
-        record {
-          says = ap (λ (r : SheetRead). answer_of r.answer (data_of r.device room)) e ∙ sym o;
-          holds = ap (λ (r : SheetRead). r.device) e ∙ ap (device_after h) (sym o);
-          leaves = ap (λ (o : Outcome Data). records_after o room) (sym o);
-        }
+  module _ (e : Reason) where
+    refuses : read_dump h dump room ≡ refused (number_of e) → ReadsDump h dump room (Err e) room
+    refuses o = record { says = sym o; holds = ap (device_after h) (sym o); leaves = ap (λ (o : Outcome Data). records_after o room) (sym o) }
 
-  pub reads-16 : {r : SheetRead} → r ≡ sheet_read_of (refused 16) → unended dump ≡ true → ReadsDump h dump room r room
+  pub reads-16 : unended dump ≡ true → ReadsDump h dump room (Err DumpCutShort) room
   unfolding read_dump
-  reads-16 e a = refuses e (rw a)
+  reads-16 a = refuses DumpCutShort (rw a)
 
-  pub reads-17 : {r : SheetRead} → r ≡ sheet_read_of (refused 17) → unended dump ≡ false → not_records cs ≡ true → ReadsDump h dump room r room
+  pub reads-17 : unended dump ≡ false → not_records cs ≡ true → ReadsDump h dump room (Err DumpRecords) room
   unfolding read_dump
-  reads-17 e a b = refuses e (rw (a, b))
+  reads-17 a b = refuses DumpRecords (rw (a, b))
 
-  pub reads-4 : {r : SheetRead} → r ≡ sheet_read_of (refused 4) → unended dump ≡ false → not_records cs ≡ false → Broken ≡ true → ReadsDump h dump room r room
+  pub reads-4 : unended dump ≡ false → not_records cs ≡ false → Broken ≡ true → ReadsDump h dump room (Err SheetRule) room
   unfolding read_dump
-  reads-4 e a b c = refuses e (rw (a, b, c))
+  reads-4 a b c = refuses SheetRule (rw (a, b, c))
 
-  pub reads-5 :
-      {r : SheetRead} → r ≡ sheet_read_of (refused 5) → unended dump ≡ false → not_records cs ≡ false → Broken ≡ false → Nameless ≡ true → ReadsDump h dump room r room
+  pub reads-5 : unended dump ≡ false → not_records cs ≡ false → Broken ≡ false → Nameless ≡ true → ReadsDump h dump room (Err UnnamedControl) room
   unfolding read_dump
-  reads-5 e a b c d = refuses e (rw (a, b, c, d))
+  reads-5 a b c d = refuses UnnamedControl (rw (a, b, c, d))
 
   pub reads-12 :
-      {r : SheetRead} → r ≡ sheet_read_of (refused 12) → unended dump ≡ false → not_records cs ≡ false → Broken ≡ false → Nameless ≡ false → Short ≡ true
-      → ReadsDump h dump room r room
+      unended dump ≡ false → not_records cs ≡ false → Broken ≡ false → Nameless ≡ false → Short ≡ true → ReadsDump h dump room (Err RoomTooShort) room
   unfolding read_dump
-  reads-12 e a b c d f = refuses e (rw (a, b, c, d, f))
+  reads-12 a b c d f = refuses RoomTooShort (rw (a, b, c, d, f))
 
   -- accepted: that is the data, and none of the refusals holds
   pub record Accepts (y : Data) : Type 0 where
@@ -138,9 +132,9 @@ module _ (h : Head) (dump room : List ℕ) where
   pub reads-data :
       {d : Device} {after : List ℕ} → unended dump ≡ false → not_records cs ≡ false → Broken ≡ false → Nameless ≡ false → Short ≡ false → Keeps x
       → d ≡ device_with h (map manager_for (manager_records cs)) (usages_for cs) (length (pdos_in cs)) → after ≡ over (flat (map pdo_bytes (pdos_in cs))) room
-      → ReadsDump h dump room (record { answer = Accepted; device = d }) after
+      → ReadsDump h dump room (Ok d) after
   unfolding read_dump dump_data
   reads-data a b c d f k p q =
       let o : read_dump h dump room ≡ accepted x = rw (a, b, c, d, f) in
       let s : data_of _ _ ≡ x = ap₂ data_of p q ∙ data-back h cs k room (ltb-false (length room) (length (pdo_records x)) f) in
-      record { says = ap accepted s ∙ sym o; holds = p ∙ ap (device_after h) (sym o); leaves = q ∙ ap (λ (o : Outcome Data). records_after o room) (sym o) }
+      record { says = ap accepted s ∙ sym o; holds = ap accepted p ∙ ap (device_after h) (sym o); leaves = q ∙ ap (λ (o : Outcome Data). records_after o room) (sym o) }

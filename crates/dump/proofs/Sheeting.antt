@@ -8,24 +8,20 @@ use native.Mathlib.Omega.{arith}
 use lib.ListN.{length, replicate}
 use borrow.Author.Tests.{le-ltb, ltb-false}
 use Rattle.wire.specs.Image.{Bytes}
-use Rattle.wire.specs.Outcome.{Outcome, refused, accepted}
+use Rattle.std.specs.Prelude.{Result, Ok, Err}
+use Rattle.wire.specs.Outcome.{Outcome, refused, accepted, number_of}
 use Rattle.wire.specs.Room.{InRoom, text_in, room_after}
-use Rattle.wire.specs.declared.Written.{Written}
-use Rattle.wire.specs.declared.Written.TheVariants.{Refused}
+use Rattle.wire.specs.declared.Reason.{Reason}
 use Rattle.wire.proofs.Bytes.{no_bytes, cons-bytes}
 use Rattle.wire.proofs.Order.{never}
 use Rattle.sheet.specs.declared.Device.{Device}
-use Rattle.sheet.specs.declared.SheetRead.{SheetRead}
-use Rattle.sheet.specs.declared.Answer.{Answer}
-use Rattle.sheet.specs.declared.Answer.TheVariants.{Accepted, Refused as Stopped}
 use Rattle.sheet.specs.Device.{Data, data_of}
-use Rattle.sheet.specs.Sheet.{answer_of}
 use Rattle.writer.specs.Form.{sheet_of}
 use Rattle.writer.specs.Writing.{writing, Writes}
 use Rattle.dump.specs.declared.Head.{Head}
 use Rattle.dump.specs.Categories.{categories, unended}
 use Rattle.dump.specs.Records.{manager_for, pdos_in, not_records}
-use Rattle.dump.specs.Dump.{manager_records, usages_for, dump_data, pdo_records, device_after, records_after, read_dump, ReadsDump, sheeting, WritesSheet}
+use Rattle.dump.specs.Dump.{manager_records, usages_for, dump_data, pdo_records, device_with, device_after, records_after, read_dump, ReadsDump, sheeting, WritesSheet}
 use Rattle.dump.proofs.Kept.{records-long, keeps-rule, dump-keeps}
 use Rattle.dump.proofs.Held.{data-back, not-refused}
 use Rattle.dump.proofs.Reading.{Broken, Nameless, Short, Accepts, accepts}
@@ -40,8 +36,11 @@ module _ (h : Head) (dump own : List ℕ) (receive : h.receive_size.0 < 65536) (
   abbrev x : Data
   x = dump_data h (categories dump)
 
+  abbrev device : Device
+  device = device_with h x.managers x.usages (length x.pdos)
+
   pub only-room : (room : List ℕ) → Accepts h dump own x
-      → (writing (device_after h (accepted x)) (records_after (accepted x) own) room ≡ text_in (sheet_of x) room) × (sheet_of (data_of (device_after h (accepted x)) (records_after (accepted x) own)) ≡ sheet_of x)
+      → (writing device (records_after (accepted x) own) room ≡ text_in (sheet_of x) room) × (sheet_of (data_of device (records_after (accepted x) own)) ≡ sheet_of x)
   unfolding writing dump_data
   only-room room g =
       let k = dump-keeps h dump receive send bytes g.rule g.named in
@@ -51,24 +50,25 @@ module _ (h : Head) (dump own : List ℕ) (receive : h.receive_size.0 < 65536) (
       (rw (n.0, n.1, n.2) (ap (λ (l : List ℕ). text_in l room) is), is)
 
   -- so what is written of it is that sheet, by the rule for texts
-  module _ {r : SheetRead} {after : List ℕ} (p : ReadsDump h dump own r after) (e : r.answer ≡ Accepted) where
-    pub outcome : read_dump h dump own ≡ accepted (data_of r.device after)
-    outcome = sym p.says ∙ ap (λ (a : Answer). answer_of a (data_of r.device after)) e
+  module _ {d : Device} {after : List ℕ} (p : ReadsDump h dump own (Ok d) after) where
+    pub outcome : read_dump h dump own ≡ accepted (data_of d after)
+    outcome = sym p.says
 
     pub accepted-data : Accepts h dump own x
     accepted-data = let g = accepts h dump own outcome in accepts h dump own (outcome ∙ ap accepted g.is)
 
-    pub given_is : data_of r.device after ≡ x
+    pub given_is : data_of d after ≡ x
     given_is = (accepts h dump own outcome).is
 
-    pub writes-text : {room left : List ℕ} {w : Written} → Writes r.device after room w left → InRoom (text_in (sheet_of x) room) (sheet_of x) room w left
+    pub writes-text : {room left : List ℕ} {w : Result ℕ Reason} → Writes d after room w left → InRoom (text_in (sheet_of x) room) (sheet_of x) room w left
     writes-text {room} q =
         let a = outcome ∙ ap accepted given_is in
-        let d = p.holds ∙ ap (device_after h) a in
+        let z : accepted d ≡ accepted device = p.holds ∙ ap (device_after h) a in
+        let e : d ≡ device = cc in
         let s = p.leaves ∙ ap (λ (y : Outcome Data). records_after y own) a in
         let o = only-room room accepted-data in
-        let t = ap₂ (λ (d : Device) (l : List ℕ). writing d l room) d s ∙ o.0 in
-        let l = ap₂ (λ (d : Device) (l : List ℕ). sheet_of (data_of d l)) d s ∙ o.1 in
+        let t = ap₂ (λ (d : Device) (l : List ℕ). writing d l room) e s ∙ o.0 in
+        let l = ap₂ (λ (d : Device) (l : List ℕ). sheet_of (data_of d l)) e s ∙ o.1 in
         record { says = q.says ∙ t; holds = q.holds ∙ ap₂ (λ (o : Outcome ℕ) (l : List ℕ). room_after o l room) t l }
 
 module _ (h : Head) (dump own room : List ℕ) where
@@ -102,19 +102,18 @@ module _ (h : Head) (dump own room : List ℕ) where
       go false false false false true r z = let w : ◌≡◌ {A = Bool} true false = r refl in cc
       go false false false false false r z = absurd (never (sym z))
 
-  pub sheet-refused : {n : ℕ} {r : SheetRead} {after : List ℕ} → length own ≡ 1785 → ReadsDump h dump own r after → r.answer ≡ Stopped n → WritesSheet h dump room (Refused n) room
-  sheet-refused {n} {r} {after} long p e =
-      let o : read_dump h dump own ≡ refused n = sym p.says ∙ ap (λ (a : Answer). answer_of a (data_of r.device after)) e in
-      let z = sym (refused-too long o) in
+  pub sheet-refused : {e : Reason} {after : List ℕ} → length own ≡ 1785 → ReadsDump h dump own (Err e) after → WritesSheet h dump room (Err e) room
+  sheet-refused {e} {after} long p =
+      let z : refused (number_of e) ≡ sheeting h dump room = sym (refused-too long (sym p.says)) in
       record { says = z; holds = ap (λ (o : Outcome ℕ). room_after o (sheet_of y) room) z }
 
   -- what it accepts is refused with none of its numbers, and the sheet's room is left
-  pub sheet-written : {w : Written} {left : List ℕ} → Accepts h dump own y → InRoom (text_in (sheet_of y) room) (sheet_of y) room w left → WritesSheet h dump room w left
+  pub sheet-written : {w : Result ℕ Reason} {left : List ℕ} → Accepts h dump own y → InRoom (text_in (sheet_of y) room) (sheet_of y) room w left → WritesSheet h dump room w left
   unfolding sheeting
   sheet-written g q = rw (g.ended, g.whole, g.rule, g.named) q
 
   -- and the other way round
-  pub text-left : {w : Written} {left : List ℕ} → Accepts h dump own y → WritesSheet h dump room w left → InRoom (text_in (sheet_of y) room) (sheet_of y) room w left
+  pub text-left : {w : Result ℕ Reason} {left : List ℕ} → Accepts h dump own y → WritesSheet h dump room w left → InRoom (text_in (sheet_of y) room) (sheet_of y) room w left
   unfolding sheeting
   text-left g q =
       let o : sheeting h dump room ≡ text_in (sheet_of y) room = rw (g.ended, g.whole, g.rule, g.named) in

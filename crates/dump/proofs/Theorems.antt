@@ -1,7 +1,7 @@
 -- The theorems of specs/Calls: what a dump gives has a sheet, written and read it comes back, an unknown category changes nothing, and neither do bytes
 -- behind the end mark.
 -- Assumes nothing.
-use mathlib.Core.Path.{◌≡◌, sym, ◌∙◌, ap, ap₂, subst, subst₂}
+use mathlib.Core.Path.{◌≡◌, refl, sym, ◌∙◌, ap, ap₂, subst, subst₂}
 use mathlib.Core.Bool.{Bool}
 use mathlib.Core.List.{List, [], ◌∷◌, map}
 use Prim.Native.Nat.{ℕ, ◌≤◌}
@@ -10,14 +10,14 @@ use lib.ListN.{length}
 use lib.Dec.{ltb}
 use borrow.Author.Tests.{le-ltb}
 use Rattle.wire.specs.Field.{flag_at}
+use Rattle.std.specs.Prelude.{Result, Ok}
 use Rattle.wire.specs.Outcome.{Outcome, accepted, Refusal, when, first, decide}
 use Rattle.wire.specs.Room.{InRoom, text_in, room_after}
-use Rattle.wire.specs.declared.Written.{Written}
-use Rattle.wire.proofs.Unique.{written_back, written-determined, same-in-room}
+use Rattle.wire.specs.declared.Reason.{Reason}
+use Rattle.wire.proofs.Pins.{same_result}
+use Rattle.wire.proofs.Unique.{same-in-room}
 use Rattle.area.specs.Area.{flat}
 use Rattle.grammar.specs.Length.{follow}
-use Rattle.sheet.specs.declared.Answer.TheVariants.{Accepted}
-use Rattle.sheet.specs.declared.SheetRead.{SheetRead}
 use Rattle.sheet.specs.declared.Device.{Device}
 use Rattle.sheet.specs.Device.{Pdo, Data, data_of}
 use Rattle.sheet.specs.Sheet.{some_unnamed, read_sheet}
@@ -29,7 +29,7 @@ use Rattle.dump.specs.declared.Head.{Head}
 use Rattle.dump.specs.Parts.{parts_of}
 use Rattle.dump.specs.Categories.{categories, content_for, unended}
 use Rattle.dump.specs.Records.{usage_for, manager_long, manager_for, pdos_in, not_records}
-use Rattle.dump.specs.Dump.{dump_data, rule_broken, read_dump, Gives, sheeting, WritesSheet}
+use Rattle.dump.specs.Dump.{dump_data, rule_broken, read_dump, Gives, sheeting, ReadsDump, WritesSheet}
 use Rattle.dump.specs.Calls.{Call, given, sheet_from, HasSheet, ComesBack, SheetCall, SheetInOneCall, Same, SameSheet, Between, SteppedOver, Behind, EndsThere}
 use Rattle.dump.proofs.Kept.{dump-keeps, sheet-short, sheet-reads}
 use Rattle.dump.proofs.Reading.{Accepts}
@@ -38,55 +38,61 @@ use Rattle.dump.proofs.Stepped.{Alike, categories-alike, ends-alike}
 use Rattle.dump.proofs.Ended.{ended-there}
 use Rattle.dump.proofs.Unique.{same-given}
 
-module _ (c : Call) (e : c.read.answer ≡ Accepted) where
+module _ (c : Call) (d : Device) (e : c.read ≡ Ok d) where
   abbrev x : Data
   x = dump_data c.head (categories c.dump)
 
+  reads : ReadsDump c.head c.dump c.room (Ok d) c.left
+  reads = subst (λ (r : Result Device Reason). ReadsDump c.head c.dump c.room r c.left) e c.promise
+
   -- none of the refusals holds, and the data is that of the categories
   none : Accepts c.head c.dump c.room x
-  none = let r = c.range in accepted-data c.head c.dump c.room r.receive r.send r.bytes r.room_bytes c.promise e
+  none = let r = c.range in accepted-data c.head c.dump c.room r.receive r.send r.bytes r.room_bytes reads
 
-  is : given c ≡ x
-  is = let r = c.range in given_is c.head c.dump c.room r.receive r.send r.bytes r.room_bytes c.promise e
+  is : given c d ≡ x
+  is = let r = c.range in given_is c.head c.dump c.room r.receive r.send r.bytes r.room_bytes reads
 
 -- what is produced has a sheet
 pub has-sheet : HasSheet
-has-sheet c e =
+has-sheet c d e =
     let r = c.range in
-    let n = none c e in
+    let n = none c d e in
     let k = dump-keeps c.head c.dump r.receive r.send r.bytes n.rule n.named in
     let short = sheet-short c.head c.dump r.receive r.send r.bytes n.rule n.named in
     let reads = sheet-reads c.head c.dump r.receive r.send r.bytes n.rule n.named in
-    let s : sheet_from c ≡ sheet_of (x c e) = ap sheet_of (is c e) in
-    (ap read_sheet s ∙ reads ∙ ap accepted (sym (is c e)), subst (λ (l : List ℕ). follow l ≤ 1890) (sym s) (omega (arith, short, (parts (x c e) k).follow, sheet-length (x c e))))
+    let s : sheet_from c d ≡ sheet_of (x c d e) = ap sheet_of (is c d e) in (
+      ap read_sheet s ∙ reads ∙ ap accepted (sym (is c d e)),
+      subst (λ (l : List ℕ). follow l ≤ 1890) (sym s) (omega (arith, short, (parts (x c d e) k).follow, sheet-length (x c d e))),
+    )
 
 -- written and read, it comes back
 pub comes_back_lem : ComesBack
-comes_back_lem c w e d b =
+comes_back_lem c w e b =
     let r = c.range in
-    let q = subst₂ (λ (y : Device) (l : List ℕ). Writes y l w.room w.answer w.left) d b w.promise in
-    let t = writes-text c.head c.dump c.room r.receive r.send r.bytes r.room_bytes c.promise e q in
+    let q = subst (λ (l : List ℕ). Writes w.device l w.room w.answer w.left) b w.promise in
+    let t = writes-text c.head c.dump c.room r.receive r.send r.bytes r.room_bytes (reads c w.device e) q in
     record {
-      written = subst (λ (y : Data). InRoom (text_in (sheet_of y) w.room) (sheet_of y) w.room w.answer w.left) (sym (is c e)) t;
-      read = λ n r a s. let z = reads-back w n r a s in (z.0, z.1 ∙ ap₂ data_of d b);
+      written = subst (λ (y : Data). InRoom (text_in (sheet_of y) w.room) (sheet_of y) w.room w.answer w.left) (sym (is c w.device e)) t;
+      read = λ n r a s. let z = reads-back w n r a s in (z.0, (z.1.0, z.1.1 ∙ ap (data_of w.device) b));
     }
 
 -- and `write_sheet` writes it
 pub sheet-in-one-call : SheetInOneCall
-sheet-in-one-call c w e eh ed =
-    let s = sheet_from c in
-    let text = writes_as c w e eh ed in (
+sheet-in-one-call c d w e eh ed =
+    let s = sheet_from c d in
+    let text = writes_as in (
       text,
       λ h.
-          let short = sheet-short c.head c.dump c.range.receive c.range.send c.range.bytes (none c e).rule (none c e).named in
-          let long : length s ≤ 1892 = subst (λ (x : Data). length (sheet_of x) ≤ 1892) (sym (is c e)) short in
-          sym (written-determined w.answer) ∙ ap written_back (text.says ∙ ap (λ (b : Bool). decide (when 12 b ∷ []) (length s)) (le-ltb (length w.room) (length s) (omega arith))),
+          let short = sheet-short c.head c.dump c.range.receive c.range.send c.range.bytes (none c d e).rule (none c d e).named in
+          let long : length s ≤ 1892 = subst (λ (x : Data). length (sheet_of x) ≤ 1892) (sym (is c d e)) short in
+          let fits : text_in s w.room ≡ accepted (length s) = ap (λ (b : Bool). decide (when 12 b ∷ []) (length s)) (le-ltb (length w.room) (length s) (omega arith)) in
+          same_result (λ k. k) (λ k. k) (λ k. refl) {x = w.answer} {y = Ok (length s)} (text.says ∙ fits) refl,
     )
   where
-    writes_as : (c : Call) (w : SheetCall) → c.read.answer ≡ Accepted → w.head ≡ c.head → w.dump ≡ c.dump → InRoom (text_in (sheet_from c) w.room) (sheet_from c) w.room w.answer w.left
-    writes_as c w e eh ed =
+    writes_as : InRoom (text_in (sheet_from c d) w.room) (sheet_from c d) w.room w.answer w.left
+    writes_as =
         let p = subst₂ (λ (h : Head) (l : List ℕ). WritesSheet h l w.room w.answer w.left) eh ed w.promise in
-        subst (λ (y : Data). InRoom (text_in (sheet_of y) w.room) (sheet_of y) w.room w.answer w.left) (sym (is c e)) (text-left c.head c.dump c.room w.room (none c e) p)
+        subst (λ (y : Data). InRoom (text_in (sheet_of y) w.room) (sheet_of y) w.room w.answer w.left) (sym (is c d e)) (text-left c.head c.dump c.room w.room (none c d e) p)
 
 -- the data, the refusals and the outcome, by what is asked of a dump
 abbrev data_by : Head → (fmmus managers : List ℕ) → List Pdo → Data
@@ -134,7 +140,7 @@ same-calls a b e s eh er =
     let p = subst₂ (λ (h : Head) (l : List ℕ). Gives h (read_dump h b.dump l) l b.read b.left) eh er b.promise in
     let q = subst (λ (y : Outcome Data). Gives a.head y a.room b.read b.left) (alike a.head a.room a.dump b.dump e s) p in
     let z = same-given b.read a.read b.left a.left q a.promise in
-    (ap (λ (y : SheetRead × List ℕ). y.0) z, ap (λ (y : SheetRead × List ℕ). y.1) z)
+    (ap (λ (y : Result Device Reason × List ℕ). y.0) z, ap (λ (y : Result Device Reason × List ℕ). y.1) z)
 
 same-sheets : (a b : SheetCall) → unended b.dump ≡ unended a.dump → Alike (categories b.dump) (categories a.dump) → SameSheet a b
 same-sheets a b e s eh er =
@@ -142,7 +148,7 @@ same-sheets a b e s eh er =
     let o = sheets-alike a.head a.room a.dump b.dump e s in
     let d = ap sheet_of (data-alike a.head a.room a.dump b.dump e s) in
     let z = same-in-room (record { says = p.says ∙ o; holds = p.holds ∙ ap₂ (λ (y : Outcome ℕ) (l : List ℕ). room_after y l a.room) o d }) a.promise in
-    (ap (λ (y : Written × List ℕ). y.0) z, ap (λ (y : Written × List ℕ). y.1) z)
+    (ap (λ (y : Result ℕ Reason × List ℕ). y.0) z, ap (λ (y : Result ℕ Reason × List ℕ). y.1) z)
 
 -- with an unknown category in between
 module _ {a b : List ℕ} (t : Between a b) where

@@ -2,17 +2,15 @@
 -- category of an unknown type in between changes nothing, and neither do bytes after the end mark.
 -- `promise` is the function's own `ensures`, at the values of the call: `Contracts` in proofs/ makes these records of the contracts.
 -- Assumes nothing.
-use Rattle.std.specs.Prelude.{◌≡◌, false, List, ◌++◌, map, ℕ, ◌*◌, ◌<◌, ◌≤◌, length, take}
+use Rattle.std.specs.Prelude.{◌≡◌, false, List, ◌++◌, map, ℕ, ◌*◌, ◌<◌, ◌≤◌, length, take, Result, Ok}
 use Rattle.wire.specs.Image.{Bytes}
 use Rattle.wire.specs.Number.{little_of}
 use Rattle.wire.specs.Outcome.{accepted}
 use Rattle.wire.specs.Room.{InRoom, text_in}
-use Rattle.wire.specs.declared.Written.{Written}
-use Rattle.wire.specs.declared.Written.TheVariants.{Len}
+use Rattle.wire.specs.declared.Reason.{Reason}
 use Rattle.area.specs.Area.{flat}
 use Rattle.grammar.specs.Length.{follow}
-use Rattle.sheet.specs.declared.Answer.TheVariants.{Accepted}
-use Rattle.sheet.specs.declared.SheetRead.{SheetRead}
+use Rattle.sheet.specs.declared.Device.{Device}
 use Rattle.sheet.specs.Device.{Data, data_of}
 use Rattle.sheet.specs.Sheet.{read_sheet, ReadsAs}
 use Rattle.writer.specs.Form.{sheet_of}
@@ -33,37 +31,39 @@ pub record Call : Type 0 where
   pub head : Head
   pub dump : List ℕ
   pub room : List ℕ
-  pub read : SheetRead
+  pub read : Result Device Reason
   pub left : List ℕ
   pub range : InRange head dump room
   pub promise : ReadsDump head dump room read left
 
--- the data that it gives, and the sheet of that
-abbrev pub given : Call → Data
-given c = data_of c.read.device c.left
+-- the data that it gives with a record that it answers, and the sheet of that
+abbrev pub given : Call → Device → Data
+given c d = data_of d c.left
 
-abbrev pub sheet_from : Call → List ℕ
-sheet_from c = sheet_of (given c)
+abbrev pub sheet_from : Call → Device → List ℕ
+sheet_from c d = sheet_of (given c d)
 
 -- what is produced keeps every sheet rule: its sheet is accepted and reads as that data; and L is at most 1,890
 abbrev pub HasSheet : Type 0
-HasSheet = (c : Call) → c.read.answer ≡ Accepted → (read_sheet (sheet_from c) ≡ accepted (given c)) × (follow (sheet_from c) ≤ 1890)
+HasSheet = (c : Call) (d : Device) → c.read ≡ Ok d → (read_sheet (sheet_from c d) ≡ accepted (given c d)) × (follow (sheet_from c d) ≤ 1890)
 
 -- written by `writer::write`, with the record and the room as they were left, it is that sheet by the rule for texts, so 12 is the one refusal; and
 -- any answer of `sheet::read` for what was written is the data
 pub record Back (c : Call) (w : Writing.Call) : Type 0 where
-  pub written : InRoom (text_in (sheet_from c) w.room) (sheet_from c) w.room w.answer w.left
-  pub read : (n : ℕ) (r : SheetRead) → w.answer ≡ Len n → ReadsAs (take n w.left) r → (r.answer ≡ Accepted) × (data_of r.device (take n w.left) ≡ given c)
+  pub written : InRoom (text_in (sheet_from c w.device) w.room) (sheet_from c w.device) w.room w.answer w.left
+  pub read :
+      (n : ℕ) (r : Result Device Reason) → w.answer ≡ Ok n → ReadsAs (take n w.left) r
+      → (d : Device) × ((r ≡ Ok d) × (data_of d (take n w.left) ≡ given c w.device))
 
 abbrev pub ComesBack : Type 0
-ComesBack = (c : Call) (w : Writing.Call) → c.read.answer ≡ Accepted → w.device ≡ c.read.device → w.bytes ≡ c.left → Back c w
+ComesBack = (c : Call) (w : Writing.Call) → c.read ≡ Ok w.device → w.bytes ≡ c.left → Back c w
 
 -- a call of `write_sheet`, likewise
 pub record SheetCall : Type 0 where
   pub head : Head
   pub dump : List ℕ
   pub room : List ℕ
-  pub answer : Written
+  pub answer : Result ℕ Reason
   pub left : List ℕ
   pub promise : WritesSheet head dump room answer left
 
@@ -71,8 +71,8 @@ pub record SheetCall : Type 0 where
 -- there are 1,892 bytes of room
 abbrev pub SheetInOneCall : Type 0
 SheetInOneCall =
-    (c : Call) (w : SheetCall) → c.read.answer ≡ Accepted → w.head ≡ c.head → w.dump ≡ c.dump
-    → InRoom (text_in (sheet_from c) w.room) (sheet_from c) w.room w.answer w.left × (1892 ≤ length w.room → w.answer ≡ Len (length (sheet_from c)))
+    (c : Call) (d : Device) (w : SheetCall) → c.read ≡ Ok d → w.head ≡ c.head → w.dump ≡ c.dump
+    → InRoom (text_in (sheet_from c d) w.room) (sheet_from c d) w.room w.answer w.left × (1892 ≤ length w.room → w.answer ≡ Ok (length (sheet_from c d)))
 
 -- a category: any type but the end mark's, and any content of so many words
 pub record Category : Type 0 where

@@ -1,17 +1,16 @@
 -- Reading a dump (document 02, 5/13): device data of the EEPROM path from its categories and what the caller gives, or a refusal.
 -- Assumes nothing.
-use Rattle.std.specs.Prelude.{◌≡◌, Bool, ◌||◌, List, [], ◌∷◌, ◌++◌, map, ℕ, ◌-◌, length, replicate, ltb}
+use Rattle.std.specs.Prelude.{◌≡◌, Bool, ◌||◌, List, [], ◌∷◌, ◌++◌, map, ℕ, ◌-◌, length, replicate, ltb, Result}
 use Rattle.wire.specs.Field.{flag_at}
 use Rattle.wire.specs.Lists.{some_of}
-use Rattle.wire.specs.Outcome.{Outcome, refused, accepted, Refusal, when, first, decide}
+use Rattle.wire.specs.Outcome.{Outcome, refused, accepted, Refusal, when, first, decide, outcome_by}
 use Rattle.wire.specs.Room.{InRoom, text_in, over}
-use Rattle.wire.specs.declared.Written.{Written}
+use Rattle.wire.specs.declared.Reason.{Reason}
 use Rattle.area.specs.Area.{flat}
 use Rattle.sheet.specs.declared.SyncManager.{SyncManager}
 use Rattle.sheet.specs.declared.Device.{Device}
-use Rattle.sheet.specs.declared.SheetRead.{SheetRead}
 use Rattle.sheet.specs.Device.{Data, data_of}
-use Rattle.sheet.specs.Sheet.{some_unnamed, no_manager, no_device, answer_of}
+use Rattle.sheet.specs.Sheet.{some_unnamed, no_manager, sheet_read_of}
 use Rattle.writer.specs.Form.{pdo_bytes, sheet_of}
 use Rattle.dump.specs.declared.Head.{Head}
 use Rattle.dump.specs.Parts.{parts_of}
@@ -81,28 +80,28 @@ device_with h ms us p =
       p = p;
     }
 
--- what the record and the room hold after a call with this outcome: nothing beside a refusal, which leaves the room
-abbrev pub device_after : Head → Outcome Data → Device
-device_after h (refused n) = no_device
-device_after h (accepted x) = device_with h x.managers x.usages (length x.pdos)
+-- the record and what the room holds after a call with this outcome: nothing beside a refusal, which leaves the room
+abbrev pub device_after : Head → Outcome Data → Outcome Device
+device_after h (refused n) = refused n
+device_after h (accepted x) = accepted (device_with h x.managers x.usages (length x.pdos))
 
 abbrev pub records_after : Outcome Data → List ℕ → List ℕ
 records_after (refused n) room = room
 records_after (accepted x) room = over (pdo_records x) room
 
 -- the promise of a call with this outcome: its answer, the record, and what the room holds then
-pub record Gives (h : Head) (outcome : Outcome Data) (room : List ℕ) (r : SheetRead) (after : List ℕ) : Type 0 where
-  pub says : answer_of r.answer (data_of r.device after) ≡ outcome
-  pub holds : r.device ≡ device_after h outcome
+pub record Gives (h : Head) (outcome : Outcome Data) (room : List ℕ) (r : Result Device Reason) (after : List ℕ) : Type 0 where
+  pub says : outcome_by (λ d. data_of d after) r ≡ outcome
+  pub holds : sheet_read_of r ≡ device_after h outcome
   pub leaves : after ≡ records_after outcome room
 
 -- the promise of reading
-abbrev pub ReadsDump : Head → List ℕ → List ℕ → SheetRead → List ℕ → Type 0
+abbrev pub ReadsDump : Head → List ℕ → List ℕ → Result Device Reason → List ℕ → Type 0
 ReadsDump h dump room r after = Gives h (read_dump h dump room) room r after
 
 -- the sheet of a dump, written into room by the rule for texts
 unfoldable pub sheeting : Head → List ℕ → List ℕ → Outcome ℕ
 sheeting h dump room = first (dump_refusals h dump) (text_in (sheet_of (dump_data h (categories dump))) room)
 
-abbrev pub WritesSheet : Head → List ℕ → List ℕ → Written → List ℕ → Type 0
+abbrev pub WritesSheet : Head → List ℕ → List ℕ → Result ℕ Reason → List ℕ → Type 0
 WritesSheet h dump room r after = InRoom (sheeting h dump room) (sheet_of (dump_data h (categories dump))) room r after

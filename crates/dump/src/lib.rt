@@ -1,7 +1,7 @@
 // A device's own EEPROM dump: the category area of ETG2010, read as device data of the EEPROM path.
 #![tactic(auto)]
 
-ghost use Rattle.std.specs.Prelude.{◌≡◌, ◌||◌, map, ◌++◌, ◌+◌, ◌*◌, ◌-◌, ◌/◌, ◌≤◌, ◌<◌, length, replicate, ltb};
+ghost use Rattle.std.specs.Prelude.{◌≡◌, cond, ◌||◌, map, ◌++◌, ◌+◌, ◌*◌, ◌-◌, ◌/◌, ◌≤◌, ◌<◌, length, replicate, ltb};
 ghost use Rattle.wire.specs.Number.{little_at};
 ghost use Rattle.wire.specs.Lists.{some_of};
 ghost use Rattle.wire.specs.Room.{over};
@@ -12,14 +12,14 @@ ghost use Rattle.dump.specs.Parts as Parts;
 ghost use Rattle.dump.specs.Parts.{parts_of, rest_of};
 ghost use Rattle.dump.specs.Categories.{category_long, categories};
 ghost use Rattle.dump.specs.Categories as Categories;
-ghost use Rattle.dump.specs.Looked.{front_content, first_noted, known_type, Finds, standing, more_than, pdos_from};
+ghost use Rattle.dump.specs.Looked.{LongIs, front_content, from_place, first_noted, known_type, comes_before, Finds, standing, more_than, number_of, pdos_from};
 ghost use Rattle.dump.specs.Records.{usage_for, manager_long, manager_for, pdo_long, bits_in, pdo_for, pdos_for, nonempty};
 ghost use Rattle.dump.specs.Dump.{rule_broken, device_with, ReadsDump, WritesSheet};
 
 use channel_bytes::Control;
 use pdi::ByteLen;
-use sheet::{Answer, Device, SheetRead, SyncManager};
-use wire::Written;
+use sheet::{Device, SyncManager};
+use wire::Reason;
 
 // What a sheet's head says and a category area doesn't: the flags, as in its byte 3, and the mailboxes' sizes.
 #[derive(Clone, Copy)]
@@ -41,9 +41,11 @@ const RX_PDO: u16 = 51;
 const END_MARK: u16 = 0xffff;
 
 // What a sheet calls the PDOs of a TxPDO category, and of an RxPDO category.
-const INPUT: u8 = 1;
-
-const OUTPUT: u8 = 2;
+#[derive(Clone, Copy, Debug, PartialEq, Eq)]
+enum Kind {
+    Input = 1,
+    Output = 2,
+}
 
 // The number in the first two bytes, the low one first; past the end there is 0.
 fn word(bytes: &[u8]) -> u16
@@ -52,28 +54,25 @@ fn word(bytes: &[u8]) -> u16
     wire::le16(wire::byte_at(bytes, 0), wire::byte_at(bytes, 1))
 }
 
-// n bytes at the front, where there are so many; else 0.
-fn whole(n: usize, bytes: &[u8]) -> usize
-    ensures { result ≡ Parts.whole n bytes.now }
+// n, where so many bytes stand at the front.
+fn whole(n: usize, bytes: &[u8]) -> Option<usize>
+    requires { 0 < n }
+    ensures { LongIs (Parts.whole n bytes.now) result }
 {
-    if bytes.len() < n {
-        return 0;
-    }
-    n
+    (n <= bytes.len()).then_some(n)
 }
 
-// How long the category at the front is; 0 where none stands there, and the end mark is none.
-fn category_long(rest: &[u8]) -> usize
-    ensures { result ≡ category_long rest.now }
+// How long the category at the front is, where one stands there; the end mark is none.
+fn category_long(rest: &[u8]) -> Option<usize>
+    ensures { LongIs (category_long rest.now) result }
 {
     if rest.len() < 4 {
-        return 0;
+        return None;
     }
     if wire::le16(rest[0], rest[1]) == END_MARK {
-        return 0;
+        return None;
     }
-    let words = wire::le16(rest[2], rest[3]) as usize;
-    whole(4 + 2 * words, rest)
+    whole(4 + 2 * usize::from(wire::le16(rest[2], rest[3])), rest)
 }
 
 // Whether the end mark stands at the front.
@@ -87,76 +86,53 @@ fn marked(rest: &[u8]) -> bool
 fn content(rest: &[u8]) -> &[u8]
     ensures { result.now ≡ front_content (categories rest.now) }
 {
-    wire::behind(wire::front(rest, category_long(rest)), 4)
+    wire::behind(wire::front(rest, category_long(rest).unwrap_or(0)), 4)
 }
-
-// No category begins there.
-const NOWHERE: usize = usize::MAX;
 
 // What a walk over a dump finds: where the first category of each of the four types begins, how many are of these types, and where all of them end.
 #[derive(Clone, Copy)]
 struct Found {
-    fmmus: usize,
-    managers: usize,
-    inputs: usize,
-    outputs: usize,
+    fmmus: Option<usize>,
+    managers: Option<usize>,
+    inputs: Option<usize>,
+    outputs: Option<usize>,
     known: usize,
     end: usize,
 }
 
 // The first place counts.
-fn first(noted: usize, at: usize, here: bool) -> usize
+fn first(noted: Option<usize>, at: usize, here: bool) -> Option<usize>
     ensures { result ≡ first_noted noted at here }
 {
-    if !here {
-        return noted;
-    }
-    if noted == NOWHERE {
-        return at;
-    }
-    noted
+    noted.or(here.then_some(at))
 }
 
-// 1 for each of the four types.
-fn is_known(kind: u16) -> usize
-    ensures { (result ≡ known_type kind) × (result ≤ 1) }
+// Whether a type is one of the four.
+fn is_known(kind: u16) -> bool
+    ensures { cond result 1 0 ≡ known_type kind }
 {
-    if kind == FMMU {
-        return 1;
-    }
-    if kind == SYNC_MANAGER {
-        return 1;
-    }
-    if kind == TX_PDO {
-        return 1;
-    }
-    if kind == RX_PDO {
-        return 1;
-    }
-    0
+    kind == FMMU || kind == SYNC_MANAGER || kind == TX_PDO || kind == RX_PDO
 }
 
 // Walks over all categories once.
 fn find(dump: &[u8]) -> Found
     ensures { Finds dump.now result }
 {
-    let mut fmmus = NOWHERE;
-    let mut managers = NOWHERE;
-    let mut inputs = NOWHERE;
-    let mut outputs = NOWHERE;
+    let mut fmmus = None;
+    let mut managers = None;
+    let mut inputs = None;
+    let mut outputs = None;
     let mut known = 0;
     let mut end = 0;
-    let mut long = category_long(dump);
-    while 0 < long {
+    while let Some(long) = category_long(wire::behind(dump, end)) {
         let rest = wire::behind(dump, end);
         let kind = wire::le16(rest[0], rest[1]);
         fmmus = first(fmmus, end, kind == FMMU);
         managers = first(managers, end, kind == SYNC_MANAGER);
         inputs = first(inputs, end, kind == TX_PDO);
         outputs = first(outputs, end, kind == RX_PDO);
-        known += is_known(kind);
+        known += usize::from(is_known(kind));
         end += long;
-        long = category_long(wire::behind(dump, end));
     }
     Found {
         fmmus,
@@ -168,21 +144,40 @@ fn find(dump: &[u8]) -> Found
     }
 }
 
-// 1 where a category stands at the front.
-fn stands(rest: &[u8]) -> usize
-    ensures { (result ≡ standing (categories rest.now)) × (result ≤ 1) }
+// The dump from a place on; nothing where there is no place.
+fn from_place(dump: &[u8], place: Option<usize>) -> &[u8]
+    ensures { result.now ≡ from_place place dump.now }
 {
-    if category_long(rest) == 0 {
-        return 0;
+    wire::behind(dump, place.unwrap_or(dump.len()))
+}
+
+// Whether the one place comes before the other; what isn't there comes last.
+fn comes_before(one: Option<usize>, other: Option<usize>) -> bool
+    ensures { result ≡ comes_before one other }
+{
+    match (one, other) {
+        (Some(one), Some(other)) => one < other,
+        (Some(_), None) => true,
+        (None, _) => false,
     }
-    1
+}
+
+// Whether a category stands at the front.
+fn stands(rest: &[u8]) -> bool
+    ensures { cond result 1 0 ≡ standing (categories rest.now) }
+{
+    category_long(rest).is_some()
 }
 
 // Whether a second category of a type stands there: more categories are of the four types than types occur.
 fn second(known: usize, fmmus: &[u8], managers: &[u8], inputs: &[u8], outputs: &[u8]) -> bool
     ensures { result ≡ more_than (categories fmmus.now) (categories managers.now) (categories inputs.now) (categories outputs.now) known }
 {
-    stands(fmmus) + stands(managers) + stands(inputs) + stands(outputs) < known
+    usize::from(stands(fmmus))
+        + usize::from(stands(managers))
+        + usize::from(stands(inputs))
+        + usize::from(stands(outputs))
+        < known
 }
 
 // A sync manager, from its record at the front.
@@ -201,31 +196,14 @@ fn manager(rest: &[u8]) -> SyncManager
 fn some_manager_unnamed(records: &[u8]) -> bool
     ensures { result ≡ some_of (λ m. ltb 4 m.usage_type) (map manager_for (parts_of manager_long records.now)) }
 {
-    let n = records.len() / 8;
-    let mut k = 0;
-    while k < n {
-        if 4 < records[8 * k + 7] {
-            return true;
-        }
-        k += 1;
-    }
-    false
+    (0..records.len() / 8).any(|k| 4 < wire::byte_at(records, 8 * k + 7))
 }
 
 // 5: whether a control has an unnamed mode or direction.
 fn some_control_unnamed(records: &[u8]) -> bool
     ensures { result ≡ some_unnamed (map manager_for (parts_of manager_long records.now)) }
 {
-    let n = records.len() / 8;
-    let mut k = 0;
-    while k < n {
-        let control = Control::unpack(records[8 * k + 4]);
-        if control.unnamed() {
-            return true;
-        }
-        k += 1;
-    }
-    false
+    (0..records.len() / 8).any(|k| Control::unpack(wire::byte_at(records, 8 * k + 4)).unnamed())
 }
 
 // The sync managers.
@@ -233,12 +211,9 @@ fn managers_of(records: &[u8]) -> [SyncManager; 16]
     requires { length records.now / 8 ≤ 16 }
     ensures { result ≡ map manager_for (parts_of manager_long records.now) ++ replicate (16 - length records.now / 8) no_manager }
 {
-    let n = records.len() / 8;
     let mut list = [sheet::NO_MANAGER; 16];
-    let mut k = 0;
-    while k < n {
+    for k in 0..records.len() / 8 {
         list[k] = manager(wire::behind(records, 8 * k));
-        k += 1;
     }
     list
 }
@@ -257,14 +232,7 @@ fn usage(byte: u8) -> u8
 fn some_usage_unnamed(bytes: &[u8]) -> bool
     ensures { result ≡ some_of (ltb 3) (map usage_for bytes.now) }
 {
-    let mut k = 0;
-    while k < bytes.len() {
-        if 3 < usage(bytes[k]) {
-            return true;
-        }
-        k += 1;
-    }
-    false
+    bytes.iter().map(|&byte| usage(byte)).any(|usage| 3 < usage)
 }
 
 // The FMMU usages.
@@ -273,19 +241,17 @@ fn usages_of(bytes: &[u8]) -> [u8; 16]
     ensures { result ≡ map usage_for bytes.now ++ replicate (16 - length bytes.now) 0 }
 {
     let mut list = [0u8; 16];
-    let mut k = 0;
-    while k < bytes.len() {
-        list[k] = usage(bytes[k]);
-        k += 1;
+    for (k, &byte) in bytes.iter().enumerate() {
+        list[k] = usage(byte);
     }
     list
 }
 
-// How long the PDO record at the front is; 0 where none stands there.
-fn pdo_long(rest: &[u8]) -> usize
-    ensures { result ≡ pdo_long rest.now }
+// How long the PDO record at the front is, where one stands there.
+fn pdo_long(rest: &[u8]) -> Option<usize>
+    ensures { LongIs (pdo_long rest.now) result }
 {
-    whole(8 + 8 * wire::wide(wire::byte_at(rest, 2)), rest)
+    whole(8 + 8 * usize::from(wire::byte_at(rest, 2)), rest)
 }
 
 // PDO records from the front on: how many stand there, and whether something is left behind the last one.
@@ -300,11 +266,9 @@ fn pdo_records(bytes: &[u8]) -> Records
 {
     let mut count = 0;
     let mut end = 0;
-    let mut long = pdo_long(bytes);
-    while 0 < long {
+    while let Some(long) = pdo_long(wire::behind(bytes, end)) {
         end += long;
         count += 1;
-        long = pdo_long(wire::behind(bytes, end));
     }
     Records {
         count,
@@ -316,25 +280,21 @@ fn pdo_records(bytes: &[u8]) -> Records
 fn bits(rest: &[u8]) -> u16
     ensures { result ≡ bits_in rest.now }
 {
-    let entries = wire::wide(wire::byte_at(rest, 2));
     let mut sum = 0;
-    let mut k = 0;
-    while k < entries {
-        sum += wire::byte_at(rest, 8 + 8 * k + 5) as u16;
-        k += 1;
+    for k in 0..usize::from(wire::byte_at(rest, 2)) {
+        sum += u16::from(wire::byte_at(rest, 8 + 8 * k + 5));
     }
     sum
 }
 
 // A PDO as a sheet has it, from its record at the front.
-fn pdo_bytes(rest: &[u8], kind: u8) -> [u8; 7]
-    requires { 0 < kind }
-    ensures { result ≡ pdo_bytes (pdo_for kind rest.now) }
+fn pdo_bytes(rest: &[u8], kind: Kind) -> [u8; 7]
+    ensures { result ≡ pdo_bytes (pdo_for (number_of kind) rest.now) }
 {
-    let index = wire::be16_bytes(word(rest));
-    let bits = wire::be16_bytes(bits(rest));
+    let index = word(rest).to_be_bytes();
+    let bits = bits(rest).to_be_bytes();
     [
-        kind,
+        kind as u8,
         wire::byte_at(rest, 3),
         index[0],
         index[1],
@@ -345,19 +305,16 @@ fn pdo_bytes(rest: &[u8], kind: u8) -> [u8; 7]
 }
 
 // Stores PDOs as a sheet has them, from a place on, and answers where they end.
-fn put_pdos(bytes: &[u8], kind: u8, room: &mut [u8], to: usize) -> usize
-    requires { (0 < kind) × (to + 7 * length (parts_of pdo_long bytes.now) ≤ length room.old) }
-    ensures { (result ≡ to + 7 * length (parts_of pdo_long bytes.now)) × (room.new ≡ stored_at to (flat (map pdo_bytes (pdos_for kind bytes.now))) room.old) }
+fn put_pdos(bytes: &[u8], kind: Kind, room: &mut [u8], to: usize) -> usize
+    requires { to + 7 * length (parts_of pdo_long bytes.now) ≤ length room.old }
+    ensures { (result ≡ to + 7 * length (parts_of pdo_long bytes.now)) × (room.new ≡ stored_at to (flat (map pdo_bytes (pdos_for (number_of kind) bytes.now))) room.old) }
 {
     let mut at = 0;
     let mut place = to;
-    let mut long = pdo_long(bytes);
-    while 0 < long {
-        let rest = wire::behind(bytes, at);
-        area::store(&pdo_bytes(rest, kind), room, place);
+    while let Some(long) = pdo_long(wire::behind(bytes, at)) {
+        area::store(&pdo_bytes(wire::behind(bytes, at), kind), room, place);
         at += long;
         place += 7;
-        long = pdo_long(wire::behind(bytes, at));
     }
     place
 }
@@ -366,22 +323,13 @@ fn put_pdos(bytes: &[u8], kind: u8, room: &mut [u8], to: usize) -> usize
 fn not_records(twice: bool, records: &[u8], inputs_cut: bool, outputs_cut: bool) -> bool
     ensures { result ≡ twice || (nonempty (rest_of manager_long records.now) || (inputs_cut || outputs_cut)) }
 {
-    if twice {
-        return true;
-    }
-    if records.len() % 8 != 0 {
-        return true;
-    }
-    if inputs_cut {
-        return true;
-    }
-    outputs_cut
+    twice || records.len() % 8 != 0 || inputs_cut || outputs_cut
 }
 
 // Stores the PDOs of two categories, the one's behind the other's, from the front of the room on.
-fn put_both(first: &[u8], kind: u8, last: &[u8], other: u8, room: &mut [u8])
-    requires { (0 < kind) × (0 < other) × (7 * (length (parts_of pdo_long first.now) + length (parts_of pdo_long last.now)) ≤ length room.old) }
-    ensures { room.new ≡ over (flat (map pdo_bytes (pdos_for kind first.now ++ pdos_for other last.now))) room.old }
+fn put_both(first: &[u8], kind: Kind, last: &[u8], other: Kind, room: &mut [u8])
+    requires { 7 * (length (parts_of pdo_long first.now) + length (parts_of pdo_long last.now)) ≤ length room.old }
+    ensures { room.new ≡ over (flat (map pdo_bytes (pdos_for (number_of kind) first.now ++ pdos_for (number_of other) last.now))) room.old }
 {
     let next = put_pdos(first, kind, room, 0);
     put_pdos(last, other, room, next);
@@ -395,32 +343,22 @@ fn put_records(inputs_first: bool, inputs: &[u8], outputs: &[u8], room: &mut [u8
     let tx = content(inputs);
     let rx = content(outputs);
     if inputs_first {
-        put_both(tx, INPUT, rx, OUTPUT, room);
-        return;
+        put_both(tx, Kind::Input, rx, Kind::Output, room);
+    } else {
+        put_both(rx, Kind::Output, tx, Kind::Input, room);
     }
-    put_both(rx, OUTPUT, tx, INPUT, room);
 }
 
 // 4: whether another rule of the sheet is broken.
 fn rule_broken(flags: u8, records: &[u8], usages: &[u8], p: usize) -> bool
     ensures { result ≡ rule_broken flags (map manager_for (parts_of manager_long records.now)) (map usage_for usages.now) p }
 {
-    if 7 < flags {
-        return true;
-    }
-    if 16 < records.len() / 8 {
-        return true;
-    }
-    if 16 < usages.len() {
-        return true;
-    }
-    if 255 < p {
-        return true;
-    }
-    if some_manager_unnamed(records) {
-        return true;
-    }
-    some_usage_unnamed(usages)
+    7 < flags
+        || 16 < records.len() / 8
+        || 16 < usages.len()
+        || 255 < p
+        || some_manager_unnamed(records)
+        || some_usage_unnamed(usages)
 }
 
 // The record of what a dump holds.
@@ -432,8 +370,8 @@ fn device_of(head: Head, records: &[u8], usages: &[u8], p: u8) -> Device
         has_mailbox: wire::flag(head.flags, 0),
         coe_protocol: wire::flag(head.flags, 1),
         complete_access: wire::flag(head.flags, 2),
-        receive_size: ByteLen(head.receive_size.0),
-        send_size: ByteLen(head.send_size.0),
+        receive_size: head.receive_size,
+        send_size: head.send_size,
         managers: managers_of(records),
         n: records.len() / 8,
         usages: usages_of(usages),
@@ -445,54 +383,51 @@ fn device_of(head: Head, records: &[u8], usages: &[u8], p: u8) -> Device
 
 // Reads a dump: device data, with what the caller gives, its PDO records written into the room from its front on. 16: a category runs past the dump,
 // or there is no end mark; 17: a category isn't whole records, or is a second one of its type; 4 and 5: as of a sheet; 12: the room is too short.
-pub fn read(dump: &[u8], head: Head, room: &mut [u8]) -> SheetRead
+pub fn read(dump: &[u8], head: Head, room: &mut [u8]) -> Result<Device, Reason>
     ensures { ReadsDump head dump.now room.old result room.new }
 {
     let found = find(dump);
     if !marked(wire::behind(dump, found.end)) {
-        return sheet::refused(16);
+        return Err(Reason::DumpCutShort);
     }
-    let fmmus = wire::behind(dump, found.fmmus);
-    let managers = wire::behind(dump, found.managers);
-    let inputs = wire::behind(dump, found.inputs);
-    let outputs = wire::behind(dump, found.outputs);
+    let fmmus = from_place(dump, found.fmmus);
+    let managers = from_place(dump, found.managers);
+    let inputs = from_place(dump, found.inputs);
+    let outputs = from_place(dump, found.outputs);
     let usages = content(fmmus);
     let records = content(managers);
     let tx = pdo_records(content(inputs));
     let rx = pdo_records(content(outputs));
     let twice = second(found.known, fmmus, managers, inputs, outputs);
     if not_records(twice, records, tx.cut, rx.cut) {
-        return sheet::refused(17);
+        return Err(Reason::DumpRecords);
     }
     let p = tx.count + rx.count;
     if rule_broken(head.flags, records, usages, p) {
-        return sheet::refused(4);
+        return Err(Reason::SheetRule);
     }
     if some_control_unnamed(records) {
-        return sheet::refused(5);
+        return Err(Reason::UnnamedControl);
     }
     if room.len() < 7 * p {
-        return sheet::refused(12);
+        return Err(Reason::RoomTooShort);
     }
-    put_records(found.inputs < found.outputs, inputs, outputs, room);
-    SheetRead {
-        answer: Answer::Accepted,
-        device: device_of(head, records, usages, p as u8),
-    }
+    put_records(
+        comes_before(found.inputs, found.outputs),
+        inputs,
+        outputs,
+        room,
+    );
+    Ok(device_of(head, records, usages, p as u8))
 }
 
 // Writes a dump's sheet into the room, whole or not at all, and answers its length; 1,892 bytes are always enough. It is refused as reading is, with
 // 12 where the room is too short for the sheet.
-pub fn write_sheet(dump: &[u8], head: Head, room: &mut [u8]) -> Written
+pub fn write_sheet(dump: &[u8], head: Head, room: &mut [u8]) -> Result<usize, Reason>
     ensures { WritesSheet head dump.now room.old result room.new }
 {
     // 255 PDOs are the most, of 7 bytes each
     let mut records = [0u8; 1785];
-    let got = read(dump, head, &mut records);
-    let answer = got.answer;
-    let device = got.device;
-    match answer {
-        Answer::Refused(number) => Written::Refused(number),
-        Answer::Accepted => writer::write(device, &records, room),
-    }
+    let device = read(dump, head, &mut records)?;
+    writer::write(device, &records, room)
 }

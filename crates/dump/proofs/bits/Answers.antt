@@ -10,11 +10,9 @@ use Rattle.dump.proofs.bits.Goals as goal
 
 pub loop-k-init : goal.loop-k-init
 unfolding list_of
-loop-k-init c = (omega arith, refl, omega arith)
+loop-k-init c = (refl, omega arith)
 
 pub loop-k-preserved : goal.loop-k-preserved
 loop-k-preserved c =
-    let l = c.loop-k in
-    let a = c.args in
-    let s = sum-next (λ j. get_or a.rest.now (8 + 8 * j + 5) 0) l.k in
-    (omega arith, omega arith, omega arith)
+    let s = sum-next (λ j. get_or c.args.rest.now (8 + 8 * j + 5) 0) c.loop-k.k in
+    (omega arith, omega arith)

@@ -15,17 +15,17 @@ use Rattle.dump.proofs.managers_of.Goals as goal
 
 pub loop-k-init : goal.loop-k-init
 unfolding list_of control_at
-loop-k-init c = (omega arith, refl)
+loop-k-init c = refl
 
 pub loop-k-preserved : goal.loop-k-preserved
 loop-k-preserved c =
     let l = c.loop-k in
     let s = c.args.records.now in
     let m = c.manager.ensures ∙ ap manager_for c.behind.ensures in
-    (omega arith, ap (set l.list l.k) m ∙ filled (nth_manager s) no_manager 16 l.k l.list (omega arith) l.invariant.1)
+    ap (set l.list l.k) m ∙ filled (nth_manager s) no_manager 16 l.k l.list (omega arith) l.invariant
 
 pub returns : goal.returns
 returns c =
     let l = c.loop-k in
     let s = c.args.records.now in
-    filled-end (nth_manager s) no_manager l.k (length s / 8) (omega arith) (managers-numbered s) l.invariant.1
+    filled-end (nth_manager s) no_manager l.k (length s / 8) (omega arith) (managers-numbered s) l.invariant

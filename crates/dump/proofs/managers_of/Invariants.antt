@@ -2,7 +2,7 @@
 -- Assumes nothing.
 use mathlib.Core.Path.{◌≡◌}
 use mathlib.Core.List.{◌++◌}
-use Prim.Native.Nat.{◌-◌, ◌≤◌}
+use Prim.Native.Nat.{◌-◌}
 use lib.ListN.{replicate}
 use Rattle.wire.specs.Lists.{list_of}
 use Rattle.sheet.specs.Sheet.{no_manager}
@@ -10,7 +10,4 @@ use Rattle.dump.proofs.Managers.{nth_manager}
 use Rattle.dump.proofs.managers_of.Given as goal
 
 abbrev pub invariant-loop-k : goal.invariant-loop-k
-invariant-loop-k l = (l.k ≤ l.n) × (l.list ≡ list_of (nth_manager l.records) l.k ++ replicate (16 - l.k) no_manager)
-
-abbrev pub decreases-loop-k : goal.decreases-loop-k
-decreases-loop-k l = l.n - l.k
+invariant-loop-k l = l.list ≡ list_of (nth_manager l.records) l.k ++ replicate (16 - l.k) no_manager

@@ -1,13 +1,12 @@
--- `dump::not_records`: the first test that holds says it.
+-- `dump::not_records`: something stands behind the last sync manager exactly if a remainder is left.
 -- Assumes nothing.
-use mathlib.Core.Path.{refl}
-use Rattle.dump.proofs.Managers.{managers-cut, managers-whole}
+use Rattle.std.proofs.Common.{arith}
+use Rattle.std.proofs.lemmas.Grind.{common_steps}
+use Rattle.dump.proofs.Managers.{managers-cut}
 use Rattle.dump.proofs.not_records.Goals as goal
 
-pub returns-then-records-ne0 : goal.returns-then-records-ne0
-returns-then-records-ne0 c = let l = c.args.records.now in rw (c.if-twice.false, managers-cut {l = l} {m = l} refl c.if-records-ne0.true)
+pub returns-then-inputs_cut : goal.returns-then-inputs_cut
+returns-then-inputs_cut c = rw (managers-cut c.args.records.now) (grind (arith, common_steps))
 
-pub returns : goal.returns
-returns c =
-    let l = c.args.records.now in
-    rw (c.if-twice.false, managers-whole {l = l} {m = l} refl c.if-records-ne0.false, c.if-inputs_cut.false)
+pub returns-else-inputs_cut : goal.returns-else-inputs_cut
+returns-else-inputs_cut c = rw (managers-cut c.args.records.now) (grind (arith, common_steps))

@@ -30,7 +30,7 @@ module _ (first : Bool) (inputs outputs : List (List ℕ)) (room : List ℕ) {tx
 pub put_both-requires : goal.put_both-requires
 put_both-requires c =
     let a = c.args in
-    (omega arith, omega arith, enough a.inputs_first (categories a.inputs.now) (categories a.outputs.now) a.room.now c.content-tx.ensures c.content-rx.ensures c.requires)
+    enough a.inputs_first (categories a.inputs.now) (categories a.outputs.now) a.room.now c.content-tx.ensures c.content-rx.ensures c.requires
 
 pub returns-then-inputs_first : goal.returns-then-inputs_first
 returns-then-inputs_first c =
@@ -38,14 +38,14 @@ returns-then-inputs_first c =
     c.put_both.ensures
     ∙ stored a.inputs_first (categories a.inputs.now) (categories a.outputs.now) a.room.now c.content-tx.ensures c.content-rx.ensures true c.if-inputs_first.true
 
-pub put_both-requires-2 : goal.put_both-requires-2
-put_both-requires-2 c =
+pub put_both-requires-else-inputs_first : goal.put_both-requires-else-inputs_first
+put_both-requires-else-inputs_first c =
     let a = c.args in
     let e = enough a.inputs_first (categories a.inputs.now) (categories a.outputs.now) a.room.now c.content-tx.ensures c.content-rx.ensures c.requires in
-    (omega arith, omega arith, omega (arith, e))
+    omega (arith, e)
 
-pub returns : goal.returns
-returns c =
+pub returns-else-inputs_first : goal.returns-else-inputs_first
+returns-else-inputs_first c =
     let a = c.args in
-    c.put_both-2.ensures
+    c.put_both-else-inputs_first.ensures
     ∙ stored a.inputs_first (categories a.inputs.now) (categories a.outputs.now) a.room.now c.content-tx.ensures c.content-rx.ensures false c.if-inputs_first.false

@@ -21,7 +21,7 @@ use Rattle.dump.specs.Parts.{parts_of, rest_of}
 use Rattle.dump.specs.Records.{usage_for, manager_long, manager_for, pdo_long, pdos_in, nonempty, not_records}
 use Rattle.dump.specs.Dump.{manager_records, usages_for, dump_data, rule_broken, device_with}
 use Rattle.dump.specs.Calls.{InRange}
-use Rattle.dump.specs.Looked.{pdos_from}
+use Rattle.dump.specs.Looked.{comes_before, pdos_from}
 use Rattle.dump.proofs.Placed.{pdos-counted}
 use Rattle.dump.proofs.Managers.{managers-many}
 use Rattle.dump.proofs.Kept.{keeps-rule, dump-keeps}
@@ -56,14 +56,14 @@ module _ (c : After-second-twice) where
   ended : unended dump ≡ false
   ended = end_marked dump (c.behind.ensures ∙ c.find-found.ensures.end) c.marked.ensures c.if-not-marked.false
 
-  found : Found categories-at c.behind-fmmus.result.now c.behind-managers.result.now c.behind-inputs.result.now c.behind-outputs.result.now
+  found : Found categories-at c.from_place-fmmus.result.now c.from_place-managers.result.now c.from_place-inputs.result.now c.from_place-outputs.result.now
   found =
       let f = c.find-found.ensures in
       record {
-        fmmus_from = ap categories c.behind-fmmus.ensures ∙ f.fmmus;
-        managers_from = ap categories c.behind-managers.ensures ∙ f.managers;
-        inputs_from = ap categories c.behind-inputs.ensures ∙ f.inputs;
-        outputs_from = ap categories c.behind-outputs.ensures ∙ f.outputs;
+        fmmus_from = ap categories c.from_place-fmmus.ensures ∙ f.fmmus;
+        managers_from = ap categories c.from_place-managers.ensures ∙ f.managers;
+        inputs_from = ap categories c.from_place-inputs.ensures ∙ f.inputs;
+        outputs_from = ap categories c.from_place-outputs.ensures ∙ f.outputs;
       }
 
   -- the four contents
@@ -99,23 +99,25 @@ module _ (c : After-second-twice) where
   abbrev count : ℕ
   count = c.pdo_records-tx.result.count + c.pdo_records-rx.result.count
 
-  abbrev pdos : List Pdo
-  pdos = pdos_from (ltb c.find-found.result.inputs c.find-found.result.outputs) (categories c.behind-inputs.result.now) (categories c.behind-outputs.result.now)
+  abbrev pdos : Bool → List Pdo
+  pdos b = pdos_from b (categories c.from_place-inputs.result.now) (categories c.from_place-outputs.result.now)
 
-  counted : count ≡ length pdos
-  counted =
+  abbrev inputs_first : Bool
+  inputs_first = comes_before c.find-found.result.inputs c.find-found.result.outputs
+
+  counted : (b : Bool) → count ≡ length (pdos b)
+  counted b =
       let many : List ℕ → ℕ = λ l. length (parts_of pdo_long l) in
-      let r = c.find-found.result in
       ap₂ ◌+◌ (c.pdo_records-tx.ensures.0 ∙ ap many c.content.ensures) (c.pdo_records-rx.ensures.0 ∙ ap many c.content-2.ensures)
-      ∙ sym (pdos-counted (ltb r.inputs r.outputs) (categories c.behind-inputs.result.now) (categories c.behind-outputs.result.now))
+      ∙ sym (pdos-counted b (categories c.from_place-inputs.result.now) (categories c.from_place-outputs.result.now))
 
   -- where 17 isn't given
   module _ (whole : not_records categories-at ≡ false) where
-    pdos-at : pdos ≡ pdos_in categories-at
+    pdos-at : pdos inputs_first ≡ pdos_in categories-at
     pdos-at = pdos-are found c.find-found.ensures.order whole
 
     count_at : count ≡ length (pdos_in categories-at)
-    count_at = counted ∙ ap length pdos-at
+    count_at = counted inputs_first ∙ ap length pdos-at
 
     -- 4
     rule : {r b : Bool} → r ≡ rule_broken head.flags (map manager_for (parts_of manager_long managers)) (map usage_for usages) count → r ≡ b → Broken head dump room ≡ b
@@ -149,35 +151,35 @@ kept c b n = let r = in-range c in dump-keeps c.args.head c.args.dump.now r.rece
 pub returns-then-not-marked : goal.returns-then-not-marked
 returns-then-not-marked c =
     let a = c.args in
-    reads-16 a.head a.dump.now a.room.now c.refused.ensures (end_marked a.dump.now (c.behind.ensures ∙ c.find-found.ensures.end) c.marked.ensures c.if-not-marked.true)
+    reads-16 a.head a.dump.now a.room.now (end_marked a.dump.now (c.behind.ensures ∙ c.find-found.ensures.end) c.marked.ensures c.if-not-marked.true)
 
 pub returns-then-not_records : goal.returns-then-not_records
 returns-then-not_records c =
     let s = (goal.at.returns-then-not_records c).After-second-twice in
-    reads-17 (head s) (dump s) (room s) c.refused-then-not_records.ensures (ended s) (records s c.not_records.ensures c.if-not_records.true)
+    reads-17 (head s) (dump s) (room s) (ended s) (records s c.not_records.ensures c.if-not_records.true)
 
 pub returns-then-rule_broken : goal.returns-then-rule_broken
 returns-then-rule_broken c =
     let s = (goal.at.returns-then-rule_broken c).After-second-twice in
     let w = records s c.not_records.ensures c.if-not_records.false in
-    reads-4 (head s) (dump s) (room s) c.refused-then-rule_broken.ensures (ended s) w (rule s w c.rule_broken.ensures c.if-rule_broken.true)
+    reads-4 (head s) (dump s) (room s) (ended s) w (rule s w c.rule_broken.ensures c.if-rule_broken.true)
 
 pub returns-then-some_control_unnamed : goal.returns-then-some_control_unnamed
 returns-then-some_control_unnamed c =
     let s = (goal.at.returns-then-some_control_unnamed c).After-second-twice in
     let w = records s c.not_records.ensures c.if-not_records.false in
-    reads-5 (head s) (dump s) (room s) c.refused-then-some_control_unnamed.ensures (ended s) w (rule s w c.rule_broken.ensures c.if-rule_broken.false)
+    reads-5 (head s) (dump s) (room s) (ended s) w (rule s w c.rule_broken.ensures c.if-rule_broken.false)
     (controls s c.some_control_unnamed.ensures c.if-some_control_unnamed.true)
 
 pub returns-then-room-p : goal.returns-then-room-p
 returns-then-room-p c =
     let s = (goal.at.returns-then-room-p c).After-second-twice in
     let w = records s c.not_records.ensures c.if-not_records.false in
-    reads-12 (head s) (dump s) (room s) c.refused-then-room-p.ensures (ended s) w (rule s w c.rule_broken.ensures c.if-rule_broken.false)
+    reads-12 (head s) (dump s) (room s) (ended s) w (rule s w c.rule_broken.ensures c.if-rule_broken.false)
     (controls s c.some_control_unnamed.ensures c.if-some_control_unnamed.false) (short s w (lt-ltb _ _ c.if-room-p.true))
 
 pub put_records-requires : goal.put_records-requires
-put_records-requires c = omega (arith, counted (goal.at.put_records-requires c).After-second-twice, c.if-room-p.false)
+put_records-requires c = omega (arith, counted (goal.at.put_records-requires c).After-second-twice c.comes_before.result, c.if-room-p.false)
 
 pub device_of-requires : goal.device_of-requires
 device_of-requires c =
@@ -193,7 +195,7 @@ returns c =
     let b = rule s w c.rule_broken.ensures c.if-rule_broken.false in
     let n = controls s c.some_control_unnamed.ensures c.if-some_control_unnamed.false in
     let fits = short s w (le-ltb _ _ c.if-room-p.false) in
-    let stored = c.put_records.ensures ∙ ap (λ (ps : List Pdo). over (flat (map pdo_bytes ps)) (room s)) (pdos-at s w) in
+    let stored = c.put_records.ensures ∙ ap (λ (ps : List Pdo). over (flat (map pdo_bytes ps)) (room s)) (ap (pdos s) c.comes_before.ensures ∙ pdos-at s w) in
     let held =
     c.device_of.ensures
     ∙ (λ i. device_with (head s) (map manager_for (parts_of manager_long (managers-at s i))) (map usage_for (usages-at s i)) (count_at s w i)) in

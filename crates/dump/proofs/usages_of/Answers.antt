@@ -11,16 +11,15 @@ use Rattle.dump.proofs.usages_of.Goals as goal
 
 pub loop-k-init : goal.loop-k-init
 unfolding list_of
-loop-k-init c = (omega arith, refl)
+loop-k-init c = refl
 
 pub loop-k-preserved : goal.loop-k-preserved
 loop-k-preserved c =
     let l = c.loop-k in
-    let s = c.args.bytes.now in
-    (omega arith, ap (set l.list l.k) c.usage.ensures ∙ filled (usage_at s) 0 16 l.k l.list (omega arith) l.invariant.1)
+    ap (set l.list l.k) c.usage.ensures ∙ filled (usage_at c.args.bytes.now) 0 16 l.k l.list (omega arith) l.invariant
 
 pub returns : goal.returns
 returns c =
     let l = c.loop-k in
     let s = c.args.bytes.now in
-    filled-end (usage_at s) 0 l.k (length s) (omega arith) (usages-numbered s) l.invariant.1
+    filled-end (usage_at s) 0 l.k (length s) (omega arith) (usages-numbered s) l.invariant

@@ -2,14 +2,11 @@
 -- Assumes nothing.
 use mathlib.Core.Path.{◌≡◌}
 use mathlib.Core.List.{◌++◌}
-use Prim.Native.Nat.{◌-◌, ◌≤◌}
-use lib.ListN.{length, replicate}
+use Prim.Native.Nat.{◌-◌}
+use lib.ListN.{replicate}
 use Rattle.wire.specs.Lists.{list_of}
 use Rattle.dump.proofs.Usages.{usage_at}
 use Rattle.dump.proofs.usages_of.Given as goal
 
 abbrev pub invariant-loop-k : goal.invariant-loop-k
-invariant-loop-k l = (l.k ≤ length l.bytes) × (l.list ≡ list_of (usage_at l.bytes) l.k ++ replicate (16 - l.k) 0)
-
-abbrev pub decreases-loop-k : goal.decreases-loop-k
-decreases-loop-k l = length l.bytes - l.k
+invariant-loop-k l = l.list ≡ list_of (usage_at l.bytes) l.k ++ replicate (16 - l.k) 0
