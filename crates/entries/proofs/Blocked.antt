@@ -7,8 +7,8 @@ use mathlib.Core.Logic.{inl}
 use Prim.Native.Nat.{ℕ, ◌+◌, ◌<◌, ◌≤◌, min}
 use native.Mathlib.Omega.{arith}
 use lib.ListN.{length, get_or, drop, length-map, get_or-eq_default}
+use Rattle.std.specs.Prelude.{Option, Some, None}
 use Rattle.wire.specs.Lists.{some_of}
-use Rattle.wire.proofs.Lists.{at_none}
 use Rattle.pdi.specs.declared.ByteLen.{ByteLen}
 use Rattle.fmmu.specs.Image.{fields_of}
 use Rattle.sheet.specs.declared.SyncManager.{SyncManager}
@@ -25,13 +25,13 @@ use Rattle.passes.specs.Use.{Use}
 use Rattle.passes.specs.Handed.{uses_by, Short}
 use Rattle.passes.specs.Entries.{length_now, too_long, uses_of_both}
 use Rattle.passes.specs.Old.{cleared_of_both, both_bits, some_enabled, in_the_way}
-use Rattle.passes.proofs.Cleared.{nil-off, zeros-all-off, none-used, cleared_at, length-off, cleared-short, from_zero, cleared-eight}
-use Rattle.entries.specs.Lay.{takes_entry, entry_taken}
-use Rattle.entries.specs.Ready.{on, zero_entries, ready, Clears, Readies}
-use Rattle.entries.proofs.Uses.{uses_at, uses-end, uses-other, uses-skip, uses-next}
+use Rattle.passes.proofs.Cleared.{zeros-all-off, cleared_at, length-off, cleared-short, from_zero, cleared-eight}
+use Rattle.entries.specs.Lay.{entry_taken}
+use Rattle.entries.specs.Ready.{on, zero_entries, ready, Readies}
+use Rattle.entries.proofs.Uses.{uses_at, uses-end, uses-other, with_taken, uses-taken}
 
 -- a number past the last one is no entry
-pub past_off : (es : List (List ℕ)) (k : ℕ) → length es ≡ 16 → 15 < k → false ≡ on (get_or es k [])
+pub past_off : (es : List (List ℕ)) (k : ℕ) → length es ≡ 16 → 16 ≤ k → false ≡ on (get_or es k [])
 unfolding fields_of
 past_off es k many h = ap on (sym (get_or-eq_default es [] (omega arith)))
 
@@ -57,31 +57,33 @@ module _ {sheet : List ℕ} {route : Route} {sizes : List ByteLen} {usage : ℕ}
   pub none-enabled : min (manager_count sheet) 16 ≤ k → Asked false
   none-enabled h = answered (sym (ap (λ (us : List Use). some_enabled us es) (uses-end route sizes usage (managers_in sheet) k (front-over sheet k h))) ∙ y.same)
 
-  module _ (h : k < manager_count sheet) (g : k < 16) where
+  module _ (h : k < min (manager_count sheet) 16) where
     abbrev m : SyncManager
     m = manager_at sheet (manager_place k)
 
     next : drop k (managers_in sheet) ≡ m ∷ drop (k + 1) (managers_in sheet)
-    next = front-manager sheet k h g
+    next = front-manager sheet k (omega arith) (omega arith)
 
     passes_over : uses_at route sizes usage (managers_in sheet) k ≡ uses_at route sizes usage (managers_in sheet) (k + 1) → NoneYet sheet route sizes usage es (k + 1)
     passes_over e = record { same = ap (λ (us : List Use). some_enabled us es) (sym e) ∙ y.same }
 
-    -- of another usage; it takes no entry
+    -- of another usage
     pub other-passed : (m.usage_type ≡ usage → ⊥) → NoneYet sheet route sizes usage es (k + 1)
     other-passed d = passes_over (uses-other route sizes usage (managers_in sheet) k m next d)
 
     module _ (used : m.usage_type ≡ usage) {size : ℕ} (s : size ≡ size_at sizes k) where
-      pub skip-passed : takes_entry route size ≡ false → NoneYet sheet route sizes usage es (k + 1)
-      skip-passed t = passes_over (uses-skip route sizes usage (managers_in sheet) k m next used (sym (ap (takes_entry route) s) ∙ t))
+      taken : {t : Option ℕ} → entry_taken route k size ≡ t
+          → uses_at route sizes usage (managers_in sheet) k ≡ with_taken t (size_at sizes k) m.start_addr (uses_at route sizes usage (managers_in sheet) (k + 1))
+      taken t = uses-taken route sizes usage (managers_in sheet) k m next used (sym (ap (entry_taken route k) s) ∙ t)
+
+      -- it takes no entry
+      pub skip-passed : entry_taken route k size ≡ None → NoneYet sheet route sizes usage es (k + 1)
+      skip-passed t = passes_over (taken t)
 
       -- its entry is enabled, or not
-      module _ (t : takes_entry route size ≡ true) {e : ℕ} (q : e ≡ entry_taken route k) where
+      module _ {e : ℕ} (t : entry_taken route k size ≡ Some e) where
         asked : on (get_or es e []) || enabled_from sheet route sizes usage es (k + 1) ≡ enabled_from sheet route sizes usage es 0
-        asked =
-            ap (λ (i : ℕ). on (get_or es i []) || enabled_from sheet route sizes usage es (k + 1)) q
-            ∙ ap (λ (us : List Use). some_enabled us es) (sym (uses-next route sizes usage (managers_in sheet) k m next used (sym (ap (takes_entry route) s) ∙ t)))
-            ∙ y.same
+        asked = ap (λ (us : List Use). some_enabled us es) (sym (taken t)) ∙ y.same
 
         pub enabled-found : on (get_or es e []) ≡ true → Asked true
         enabled-found o = answered (sym (ap (λ (b : Bool). b || enabled_from sheet route sizes usage es (k + 1)) o) ∙ asked)
@@ -102,39 +104,32 @@ pub by-inputs :
     (uses : PdoDirection → List Use) (es : List (List ℕ)) {b : Bool} → some_enabled (uses MasterRead) es ≡ b → b || some_enabled (uses MasterWrite) es ≡ some_enabled (uses_of_both uses) es
 by-inputs uses es e = ap (λ (b : Bool). b || some_enabled (uses MasterWrite) es) (sym e) ∙ of_two (uses MasterRead) (uses MasterWrite) es
 
--- clearing leaves as many
-pub cleared-many : {before after : List (List ℕ)} {enabled both : Bool} → Clears before after enabled both → length before ≡ 16 → length after ≡ 16
-cleared-many {before} c many = ap length c.holds ∙ length-map before cleared_of_both ∙ many
-
 -- the entries as they are made ready
 module _ {old : OldEntries} (us : List Use) (before : List (List ℕ)) where
   pub keeps : old ≡ Keep → Readies old us before before false
   unfolding in_the_way
   keeps is = subst (λ (o : OldEntries). Readies o us before before false) (sym is) (record { says = refl; holds = refl })
 
-  module _ (is : old ≡ Clear) {after : List (List ℕ)} {enabled both : Bool} (c : Clears before after enabled both) where
-    by_both : (x y : Bool) → some_of both_bits before ≡ x → some_enabled us (map cleared_of_both before) ≡ y → in_the_way Clear us before ≡ x || y
+  -- what is in the way once they are cleared
+  module _ (is : old ≡ Clear) {two : Bool} (t : two ≡ some_of both_bits before) {after : List (List ℕ)} (holds : after ≡ map cleared_of_both before) where
+    made : {now : List (List ℕ)} {b : Bool} → b ≡ some_of both_bits before || some_enabled us (map cleared_of_both before) → now ≡ cond b zero_entries (map cleared_of_both before) → Readies old us before now b
     unfolding in_the_way
-    by_both x y e f = λ i. e i || f i
-
-    made : {now : List (List ℕ)} {b : Bool} → in_the_way Clear us before ≡ b → now ≡ cond b zero_entries (map cleared_of_both before) → Readies old us before now b
     made {now} {b} w h =
         subst (λ (o : OldEntries). Readies o us before now b) (sym is)
-        (record { says = sym w; holds = h ∙ ap (λ (x : Bool). cond x zero_entries (map cleared_of_both before)) (sym w) })
+        (record { says = w; holds = h ∙ ap (λ (x : Bool). cond x zero_entries (map cleared_of_both before)) w })
 
-    -- none is enabled any more; none that is wanted
-    pub all-off : both ≡ false → enabled ≡ false → Readies old us before after false
-    all-off b e = made (by_both false false (sym c.twice ∙ b) (none-used us (map cleared_of_both before) (at_none on (map cleared_of_both before) [] nil-off (sym c.some ∙ e)))) c.holds
+    wanted : {b : Bool} → some_enabled us after ≡ b → b ≡ some_enabled us (map cleared_of_both before)
+    wanted e = sym e ∙ ap (some_enabled us) holds
 
-    pub none-wanted : both ≡ false → some_enabled us after ≡ false → Readies old us before after false
-    none-wanted b e = made (by_both false false (sym c.twice ∙ b) (sym (ap (some_enabled us) c.holds) ∙ e)) c.holds
+    -- one with both bits; one that is wanted; none
+    pub both-blocks : two ≡ true → Readies old us before zero_entries true
+    both-blocks b = made (ap (λ (x : Bool). x || some_enabled us (map cleared_of_both before)) (sym b ∙ t)) refl
 
-    -- one with both bits; one that is wanted
-    pub both-blocks : both ≡ true → Readies old us before zero_entries true
-    both-blocks b = made (by_both true _ (sym c.twice ∙ b) refl) refl
+    pub wanted-blocks : two ≡ false → some_enabled us after ≡ true → Readies old us before zero_entries true
+    wanted-blocks b e = made (λ i. (sym b ∙ t) i || wanted e i) refl
 
-    pub wanted-blocks : both ≡ false → some_enabled us after ≡ true → Readies old us before zero_entries true
-    wanted-blocks b e = made (by_both false true (sym c.twice ∙ b) (sym (ap (some_enabled us) c.holds) ∙ e)) refl
+    pub none-blocks : two ≡ false → some_enabled us after ≡ false → Readies old us before after false
+    none-blocks b e = made (λ i. (sym b ∙ t) i || wanted e i) holds
 
 short-zeros : Short zero_entries
 short-zeros = record { many = refl; short = λ k h. (let z = length-off (get_or zero_entries k []) (zeros-all-off 16 k) in omega arith) }

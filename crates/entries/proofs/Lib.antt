@@ -4,7 +4,6 @@ pub mod Entry
 pub mod Laying
 pub mod Turn
 pub mod Outputs
-pub mod Standing
 pub mod Clearing
 pub mod Blocked
 pub mod Decided

@@ -1,26 +1,24 @@
 -- A turn of the loop over the sheet's sync managers: one of another usage, one that takes no entry, one that is laid.
 -- Assumes nothing.
 use mathlib.Core.Path.{◌≡◌, refl, sym, ◌∙◌, ap}
-use mathlib.Core.Bool.{true, false}
 use mathlib.Core.List.{List, ◌∷◌}
 use Prim.Native.Nat.{ℕ, ◌+◌, ◌*◌, ◌%◌, ◌<◌, ◌≤◌, min}
 use native.Mathlib.Omega.{arith}
 use lib.ListN.{drop}
+use Rattle.std.specs.Prelude.{Option, Some, None, Result, Ok, Err}
+use Rattle.wire.specs.Outcome.{refused, accepted, number_of}
+use Rattle.wire.specs.declared.Reason.{Reason}
 use Rattle.pdi.specs.declared.ByteLen.{ByteLen}
 use Rattle.sheet.specs.declared.SyncManager.{SyncManager}
-use Rattle.sheet.specs.declared.Answer.{Answer}
-use Rattle.sheet.specs.declared.Answer.TheVariants as answer
-use Rattle.sheet.specs.Sheet.{manager_count, manager_place, manager_at, managers_in, answer_of}
+use Rattle.sheet.specs.Sheet.{manager_count, manager_place, manager_at, managers_in}
 use Rattle.sheet.proofs.Managers.{front-manager, front-over}
 use Rattle.pdo.specs.declared.PdoDirection.{PdoDirection}
 use Rattle.pdo.specs.Direction.{usage_of}
 use Rattle.channels.specs.Channels.{size_at}
 use Rattle.passes.specs.declared.Route.{Route}
 use Rattle.passes.specs.Handed.{uses_by, Short}
-use Rattle.entries.specs.declared.Laid.{Laid}
-use Rattle.entries.specs.declared.Laid.TheVariants.{End, Refused}
-use Rattle.entries.specs.Lay.{takes_entry, entry_taken, use_at, laid_one, Lays}
-use Rattle.entries.proofs.Uses.{uses_at, uses-end, uses-other, uses-skip, uses-next}
+use Rattle.entries.specs.Lay.{entry_taken, use_at, laid_one, Lays}
+use Rattle.entries.proofs.Uses.{uses_at, uses-end, uses-other, with_taken, uses-taken}
 use Rattle.entries.proofs.Laying.{Laying, laying-starts, laying-at, laying-ends, laying-stops, laying-turns}
 
 -- before the turn with the number k: where the next use begins, and what is still to be laid
@@ -46,19 +44,19 @@ module _ {sheet : List ℕ} {route : Route} {sizes : List ByteLen} {r : PdoDirec
   turn_at e n = record { low = (let h = l.low in omega arith); laying = laying-at l.laying refl e n }
 
   -- what is laid in the end
-  abbrev Told : Laid → List (List ℕ) → Type 0
+  abbrev Told : Result ℕ Reason → List (List ℕ) → Type 0
   Told said es = Lays r offset (uses_by route sizes r ms) before said es
 
   -- after the last
-  pub turn_end : k ≤ 16 → min (manager_count sheet) 16 ≤ k → Told (End end) now
+  pub turn_end : k ≤ 16 → min (manager_count sheet) 16 ≤ k → Told (Ok end) now
   turn_end f h = record { says = laying-ends l.laying (uses-end route sizes (usage_of r) ms k (front-over sheet k h)); near = (let o = l.low in omega arith) }
 
-  module _ (h : k < manager_count sheet) (g : k < 16) where
+  module _ (h : k < min (manager_count sheet) 16) where
     abbrev m : SyncManager
     m = manager_at sheet (manager_place k)
 
     next : drop k ms ≡ m ∷ drop (k + 1) ms
-    next = front-manager sheet k h g
+    next = front-manager sheet k (omega arith) (omega arith)
 
     passes_over : uses_at route sizes (usage_of r) ms k ≡ uses_at route sizes (usage_of r) ms (k + 1) → Next end now
     passes_over e = record { low = (let o = l.low in omega arith); laying = laying-at l.laying e refl refl }
@@ -68,20 +66,20 @@ module _ {sheet : List ℕ} {route : Route} {sizes : List ByteLen} {r : PdoDirec
     turn-other d = passes_over (uses-other route sizes (usage_of r) ms k m next d)
 
     module _ (used : m.usage_type ≡ usage_of r) {size : ℕ} (s : size ≡ size_at sizes k) where
-      -- it takes no entry
-      pub turn-skip : takes_entry route size ≡ false → Next end now
-      turn-skip t = passes_over (uses-skip route sizes (usage_of r) ms k m next used (sym (ap (takes_entry route) s) ∙ t))
+      taken : {t : Option ℕ} → entry_taken route k size ≡ t → uses_at route sizes (usage_of r) ms k ≡ with_taken t (size_at sizes k) m.start_addr (uses_at route sizes (usage_of r) ms (k + 1))
+      taken t = uses-taken route sizes (usage_of r) ms k m next used (sym (ap (entry_taken route k) s) ∙ t)
 
-      module _ (t : takes_entry route size ≡ true) {e at : ℕ} (q : e ≡ entry_taken route k) (p : at ≡ m.start_addr) (x : Answer) (after : List (List ℕ)) where
+      -- it takes no entry
+      pub turn-skip : entry_taken route k size ≡ None → Next end now
+      turn-skip t = passes_over (taken t)
+
+      module _ {e at : ℕ} (t : entry_taken route k size ≡ Some e) (p : at ≡ m.start_addr) where
         left : uses_at route sizes (usage_of r) ms k ≡ use_at e size at ∷ uses_at route sizes (usage_of r) ms (k + 1)
-        left =
-            uses-next route sizes (usage_of r) ms k m next used (sym (ap (takes_entry route) s) ∙ t)
-            ∙ (λ i. use_at (sym q i) (sym s i) (sym p i) ∷ uses_at route sizes (usage_of r) ms (k + 1))
+        left = taken t ∙ (λ i. use_at e (sym s i) (sym p i) ∷ uses_at route sizes (usage_of r) ms (k + 1))
 
         -- 8, or laid
-        pub turn-stops : (start n : ℕ) → answer_of x after ≡ laid_one r start (use_at e size at) now → x ≡ answer.Refused n → Told (Refused n) after
-        turn-stops start n d is = record { says = laying-stops l.laying left start n (sym (ap (λ (y : Answer). answer_of y after) is) ∙ d); near = omega arith }
+        pub turn-stops : (after : List (List ℕ)) (start : ℕ) (n : Reason) → refused (number_of n) ≡ laid_one r start (use_at e size at) now → Told (Err n) after
+        turn-stops after start n d = record { says = laying-stops l.laying left start _ d; near = omega arith }
 
-        pub turn-laid : answer_of x after ≡ laid_one r (end % 4294967296) (use_at e size at) now → x ≡ answer.Accepted → size ≤ 65535 → Next (end + size) after
-        turn-laid d is f =
-            record { low = (let o = l.low in omega arith); laying = laying-turns l.laying left (sym (ap (λ (y : Answer). answer_of y after) is) ∙ d) refl }
+        pub turn-laid : {after : List (List ℕ)} → accepted after ≡ laid_one r (end % 4294967296) (use_at e size at) now → size ≤ 65535 → Next (end + size) after
+        turn-laid d f = record { low = (let o = l.low in omega arith); laying = laying-turns l.laying left d refl }

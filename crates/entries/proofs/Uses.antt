@@ -8,26 +8,38 @@ use native.Mathlib.Numerals.{add-one}
 use lib.ListN.{drop}
 use lib.Dec.{eqb, ltb}
 use borrow.Author.Tests.{eq-eqb, ne_eqb}
+use Rattle.std.specs.Prelude.{Option, Some, None}
 use Rattle.pdi.specs.declared.ByteLen.{ByteLen}
 use Rattle.sheet.specs.declared.SyncManager.{SyncManager}
 use Rattle.pdo.specs.Bits.{Piece, pieces_from}
 use Rattle.channels.specs.Channels.{size_at}
 use Rattle.passes.specs.declared.Route.{Route}
+use Rattle.passes.specs.declared.Route.TheVariants.{Own, Given}
 use Rattle.passes.specs.Use.{Use, own, given}
 use Rattle.passes.specs.Handed.{entry_by, by_route}
-use Rattle.passes.proofs.Pieces.{some_bytes, bytes_back, on_entries}
-use Rattle.entries.specs.Lay.{takes_entry, entry_taken, use_at}
+use Rattle.passes.proofs.Pieces.{some_bytes, bytes_back}
+use Rattle.entries.specs.Lay.{entry_taken, use_at}
+
+-- the uses with that of a sync manager in front, if it takes an entry
+abbrev pub with_taken : Option ℕ → ℕ → ℕ → List Use → List Use
+with_taken None size at us = us
+with_taken (Some e) size at us = use_at e size at ∷ us
 
 -- what one piece adds to the uses: eight bits for each byte are as many bytes, and some exactly if those are
 one-use :
-    (mine : Bool) (entry : ℕ → ℕ) (k size at : ℕ) (ps : List Piece) (t : Bool) → cond mine true (ltb 0 size) ≡ t
-    → on_entries mine entry (record { number = k; bits = 8 * size; address = at } ∷ ps)
-    ≡ cond t (use_at (cond mine k (entry k)) size at ∷ on_entries mine entry ps) (on_entries mine entry ps)
+    (route : Route) (k size at : ℕ) (ps : List Piece) → by_route route (record { number = k; bits = 8 * size; address = at } ∷ ps)
+    ≡ with_taken (entry_taken route k size) size at (by_route route ps)
 unfolding given own
-one-use true entry k size at ps t e = λ i. cond (e i) (use_at k (bytes_back size i) at ∷ own ps) (own ps)
-one-use false entry k size at ps t e =
-    let some : ltb 0 (8 * size) ≡ t = sym (some_bytes (8 * size)) ∙ ap (ltb 0) (bytes_back size) ∙ e in
-    λ i. cond (some i) (use_at (entry k) (bytes_back size i) at ∷ given entry ps) (given entry ps)
+one-use Own k size at ps = λ i. use_at k (bytes_back size i) at ∷ own ps
+one-use (Given entries) k size at ps =
+    let e = entry_by entries k in
+    let us = given (entry_by entries) ps in
+    let some : ltb 0 (8 * size) ≡ ltb 0 size = sym (some_bytes (8 * size)) ∙ ap (ltb 0) (bytes_back size) in
+    (λ i. cond (some i) (use_at e (bytes_back size i) at ∷ us) us) ∙ go (ltb 0 size) e us
+  where
+    go : (b : Bool) (e : ℕ) (us : List Use) → cond b (use_at e size at ∷ us) us ≡ with_taken (cond b (Some e) None) size at us
+    go true e us = refl
+    go false e us = refl
 
 module _ (route : Route) (sizes : List ByteLen) (usage : ℕ) (ms : List SyncManager) where
   abbrev pieces_on : ℕ → List SyncManager → List Piece
@@ -42,11 +54,11 @@ module _ (route : Route) (sizes : List ByteLen) (usage : ℕ) (ms : List SyncMan
 
   pub uses-end : (k : ℕ) → drop k ms ≡ [] → uses_at k ≡ []
   unfolding pieces_from given own
-  uses-end k e = ap (λ (l : List SyncManager). by_route route (pieces_on k l)) e ∙ none route.own
+  uses-end k e = ap (λ (l : List SyncManager). by_route route (pieces_on k l)) e ∙ none route
     where
-      none : (mine : Bool) → on_entries mine (entry_by route) [] ≡ []
-      none true = refl
-      none false = refl
+      none : (r : Route) → by_route r [] ≡ []
+      none Own = refl
+      none (Given entries) = refl
 
   module _ (k : ℕ) (m : SyncManager) (next : drop k ms ≡ m ∷ drop (k + 1) ms) where
     piece : Piece
@@ -63,16 +75,10 @@ module _ (route : Route) (sizes : List ByteLen) (usage : ℕ) (ms : List SyncMan
     pub uses-other : (m.usage_type ≡ usage → ⊥) → uses_at k ≡ uses_at (k + 1)
     uses-other h = ap (by_route route) (pieces-next false (ne_eqb m.usage_type usage h))
 
-    module _ (is : m.usage_type ≡ usage) where
-      uses-by : (t : Bool) → takes_entry route (size_at sizes k) ≡ t → uses_at k ≡ cond t (use_at (entry_taken route k) (size_at sizes k) m.start_addr ∷ uses_at (k + 1)) (uses_at (k + 1))
-      unfolding piece
-      uses-by t e =
-          ap (by_route route) (pieces-next true (eq-eqb m.usage_type usage is))
-          ∙ one-use route.own (entry_by route) k (size_at sizes k) m.start_addr (pieces (k + 1)) t e
-
-      -- it takes no entry, or the next one
-      pub uses-skip : takes_entry route (size_at sizes k) ≡ false → uses_at k ≡ uses_at (k + 1)
-      uses-skip e = uses-by false e
-
-      pub uses-next : takes_entry route (size_at sizes k) ≡ true → uses_at k ≡ use_at (entry_taken route k) (size_at sizes k) m.start_addr ∷ uses_at (k + 1)
-      uses-next e = uses-by true e
+    -- it takes no entry, or the next one
+    pub uses-taken : m.usage_type ≡ usage → {t : Option ℕ} → entry_taken route k (size_at sizes k) ≡ t → uses_at k ≡ with_taken t (size_at sizes k) m.start_addr (uses_at (k + 1))
+    unfolding piece
+    uses-taken is e =
+        ap (by_route route) (pieces-next true (eq-eqb m.usage_type usage is))
+        ∙ one-use route k (size_at sizes k) m.start_addr (pieces (k + 1))
+        ∙ ap (λ (o : Option ℕ). with_taken o (size_at sizes k) m.start_addr (uses_at (k + 1))) e

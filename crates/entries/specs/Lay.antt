@@ -1,33 +1,34 @@
 -- What the parts of writing the entries promise one another: a use, the uses of a direction and of both, the segments.
 -- Assumes nothing.
-use Rattle.std.specs.Prelude.{◌≡◌, Bool, true, cond, ◌&&◌, ◌||◌, List, [], ◌∷◌, ℕ, ◌+◌, ◌-◌, ◌*◌, ◌≤◌, ltb}
-use Rattle.wire.specs.Outcome.{Outcome, refused, accepted, when, decide}
+use Rattle.std.specs.Prelude.{◌≡◌, Bool, cond, ◌&&◌, ◌||◌, List, [], ◌∷◌, ℕ, ◌+◌, ◌-◌, ◌*◌, ◌≤◌, ltb, Result, Ok, Err, Option, Some, None}
+use Rattle.wire.specs.declared.Reason.{Reason}
+use Rattle.fmmu.specs.declared.Fmmu.{Fmmu}
+use Rattle.wire.specs.Outcome.{Outcome, refused, accepted, when, decide, outcome_by}
 use Rattle.pdi.specs.Offset.{past_end}
 use Rattle.pdi.specs.Segment.{segment}
 use Rattle.pdo.specs.declared.PdoDirection.{PdoDirection}
 use Rattle.pdo.specs.declared.PdoDirection.TheVariants.{MasterRead, MasterWrite}
 use Rattle.passes.specs.declared.OldEntries.TheVariants.{Keep}
-use Rattle.passes.specs.declared.Offsets.{Offsets}
+use Rattle.passes.specs.declared.Both as two
 use Rattle.passes.specs.declared.OutputStart.{OutputStart}
 use Rattle.passes.specs.declared.Route.{Route}
+use Rattle.passes.specs.declared.Route.TheVariants.{Own, Given}
 use Rattle.passes.specs.Use.{Use, total}
 use Rattle.passes.specs.Handed.{entry_by, no_room}
-use Rattle.passes.specs.Start.{offset_of, outputs_from, is_given, of_either, start_of, end_of, Planned, Both}
-use Rattle.passes.specs.Entries.{with_use, plan, too_long, uses_of_both, totals, plan_both}
-use Rattle.entries.specs.declared.Laid.{Laid}
-use Rattle.entries.specs.declared.Laid.TheVariants as laid
-use Rattle.entries.specs.declared.Ends.{Ends}
-use Rattle.entries.specs.declared.Ends.TheVariants as ends
+use Rattle.passes.specs.Start.{offset_of, outputs_from, is_given, of_either, start_of, end_of, Planned, Both, Offsets}
+use Rattle.passes.specs.Entries.{grown, with_use, plan, too_long, uses_of_both, totals, plan_both}
 
--- whether a sync manager of a size uses an entry by a route, and which one
-abbrev pub takes_entry : Route → ℕ → Bool
-takes_entry route size = cond route.own true (ltb 0 size)
-
-abbrev pub entry_taken : Route → ℕ → ℕ
-entry_taken route number = cond route.own number (entry_by route number)
+-- the entry that a sync manager with a number and a size uses by a route: its own, or with bits the one that is given
+abbrev pub entry_taken : Route → ℕ → ℕ → Option ℕ
+entry_taken Own number size = Some number
+entry_taken (Given entries) number size = cond (ltb 0 size) (Some (entry_by entries number)) None
 
 abbrev pub use_at : ℕ → ℕ → ℕ → Use
 use_at e size at = record { entry = e; size = size; at = at }
+
+-- an enabled entry with the size added, or 8
+abbrev pub grown_to : Fmmu → ℕ → Outcome Fmmu
+grown_to f size = decide (when 8 (ltb 65535 (f.length_bytes.0 + size)) ∷ []) (grown f size)
 
 -- one use laid, or 8
 abbrev pub laid_one : PdoDirection → ℕ → Use → List (List ℕ) → Outcome (List (List ℕ))
@@ -42,17 +43,16 @@ pub record Run : Type 0 where
 abbrev pub laid_all : PdoDirection → ℕ → List Use → List (List ℕ) → Outcome Run
 laid_all r start us entries = decide (when 8 (too_long Keep us entries) ∷ []) (record { end = start + total us; entries = plan r start us entries })
 
--- what the cases of `Laid` say, beside the entries; and the end alone
-abbrev pub laid_of : Laid → List (List ℕ) → Outcome Run
-laid_of (laid.End end) entries = accepted (record { end = end; entries = entries })
-laid_of (laid.Refused n) entries = refused n
+-- what is said of where a direction ends, beside the entries; and the end alone
+abbrev pub laid_of : Result ℕ Reason → List (List ℕ) → Outcome Run
+laid_of r entries = outcome_by (λ end. record { end = end; entries = entries }) r
 
-abbrev pub end_in : Laid → ℕ
-end_in (laid.End end) = end
-end_in (laid.Refused n) = 0
+abbrev pub end_in : Result ℕ Reason → ℕ
+end_in (Ok end) = end
+end_in (Err reason) = 0
 
 -- a direction is laid, and ends no more than sixteen sizes after its start
-pub record Lays (r : PdoDirection) (start : ℕ) (us : List Use) (before : List (List ℕ)) (said : Laid) (after : List (List ℕ)) : Type 0 where
+pub record Lays (r : PdoDirection) (start : ℕ) (us : List Use) (before : List (List ℕ)) (said : Result ℕ Reason) (after : List (List ℕ)) : Type 0 where
   pub says : laid_of said after ≡ laid_all r start us before
   pub near : end_in said ≤ start + 16 * 65535
 
@@ -62,21 +62,15 @@ pub record Runs : Type 0 where
   pub end : ℕ
   pub entries : List (List ℕ)
 
--- the outputs laid after inputs that end there, or 8
-abbrev pub laid_after : ℕ → ℕ → List Use → List (List ℕ) → Outcome Runs
-laid_after middle start us entries =
-    decide (when 8 (too_long Keep us entries) ∷ []) (record { middle = middle; end = start + total us; entries = plan MasterWrite start us entries })
-
 -- both laid on the entries as they are, or 8, which counts all that is laid on an entry
 abbrev pub laid_both : OutputStart → Offsets → (PdoDirection → List Use) → List (List ℕ) → Outcome Runs
 laid_both how o uses entries =
     decide (when 8 (too_long Keep (uses_of_both uses) entries) ∷ [])
     (record { middle = end_of how o (totals uses) MasterRead; end = end_of how o (totals uses) MasterWrite; entries = plan_both (start_of how o (totals uses)) uses entries })
 
--- what the cases of `Ends` say, beside the entries
-abbrev pub ends_of : Ends → List (List ℕ) → Outcome Runs
-ends_of (ends.At middle end) entries = accepted (record { middle = middle; end = end; entries = entries })
-ends_of (ends.Refused n) entries = refused n
+-- what is said of where both end, beside the entries
+abbrev pub ends_of : Result (two.Both ℕ) Reason → List (List ℕ) → Outcome Runs
+ends_of r entries = outcome_by (λ ends. record { middle = ends.inputs; end = ends.outputs; entries = entries }) r
 
 -- a direction that starts and ends there, counted from the group start
 abbrev pub standing : ℕ → ℕ → ℕ → Planned

@@ -1,32 +1,23 @@
 -- What the parts of making the entries ready promise one another.
 -- Assumes nothing.
-use Rattle.std.specs.Prelude.{◌≡◌, Bool, cond, ◌||◌, List, map, ℕ, get_or, replicate}
-use Rattle.wire.specs.Field.{bits_at}
-use Rattle.wire.specs.Lists.{some_of}
+use Rattle.std.specs.Prelude.{◌≡◌, Bool, cond, ◌&&◌, ◌||◌, List, ℕ, replicate}
 use Rattle.fmmu.specs.declared.Fmmu.{Fmmu}
 use Rattle.fmmu.specs.Image.{fields_of}
 use Rattle.pdo.specs.declared.PdoDirection.TheVariants.{MasterRead, MasterWrite}
 use Rattle.passes.specs.Use.{Use}
-use Rattle.passes.specs.Old.{carries_alone, cleared_of_both, beginning, both_bits, in_the_way}
+use Rattle.passes.specs.Old.{carries_alone, beginning, in_the_way}
 use Rattle.passes.specs.declared.OldEntries.{OldEntries}
-
--- byte 11: bit 0 read, bit 1 write
-abbrev pub access_of : List ℕ → ℕ
-access_of e = bits_at (get_or e 11 0) 0 2
-
--- it carries one direction's bit alone
-abbrev pub carries_one : Fmmu → Bool
-carries_one f = carries_alone MasterRead f || carries_alone MasterWrite f
 
 -- an entry that is enabled
 abbrev pub on : List ℕ → Bool
 on e = (fields_of e).enable
 
--- the old entries of both directions cleared; whether one is still enabled, and whether one has both bits
-pub record Clears (before after : List (List ℕ)) (enabled both : Bool) : Type 0 where
-  pub holds : after ≡ map cleared_of_both before
-  pub some : enabled ≡ some_of on (map cleared_of_both before)
-  pub twice : both ≡ some_of both_bits before
+-- it carries one direction's bit alone; such an entry, where it is enabled
+abbrev pub carries_one : Fmmu → Bool
+carries_one f = carries_alone MasterRead f || carries_alone MasterWrite f
+
+abbrev pub old_one : List ℕ → Bool
+old_one e = on e && carries_one (fields_of e)
 
 -- sixteen entries of zeros
 abbrev pub zero_entries : List (List ℕ)

@@ -1,7 +1,7 @@
 -- `entries::lay`: each turn lays the next use of the direction, or finds 8, or passes one sync manager over.
 -- Assumes nothing.
 use mathlib.Core.Path.{◌≡◌}
-use Prim.Native.Nat.{◌-◌, ◌≤◌}
+use Prim.Native.Nat.{min}
 use Rattle.grammar.specs.Grammar.{manager_count}
 use Rattle.pdo.specs.Direction.{usage_of}
 use Rattle.entries.proofs.Turn.{At}
@@ -9,7 +9,4 @@ use Rattle.entries.proofs.lay.Given as goal
 
 abbrev pub invariant-loop-k : goal.invariant-loop-k
 invariant-loop-k l =
-    (l.k ≤ 16) × (l.n ≡ manager_count l.sheet) × (l.usage ≡ usage_of l.direction) × At l.sheet l.route l.sizes l.direction l.start l.initial.entries l.k l.end l.entries
-
-abbrev pub decreases-loop-k : goal.decreases-loop-k
-decreases-loop-k l = l.n - l.k
+    (l.k-end ≡ min (manager_count l.sheet) 16) × (l.usage ≡ usage_of l.direction) × At l.sheet l.route l.sizes l.direction l.start l.initial.entries l.k l.end l.entries

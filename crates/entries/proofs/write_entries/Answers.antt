@@ -6,13 +6,14 @@ use Prim.Native.Nat.{ℕ}
 use native.Mathlib.Omega.{arith}
 use lib.ListN.{length}
 use borrow.Author.Rules.{rules}
+use Rattle.std.proofs.lemmas.Result.{err_from_is_err_and}
 use Rattle.wire.specs.Image.{Bytes}
 use Rattle.area.specs.Area.{area_of, entries_of}
 use Rattle.area.proofs.Flat.{area-whole}
 use Rattle.passes.specs.Handed.{Short}
 use Rattle.passes.proofs.Lengths.{short-area}
 use Rattle.entries.proofs.Blocked.{short-made}
-use Rattle.entries.proofs.Decided.{too-long-refused, end-refuses, entries-written}
+use Rattle.entries.proofs.Decided.{too-long-refused, standing-refused, blocked-refused, entries-written}
 use Rattle.entries.proofs.write_entries.Goals as goal
 
 -- what was loaded is sixteen entries, none longer than its two bytes say
@@ -23,19 +24,24 @@ pub lay_both-requires : goal.lay_both-requires
 lay_both-requires c =
     short-made c.make_ready-blocked.ensures (short-loaded c.args.area.now _ (omega arith) (record { below = search rules }) c.load.ensures)
 
-pub returns-in-Mapped : goal.returns-in-Mapped
-returns-in-Mapped c =
+pub returns-in_err-ends : goal.returns-in_err-ends
+returns-in_err-ends c =
     let short = short-loaded c.args.area.now c.load.new.entries (omega arith) (record { below = search rules }) c.load.ensures in
-    entries-written _ _ _ _ (omega arith) c.load.ensures short c.make_ready-blocked.ensures _ _ c.lay_both.ensures c.in-At.is
-    c.segments_to.result c.unless_in_the_way-answer.result c.segments_to.ensures c.unless_in_the_way-answer.ensures _ _ _ c.in-Mapped.is c.store_all.ensures
+    let p = err_from_is_err_and c.from_residual.result c.from_residual.ensures.1 in
+    rw (p.1, p.2) (too-long-refused _ _ _ _ (omega arith) c.load.ensures short c.make_ready-blocked.ensures _ c.in_err-ends.ensures)
 
-pub returns-in_default : goal.returns-in_default
-returns-in_default c =
+pub returns-in_err-mapped : goal.returns-in_err-mapped
+returns-in_err-mapped c =
     let short = short-loaded c.args.area.now c.load.new.entries (omega arith) (record { below = search rules }) c.load.ensures in
-    end-refuses _ _ _ _ (omega arith) c.load.ensures short c.make_ready-blocked.ensures _ _ c.lay_both.ensures c.in-At.is
-    c.segments_to.result c.unless_in_the_way-answer.result c.segments_to.ensures c.unless_in_the_way-answer.ensures _ c.in_default.is
+    let p = err_from_is_err_and c.from_residual-in_err-mapped.result c.from_residual-in_err-mapped.ensures.1 in
+    rw (p.1, p.2) (standing-refused _ _ _ _ (omega arith) c.load.ensures short c.make_ready-blocked.ensures c.in_ok-ends.ensures _ c.in_err-mapped.ensures)
 
-pub returns-in-Refused : goal.returns-in-Refused
-returns-in-Refused c =
+pub returns-then-blocked : goal.returns-then-blocked
+returns-then-blocked c =
     let short = short-loaded c.args.area.now c.load.new.entries (omega arith) (record { below = search rules }) c.load.ensures in
-    too-long-refused _ _ _ _ (omega arith) c.load.ensures short c.make_ready-blocked.ensures _ _ c.lay_both.ensures _ c.in-Refused.is
+    blocked-refused _ _ _ _ (omega arith) c.load.ensures short c.make_ready-blocked.ensures c.in_ok-ends.ensures c.in_ok-mapped.ensures c.if-blocked.true
+
+pub returns : goal.returns
+returns c =
+    let short = short-loaded c.args.area.now c.load.new.entries (omega arith) (record { below = search rules }) c.load.ensures in
+    entries-written _ _ _ _ (omega arith) c.load.ensures short c.make_ready-blocked.ensures c.in_ok-ends.ensures c.in_ok-mapped.ensures c.if-blocked.false c.store_all.ensures

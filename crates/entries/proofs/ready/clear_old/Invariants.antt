@@ -1,13 +1,9 @@
--- `entries::ready::clear_old`: after k turns the first k entries are cleared, and what is still enabled among them is known.
+-- `entries::ready::clear_old`: the entries before the loop's place are cleared.
 -- Assumes nothing.
-use mathlib.Core.Path.{◌≡◌}
-use Prim.Native.Nat.{◌-◌, ◌≤◌}
-use lib.ListN.{length}
-use Rattle.entries.proofs.Clearing.{Clearing}
+use Rattle.std.proofs.Common.{◌≡◌, ◌++◌, length, map, take, drop}
+use Rattle.passes.specs.Old.{cleared_of_both}
 use Rattle.entries.proofs.ready.clear_old.Given as goal
 
-abbrev pub invariant-loop-k : goal.invariant-loop-k
-invariant-loop-k l = (l.k ≤ 16) × (length l.initial.entries ≡ 16) × Clearing l.initial.entries l.k l.entries l.enabled l.both
-
-abbrev pub decreases-loop-k : goal.decreases-loop-k
-decreases-loop-k l = 16 - l.k
+abbrev pub invariant-loop-entry : goal.invariant-loop-entry
+invariant-loop-entry l =
+    (length l.entries ≡ length l.initial.entries) × (l.entries ≡ map cleared_of_both (take l.entry-index l.initial.entries) ++ drop l.entry-index l.initial.entries)

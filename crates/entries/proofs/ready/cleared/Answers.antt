@@ -1,11 +1,11 @@
--- `entries::ready::cleared`: an enabled entry that carries one direction's bit alone is an old one.
+-- `entries::ready::cleared`: an old one is set to zero, and any other stays.
 -- Assumes nothing.
 use mathlib.Core.Path.{sym, ◌∙◌}
-use Rattle.entries.proofs.Clearing.{cleared_by}
+use Rattle.entries.proofs.Clearing.{cleared_if}
 use Rattle.entries.proofs.ready.cleared.Goals as goal
 
-pub returns-then-carries_one : goal.returns-then-carries_one
-returns-then-carries_one c = sym (cleared_by c.args.image c.requires (sym c.carries_one.ensures ∙ c.if-carries_one.true))
+pub returns-then-is_old : goal.returns-then-is_old
+returns-then-is_old c = cleared_if c.args.image (sym c.if-is_old.true ∙ c.is_old.ensures)
 
 pub returns : goal.returns
-returns c = sym (cleared_by c.args.image c.requires (sym c.carries_one.ensures ∙ c.if-carries_one.false))
+returns c = cleared_if c.args.image (sym c.if-is_old.false ∙ c.is_old.ensures)
