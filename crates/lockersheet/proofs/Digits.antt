@@ -9,15 +9,9 @@ use native.Mathlib.Omega.{arith}
 use lib.ListN.{length, get_or, drop, drop_of_length-le}
 use lib.Seq.{drop-cons}
 use borrow.Author.Tests.{lt-ltb, le-ltb}
+use Rattle.std.specs.Prelude.{Some, None}
 use Rattle.wire.specs.Lists.{some_of}
-use Rattle.lockersheet.specs.Decimal.{no_digit, value_from, no_number, number_from, number_in}
-
--- a text of some bytes is read from its front, of none it is no number
-pub some_bytes : (most : ℕ) (text : List ℕ) → 0 < length text → number_in most text ≡ number_from most 0 text
-some_bytes most text h = rw (lt-ltb 0 (length text) h) refl
-
-pub no_bytes : (most : ℕ) (text : List ℕ) → length text ≡ 0 → number_in most text ≡ no_number
-no_bytes most text e = rw e refl
+use Rattle.lockersheet.specs.Decimal.{no_digit, value_from, number_from}
 
 -- further digits make no number less
 grows : (v : ℕ) (bs : List ℕ) → v ≤ value_from v bs
@@ -25,11 +19,11 @@ grows v [] = omega arith
 grows v (b ∷ bs) = let e = grows (10 * v + (b - 48)) bs in omega arith
 
 -- a number that is more than the most already is none
-pub past : (most v : ℕ) (bs : List ℕ) → most < v → number_from most v bs ≡ no_number
+pub past : (most v : ℕ) (bs : List ℕ) → most < v → number_from most v bs ≡ None
 unfolding number_from
 past most v bs h = let e = lt-ltb most (value_from v bs) (omega (arith, grows v bs)) in rw e (go (some_of no_digit bs))
   where
-    go : (t : Bool) → cond (t || true) no_number (record { sound = true; value = value_from v bs }) ≡ no_number
+    go : (t : Bool) → cond (t || true) None (Some (value_from v bs)) ≡ None
     go true = refl
     go false = refl
 
@@ -38,19 +32,15 @@ module _ (most v i : ℕ) (text : List ℕ) (within : i < length text) where
   abbrev b : ℕ
   b = get_or text i 0
 
-  pub below : b < 48 → number_from most v (drop i text) ≡ no_number
+  pub stops : no_digit b ≡ true → number_from most v (drop i text) ≡ None
   unfolding number_from
-  below h = rw (drop-cons text i 0 within, lt-ltb b 48 h) refl
+  stops h = rw (drop-cons text i 0 within, h) refl
 
-  pub above : 48 ≤ b → 57 < b → number_from most v (drop i text) ≡ no_number
+  pub turn : no_digit b ≡ false → number_from most v (drop i text) ≡ number_from most (10 * v + (b - 48)) (drop (i + 1) text)
   unfolding number_from
-  above l h = rw (drop-cons text i 0 within, le-ltb b 48 l, lt-ltb 57 b h) refl
-
-  pub turn : 48 ≤ b → b ≤ 57 → number_from most v (drop i text) ≡ number_from most (10 * v + (b - 48)) (drop (i + 1) text)
-  unfolding number_from
-  turn l h = rw (add-one, drop-cons text i 0 within, le-ltb b 48 l, le-ltb 57 b h) refl
+  turn h = rw (add-one, drop-cons text i 0 within, h) refl
 
 -- the number that is left at the end
-pub at-end : (most v i : ℕ) (text : List ℕ) → length text ≤ i → v ≤ most → number_from most v (drop i text) ≡ record { sound = true; value = v }
+pub at-end : (most v i : ℕ) (text : List ℕ) → length text ≤ i → v ≤ most → number_from most v (drop i text) ≡ Some v
 unfolding number_from
 at-end most v i text h l = rw (drop_of_length-le text h, le-ltb most v l) refl

@@ -1,62 +1,48 @@
 // Makes a bay's sheet from its dump: the dump on standard input, what it doesn't say as arguments, the sheet on standard output.
 #![tactic(auto)]
 
-ghost use Rattle.std.specs.Prelude.{◌≡◌, ◌≤◌};
+ghost use Rattle.std.specs.Prelude.{◌≡◌, true, false, ◌-◌, ◌≤◌, ◌<◌, MatchOption, IfSome};
 ghost use Rattle.std.specs.Io.{ReadsAtMost};
-ghost use Rattle.lockersheet.specs.Decimal.{number_in};
+ghost use Rattle.lockersheet.specs.Decimal.{no_digit, number_in};
 
 use dump::Head;
 use pdi::ByteLen;
 use std::env::{Env, FillError};
 use std::io;
 use std::io::Read;
-use wire::Written;
+use wire::Reason;
 
-// What an argument says: its number, where it is sound.
-#[derive(Clone, Copy)]
-struct Number {
-    sound: bool,
-    value: u16,
+// What a digit is worth.
+fn digit(byte: u8) -> Option<u8>
+    ensures { MatchOption result (no_digit byte ≡ true) (λ d. (no_digit byte ≡ false) × (d ≡ byte - 48) × (d < 10)) }
+{
+    match byte {
+        b'0'..=b'9' => Some(byte - b'0'),
+        _ => None,
+    }
 }
 
-const NO_NUMBER: Number = Number {
-    sound: false,
-    value: 0,
-};
-
 // The decimal number that is all of a text, if it is at most `most`.
-fn decimal(text: &[u8], most: u16) -> Number
+fn decimal(text: &[u8], most: u16) -> Option<u16>
     ensures value { result ≡ number_in most text.now }
-    ensures value_le_most { result.value ≤ most }
+    ensures value_le_most { IfSome result (λ value. value ≤ most) }
 {
-    if text.len() == 0 {
-        return NO_NUMBER;
+    if text.is_empty() {
+        return None;
     }
     let mut value = 0;
-    let mut i = 0;
-    while i < text.len() {
-        let byte = text[i];
-        if byte < b'0' {
-            return NO_NUMBER;
+    for &byte in text {
+        value = 10 * value + u32::from(digit(byte)?);
+        if u32::from(most) < value {
+            return None;
         }
-        if b'9' < byte {
-            return NO_NUMBER;
-        }
-        value = 10 * value + (byte - b'0') as u32;
-        if (most as u32) < value {
-            return NO_NUMBER;
-        }
-        i += 1;
     }
-    Number {
-        sound: true,
-        value: value as u16,
-    }
+    Some(value as u16)
 }
 
 // An argument that is missing, or longer than eight bytes, comes as no bytes, which are no number.
-fn argument(rt: &impl Env, i: usize, most: u16) -> Number
-    ensures { result.value ≤ most }
+fn argument(rt: &impl Env, i: usize, most: u16) -> Option<u16>
+    ensures { IfSome result (λ value. value ≤ most) }
 {
     let mut text = [0u8; 8];
     let n = rt.arg(i, &mut text).unwrap_or(0);
@@ -84,10 +70,10 @@ fn usage(rt: &impl Eprint) -> io::Result<()> {
     )
 }
 
-fn tell(rt: &impl Print, answer: Written, room: &[u8]) -> io::Result<()> {
+fn tell(rt: &impl Print, answer: Result<usize, Reason>, room: &[u8]) -> io::Result<()> {
     match answer {
-        Written::Len(length) => rt.write_all(wire::front(room, length)),
-        Written::Refused(number) => println!(rt; "refused {number}"),
+        Ok(length) => rt.write_all(wire::front(room, length)),
+        Err(reason) => println!(rt; "refused {}", reason.number()),
     }
 }
 
@@ -142,14 +128,18 @@ fn main(rt: HostRuntime) -> io::Result<()> {
     let flags = argument(&rt, 1, 255);
     let receive = argument(&rt, 2, 65535);
     let send = argument(&rt, 3, 65535);
-    if count == 4 && flags.sound && receive.sound && send.sound {
+    if count == 4
+        && let Some(flags) = flags
+        && let Some(receive) = receive
+        && let Some(send) = send
+    {
         return convert(
             &rt,
             &mut rt.stdin(),
             Head {
-                flags: flags.value as u8,
-                receive_size: ByteLen(receive.value),
-                send_size: ByteLen(send.value),
+                flags: flags as u8,
+                receive_size: ByteLen(receive),
+                send_size: ByteLen(send),
             },
         );
     }
