@@ -1,13 +1,11 @@
--- The walk over PDO records that fills a list of places, one multiplier for each: its start, a turn of it and its end.
+-- The walk over PDO records that fills a list of places, one multiplier for each: a turn of it and its end.
 -- Assumes nothing.
 use mathlib.Core.Path.{◌≡◌, refl, sym, ◌∙◌, ap, ap₂}
-use mathlib.Core.List.{List, [], ◌∷◌, ◌++◌, append-nil}
+use mathlib.Core.List.{List, ◌++◌, append-nil}
 use Prim.Native.Nat.{ℕ, suc, ◌+◌, ◌*◌, ◌-◌, ◌<◌, ◌≤◌}
-use native.Mathlib.Nat.{sub-zero}
 use native.Mathlib.Omega.{arith}
-use lib.ListN.{length, get_or, take, drop, set, length-map, length-append, length-drop, drop_of_length-le}
-use lib.Seq.{length-take-le, drop-drop, get_or-drop, take_all}
-use Rattle.wire.specs.Number.{big_at}
+use lib.ListN.{length, get_or, take, drop, set, length-map, drop_of_length-le}
+use lib.Seq.{drop-drop, get_or-drop, take_all}
 use Rattle.wire.proofs.Copied.{copied}
 use Rattle.grammar.specs.Grammar.{pdo_count, pdos_place}
 use Rattle.sheet.specs.Device.{Pdo, pdo_at, next_pdo, pdos_from}
@@ -15,10 +13,6 @@ use Rattle.sheet.specs.Sheet.{sheet_data}
 use Rattle.sheet.proofs.Sound.{length-pdos}
 use Rattle.pdo.specs.declared.Oversampling.{Oversampling}
 use Rattle.pdo.specs.Bits.{multiplier_of, multipliers_of}
-
--- a record's index as code reads it
-pub index-here : (s : List ℕ) (at a b y : ℕ) → a ≡ get_or s (at + 2) 0 → b ≡ get_or s (at + 3) 0 → y ≡ big_at (a ∷ b ∷ []) 0 2 → y ≡ big_at s (at + 2) 2
-index-here s at a b y ea eb e = let three : at + 2 + 1 ≡ at + 3 = omega arith in rw (three, ← ea, ← eb) e
 
 module _ (t : List Oversampling) (s : List ℕ) where
   -- the multipliers of n records from a place on
@@ -49,9 +43,6 @@ module _ (t : List Oversampling) (s : List ℕ) (n at : ℕ) where
     pub low : place ≤ at + 260 * k
     pub ahead : drop k (those t s n at) ≡ those t s (n - k) place
 
-  pub filling-start : Filling 0 at
-  filling-start = record { within = omega arith; low = omega arith; ahead = rw sub-zero }
-
   pub filling-turn : (k place next : ℕ) → Filling k place → k < n → next ≡ next_pdo s place → next ≤ place + 260 → Filling (k + 1) next
   filling-turn k place next f h e m =
       let l = f.low in
@@ -72,12 +63,6 @@ module _ (t : List Oversampling) (s : List ℕ) (n at : ℕ) where
   filled room k = take k (those t s n at) ++ drop k room
 
   module _ (room : List ℕ) (wide : n ≤ length room) where
-    pub filled-long : (k : ℕ) → k ≤ n → length (filled room k) ≡ length room
-    filled-long k h =
-        let a = length-take-le k (those t s n at) (omega (arith, length-those t s n at)) in
-        let b = length-drop k room in
-        length-append (take k (those t s n at)) (drop k room) ∙ omega arith
-
     pub filled_next : (k place i y : ℕ) → Filling k place → k < n → i ≡ (pdo_at s place).index → y ≡ multiplier_of t i → set (filled room k) k y ≡ filled room (k + 1)
     filled_next k place i y f h ei ey =
         let l = length-those t s n at in
