@@ -1,21 +1,16 @@
--- What the first pairs of a list say: one more, and all of them.
+-- What the first pairs of a list say: one more.
 -- Assumes nothing.
-use mathlib.Core.Path.{◌≡◌, refl, sym, ap}
-use mathlib.Core.Bool.{Bool, true, false, cond, ◌||◌, not}
+use mathlib.Core.Path.{◌≡◌, refl, sym}
+use mathlib.Core.Bool.{Bool, true, false, cond, ◌||◌}
 use mathlib.Core.List.{List, [], ◌∷◌}
 use Prim.Native.Nat.{ℕ, zero, suc, ◌+◌, ◌<◌}
 use native.Mathlib.Nat.{not-suc-le-zero, le_of_suc-le-suc}
 use native.Mathlib.Numerals.{add-one}
-use native.Mathlib.Omega.{arith}
-use lib.Dec.{T as Holds}
 use lib.ListN.{length, get_or, take}
-use lib.Seq.{take_all}
 use Rattle.wire.proofs.Lists.{some_next, get_d-list_of, number_same}
 use Rattle.passes.specs.declared.FmmuPair.{FmmuPair}
-use Rattle.passes.specs.declared.FmmuMode.{FmmuMode}
-use Rattle.passes.specs.declared.FmmuMode.TheVariants.{OwnNumber, Paired}
-use Rattle.passes.specs.Use.{entry_for, past_last, chosen_of, nothing_chosen, chosen_by}
-use Rattle.pairs.specs.Reading.{is_for, decides, said_of, entry_after, entry_with, decided_with, with_pair, handed_on, by_own_numbers}
+use Rattle.passes.specs.Use.{entry_for, past_last}
+use Rattle.pairs.specs.Reading.{is_for, decides, said_of, entry_after, entry_with, decided_with, with_pair}
 
 -- an entry by the first k pairs, and the next
 entry_next : (n : ℕ) (l : List FmmuPair) (k : ℕ) (d : FmmuPair) → k < length l → entry_after (decides (take k l) n) (entry_for (take k l) n) (get_or l k d) n ≡ entry_for (take (suc k) l) n
@@ -43,13 +38,3 @@ module _ (l : List FmmuPair) (k : ℕ) (d : FmmuPair) (h : k < length l) where
       let above = some_next past_last l k d h in
       let decided = number_same (decided_with (said_of (take k l)) (get_or l k d)) (decides (take (k + 1) l)) 16 decided-next in
       λ i. record { entries = entries i; above = sym above i; decided = decided i }
-
--- by own numbers nothing is handed on
-pub read_none : (mode : FmmuMode) (l : List FmmuPair) → Holds (by_own_numbers mode) → nothing_chosen ≡ chosen_by mode l
-read_none OwnNumber l h = refl
-read_none Paired l h = absurd h
-
--- by pairs what all of them say
-pub read_all : (mode : FmmuMode) (l : List FmmuPair) → Holds (not (by_own_numbers mode)) → handed_on (said_of (take (length l) l)) ≡ chosen_by mode l
-read_all OwnNumber l h = absurd h
-read_all Paired l h = ap chosen_of (take_all (length l) l (omega arith))

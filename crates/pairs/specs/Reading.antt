@@ -1,10 +1,8 @@
 -- What the parts of reading a list of pairs promise one another: what some pairs say, one more, whether they are read.
 -- Assumes nothing.
-use Rattle.std.specs.Prelude.{Bool, true, false, cond, ◌||◌, List, ℕ, eqb, get_or}
+use Rattle.std.specs.Prelude.{Bool, false, cond, ◌||◌, List, ℕ, eqb, get_or}
 use Rattle.wire.specs.Lists.{list_of, some_of}
 use Rattle.passes.specs.declared.FmmuPair.{FmmuPair}
-use Rattle.passes.specs.declared.FmmuMode.{FmmuMode}
-use Rattle.passes.specs.declared.FmmuMode.TheVariants.{OwnNumber, Paired}
 use Rattle.passes.specs.declared.Chosen.{Chosen}
 use Rattle.passes.specs.Use.{entry_for, past_last}
 use Rattle.pairs.specs.declared.Said.{Said}
@@ -36,8 +34,3 @@ with_pair s p = record { entries = list_of (entry_with s p) 16; above = s.above 
 -- what is handed on of it
 abbrev pub handed_on : Said → Chosen
 handed_on s = record { entries = s.entries; above = s.above }
-
--- the entries are those of the own numbers
-abbrev pub by_own_numbers : FmmuMode → Bool
-by_own_numbers OwnNumber = true
-by_own_numbers Paired = false

@@ -3,7 +3,7 @@
 
 ghost use Rattle.std.specs.Prelude.{◌≡◌, ◌||◌, [], ltb};
 ghost use Rattle.passes.specs.Use.{past_last, chosen_by};
-ghost use Rattle.pairs.specs.Reading.{said_of, with_pair, handed_on, by_own_numbers};
+ghost use Rattle.pairs.specs.Reading.{said_of, with_pair, handed_on};
 
 use passes::{Chosen, FmmuMode, FmmuPair};
 
@@ -37,13 +37,7 @@ fn past_last(number: u8) -> bool
 fn above_with(above: bool, pair: FmmuPair) -> bool
     ensures { result ≡ above || past_last pair }
 {
-    if above {
-        return true;
-    }
-    if past_last(pair.fmmu) {
-        return true;
-    }
-    past_last(pair.sync_manager)
+    above || past_last(pair.fmmu) || past_last(pair.sync_manager)
 }
 
 // What is said once one more pair is read: it decides for its sync manager, unless an earlier one did.
@@ -56,22 +50,12 @@ fn with_pair(before: Said, pair: FmmuPair) -> Said
     if past_last(number) {
         return after;
     }
-    let k = wire::wide(number);
+    let k = usize::from(number);
     if !after.decided[k] {
         after.entries[k] = pair.fmmu;
         after.decided[k] = true;
     }
     after
-}
-
-// Whether the entries are those of the own numbers: then no pairs are read.
-fn by_own_numbers(mode: FmmuMode) -> bool
-    ensures { result ≡ by_own_numbers mode }
-{
-    match mode {
-        FmmuMode::OwnNumber => true,
-        FmmuMode::Paired => false,
-    }
 }
 
 // What is handed on of what is said.
@@ -89,14 +73,14 @@ fn handed_on(said: Said) -> Chosen
 pub fn fmmu_mappings(mode: FmmuMode, pairs: &[FmmuPair]) -> Chosen
     ensures { result ≡ chosen_by mode pairs.now }
 {
-    if by_own_numbers(mode) {
-        return Chosen::none();
+    match mode {
+        FmmuMode::OwnNumber => Chosen::none(),
+        FmmuMode::Paired => {
+            let mut said = none_said();
+            for &pair in pairs {
+                said = with_pair(said, pair);
+            }
+            handed_on(said)
+        }
     }
-    let mut said = none_said();
-    let mut k = 0;
-    while k < pairs.len() {
-        said = with_pair(said, pairs[k]);
-        k += 1;
-    }
-    handed_on(said)
 }

@@ -1,7 +1,7 @@
 -- 6 and 7 by number: what is asked of the wanted sync managers of a direction, or of both, is asked of the exact bits by number.
 -- Assumes nothing.
 use mathlib.Core.Path.{◌≡◌, refl, sym, ◌∙◌, ap}
-use mathlib.Core.Bool.{Bool, true, false, cond, ◌&&◌, ◌||◌, or-false, or_assoc, and_comm}
+use mathlib.Core.Bool.{Bool, true, false, cond, ◌&&◌, ◌||◌, or-false, and_comm}
 use mathlib.Core.List.{List, [], ◌∷◌, ◌++◌, append-nil}
 use Prim.Native.Nat.{ℕ, zero, suc, ◌+◌, ◌-◌, ◌≤◌, ◌<◌}
 use native.Mathlib.Nat.{add-zero, zero-add}
@@ -34,13 +34,7 @@ use Rattle.passes.proofs.Pieces.{some_bytes, data-at, size-handed}
 use Rattle.wanted.specs.ByKind.{bit_at, bits_in, of_usage}
 use Rattle.wanted.specs.Paths.{rounded_in, some_size, lacks_entry}
 use Rattle.wanted.proofs.Managers.{both, usage-nowhere}
-use Rattle.wanted.proofs.Surveying.{some_or}
-
--- a question by number: its first part
-some_first : (f : ℕ → Bool) (n : ℕ) → some_below f (suc n) ≡ f 0 || some_below (λ j. f (suc j)) n
-unfolding some_below
-some_first f zero = sym (or-false (f 0))
-some_first f (suc n) = ap (λ (b : Bool). b || f (suc n)) (some_first f n) ∙ or_assoc (f 0) (some_below (λ j. f (suc j)) n) (f (suc n))
+use Rattle.wanted.proofs.Surveying.{some_or, some_first}
 
 -- a question of the bits of the wanted sync managers is one by number, if it doesn't hold of 0
 module _ (t : ℕ → Bool) (none : t 0 ≡ false) (usage : ℕ) (bits : ℕ → ℕ) where

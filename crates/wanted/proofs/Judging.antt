@@ -1,7 +1,7 @@
 -- Pairs as code judges them are the pairs that 18 speaks of: the uses by number, both directions, and what each way through the judging answers.
 -- Assumes nothing.
 use mathlib.Core.Path.{◌≡◌, refl, sym, ◌∙◌, ap, subst}
-use mathlib.Core.Bool.{Bool, true, false, cond, not, ◌&&◌, ◌||◌, and-false, or-true, or-false}
+use mathlib.Core.Bool.{Bool, true, false, cond, not, ◌&&◌, ◌||◌, or_assoc, or_comm}
 use mathlib.Core.List.{List, [], ◌∷◌, map}
 use Prim.Native.Nat.{ℕ, zero, suc, ◌+◌, ◌≤◌, ◌<◌}
 use native.Mathlib.Nat.{add-zero, zero-add, not-suc-le-zero, le_of_suc-le-suc}
@@ -10,7 +10,7 @@ use lib.ListN.{length, get_or}
 use lib.Dec.{eqb, ltb, leb-suc-suc}
 use borrow.Author.Tests.{lt-ltb, le-ltb}
 use Rattle.wire.specs.Lists.{some_below}
-use Rattle.wire.proofs.Lists.{some-hit, some-miss, some_same, get_d-list_of}
+use Rattle.wire.proofs.Lists.{some_same, get_d-list_of}
 use Rattle.pdi.specs.declared.BitLen.{BitLen}
 use Rattle.grammar.specs.Grammar.{manager_count}
 use Rattle.sheet.specs.Device.{Data}
@@ -30,50 +30,9 @@ use Rattle.passes.specs.Handed.{has_usage}
 use Rattle.wanted.specs.declared.Entered.{Entered}
 use Rattle.wanted.specs.ByKind.{bit_at, of_usage}
 use Rattle.wanted.specs.Paths.{pairs_read}
-use Rattle.wanted.specs.Judged.{uses_from, Surveys, some_past_last, some_shared, judged_uses, bad_choice}
+use Rattle.wanted.specs.Judged.{uses_from, Surveys, some_shared, judged_uses, bad_choice}
 use Rattle.wanted.proofs.Surveying.{some_or}
 use Rattle.wanted.proofs.Asking.{all_bits, exact_read}
-
--- whether an entry of sixteen is above 15: none so far, one that is, one more that isn't, none of sixteen
-module _ (entries : List ℕ) where
-  abbrev past : ℕ → Bool
-  past k = ltb 15 (get_or entries k 0)
-
-  pub none-past-start : some_below past 0 ≡ false
-  unfolding some_below
-  none-past-start = refl
-
-  pub past-here : (k : ℕ) → k < 16 → 15 < get_or entries k 0 → true ≡ some_past_last entries
-  past-here k h e = sym (some-hit past k 16 h (lt-ltb 15 (get_or entries k 0) e))
-
-  pub past-not-here : (k : ℕ) → some_below past k ≡ false → get_or entries k 0 ≤ 15 → some_below past (k + 1) ≡ false
-  past-not-here k h e = some-miss past k h (le-ltb 15 (get_or entries k 0) e)
-
-  pub past-nowhere : (k : ℕ) → k ≡ 16 → some_below past k ≡ false → false ≡ some_past_last entries
-  past-nowhere k e h = sym h ∙ ap (some_below past) e
-
--- whether an entry is used by both: none so far, one that is, one more that isn't, none of sixteen
-module _ (one two : List Bool) where
-  abbrev shared : ℕ → Bool
-  shared k = get_or one k false && get_or two k false
-
-  pub no-shared-start : some_below shared 0 ≡ false
-  unfolding some_below
-  no-shared-start = refl
-
-  pub shared-here : (k : ℕ) → k < 16 → get_or one k false ≡ true → get_or two k false ≡ true → true ≡ some_shared one two
-  unfolding some_shared
-  shared-here k h a b = sym (some-hit shared k 16 h (λ i. a i && b i))
-
-  pub not-shared-two : (k : ℕ) → some_below shared k ≡ false → get_or two k false ≡ false → some_below shared (k + 1) ≡ false
-  not-shared-two k h e = some-miss shared k h (ap (λ (b : Bool). get_or one k false && b) e ∙ and-false (get_or one k false))
-
-  pub not-shared-one : (k : ℕ) → some_below shared k ≡ false → get_or one k false ≡ false → some_below shared (k + 1) ≡ false
-  not-shared-one k h e = some-miss shared k h (ap (λ (b : Bool). b && get_or two k false) e)
-
-  pub shared-nowhere : (k : ℕ) → k ≡ 16 → some_below shared k ≡ false → false ≡ some_shared one two
-  unfolding some_shared
-  shared-nowhere k e h = sym h ∙ ap (some_below shared) e
 
 -- a use without its size and address: which entries are used doesn't ask for them
 abbrev bare : Use → Use
@@ -203,23 +162,23 @@ module _ (c : Chosen) (ms : List SyncManager) (bits : List BitLen) where
       (some_or (λ k. some_on k us && some_on k vs) (λ k. interrupted k us || interrupted k vs) 16
       ∙ ap (λ (b : Bool). both || b) (some_or (λ k. interrupted k us) (λ k. interrupted k vs) 16))
 
-  pub above-bad : number_above c ≡ true → true ≡ bad_choice c ms bits
-  above-bad e = sym (parts ∙ rw e)
+  -- as code asks, one after another
+  module _ (x : Entered) (h : Surveys us x) (y : Entered) (g : Surveys vs y) where
+    surveyed : some_shared x.used y.used ≡ both
+    unfolding some_shared
+    surveyed =
+        some_same (λ k. get_or x.used k false && get_or y.used k false) (λ k. some_on k us && some_on k vs) 16
+        (λ k l. (λ i. (ap (λ (b : List Bool). get_or b k false) h.uses ∙ get_d-list_of (λ j. some_on j us) 16 k false l) i
+        && (ap (λ (b : List Bool). get_or b k false) g.uses ∙ get_d-list_of (λ j. some_on j vs) 16 k false l) i))
 
-  module _ (x : Entered) (h : Surveys us x) where
-    pub one-bad : x.interrupted ≡ true → true ≡ bad_choice c ms bits
-    one-bad e = let o : one ≡ true = sym h.breaks ∙ e in sym (parts ∙ rw (o, or-true, or-true))
+    pub asked-bad : ((number_above c || x.interrupted) || y.interrupted) || some_shared x.used y.used ≡ bad_choice c ms bits
+    asked-bad =
+        (λ i. ((number_above c || h.breaks i) || g.breaks i) || surveyed i) ∙ or_assoc (number_above c || one) two both ∙ or_assoc (number_above c) one (two || both)
+        ∙ ap (λ (b : Bool). number_above c || b) (sym (or_assoc one two both) ∙ or_comm (one || two) both) ∙ sym parts
 
-    module _ (y : Entered) (g : Surveys vs y) where
-      pub two-bad : y.interrupted ≡ true → true ≡ bad_choice c ms bits
-      two-bad e = let t : two ≡ true = sym g.breaks ∙ e in sym (parts ∙ rw (t, or-true, or-true, or-true))
+-- one of two as code asks it: the first holds, or the second decides
+pub or-first : {a v : Bool} (b : Bool) → a ≡ true → v ≡ a → v ≡ a || b
+or-first b e v = v ∙ e ∙ sym (ap (λ (x : Bool). x || b) e)
 
-      pub shared-bad : (r : Bool) → number_above c ≡ false → x.interrupted ≡ false → y.interrupted ≡ false → r ≡ some_shared x.used y.used → r ≡ bad_choice c ms bits
-      unfolding some_shared
-      shared-bad r a e f q =
-          let o : one ≡ false = sym h.breaks ∙ e in
-          let t : two ≡ false = sym g.breaks ∙ f in
-          q ∙ some_same (λ k. get_or x.used k false && get_or y.used k false) (λ k. some_on k us && some_on k vs) 16
-          (λ k l. (λ i. (ap (λ (b : List Bool). get_or b k false) h.uses ∙ get_d-list_of (λ j. some_on j us) 16 k false l) i
-          && (ap (λ (b : List Bool). get_or b k false) g.uses ∙ get_d-list_of (λ j. some_on j vs) 16 k false l) i))
-          ∙ sym (parts ∙ rw (a, o, t) (or-false both))
+pub or-second : {a v : Bool} (b : Bool) → a ≡ false → v ≡ b → v ≡ a || b
+or-second b e v = v ∙ sym (ap (λ (x : Bool). x || b) e)

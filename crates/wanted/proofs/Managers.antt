@@ -1,21 +1,23 @@
 -- The sync managers of a sheet by usage, the PDO records that count, and the first entry with a usage.
 -- Assumes nothing.
 use mathlib.Core.Path.{◌≡◌, refl, sym, ◌∙◌, ap}
-use mathlib.Core.Bool.{Bool, true, false, ◌&&◌, false≢true}
-use mathlib.Core.List.{List}
-use Prim.Native.Nat.{ℕ, ◌+◌, ◌≤◌, ◌<◌}
+use mathlib.Core.Bool.{Bool, true, false, cond, ◌&&◌, false≢true}
+use mathlib.Core.List.{List, [], ◌∷◌}
+use Prim.Native.Nat.{ℕ, suc, ◌+◌, ◌≤◌, ◌<◌}
 use native.Mathlib.Omega.{arith}
 use lib.ListN.{length, get_or, drop}
 use lib.Dec.{eqb, ltb}
-use borrow.Author.Tests.{eq-eqb, ne_eqb, lt-ltb, le-ltb, ltb-true}
+use borrow.Author.Tests.{eq-eqb, ne_eqb, lt-ltb, le-ltb, ltb-true, ltb-false}
 use Rattle.grammar.specs.Grammar.{manager_count, usage_count, manager_place, usages_place}
 use Rattle.sheet.specs.Sheet.{no_manager, sheet_data}
 use Rattle.sheet.specs.declared.SyncManager.{SyncManager}
-use Rattle.sheet.proofs.Managers.{manager-count, manager-number, usage-turn, usage-end}
+use Rattle.sheet.proofs.Managers.{manager-count, manager-number, usage-count, usage-turn, usage-end}
 use Rattle.pdo.specs.declared.PdoDirection.TheVariants.{MasterRead, MasterWrite}
 use Rattle.pdo.specs.Direction.{usage_of, kind_of, is_data}
 use Rattle.passes.specs.Handed.{has_usage}
 use Rattle.passes.specs.Use.{first_with}
+use Rattle.std.specs.Prelude.{Some, None, is_some, unwrap_or}
+use Rattle.wanted.specs.Paths.{first_place}
 use Rattle.wanted.specs.ByKind.{kind_for, usage_at, has_data, counted}
 
 -- of two that hold, either holds
@@ -87,3 +89,39 @@ module _ (s : List ℕ) where
     pub first-nowhere : usage_count s ≤ k → k ≡ k + first_from k
     unfolding first_with
     first-nowhere l = rw (usage-end s k l) (omega arith)
+
+    -- the first place that it is then, or none
+    pub first-some : k < usage_count s → k ≡ first_with usage (sheet_data s).usages → Some k ≡ first_place usage (sheet_data s).usages
+    first-some l e = rw (← e, usage-count s, lt-ltb k (usage_count s) l) refl
+
+    pub first-none : usage_count s ≤ k → k ≡ first_with usage (sheet_data s).usages → None ≡ first_place usage (sheet_data s).usages
+    first-none l e = rw (← e, usage-count s, le-ltb k (usage_count s) l) refl
+
+-- the first place as an option
+module _ (usage : ℕ) where
+  first-most : (us : List ℕ) → first_with usage us ≤ length us
+  unfolding first_with
+  first-most [] = omega arith
+  first-most (u ∷ us) = go (eqb u usage) (first-most us)
+    where
+      go : (b : Bool) → first_with usage us ≤ length us → cond b 0 (suc (first_with usage us)) ≤ suc (length us)
+      go true h = omega arith
+      go false h = omega arith
+
+  place-end : (us : List ℕ) → ltb (first_with usage us) (length us) ≡ false → first_with usage us ≡ length us
+  place-end us e = let l = ltb-false (first_with usage us) (length us) e in let m = first-most us in omega arith
+
+  -- where there is none, the rest decides; and with how many there are in its place it is the number
+  pub no-place : (us : List ℕ) (rest : Bool) → is_some (first_place usage us) ≡ false → rest ≡ eqb (first_with usage us) (length us) && rest
+  no-place us rest h = go (ltb (first_with usage us) (length us)) refl h
+    where
+      go : (b : Bool) → ltb (first_with usage us) (length us) ≡ b → is_some (cond b (Some (first_with usage us)) None) ≡ false → rest ≡ eqb (first_with usage us) (length us) && rest
+      go true e n = absurd (false≢true (sym n))
+      go false e n = sym (ap (λ (b : Bool). b && rest) (eq-eqb (first_with usage us) (length us) (place-end us e)))
+
+  pub place-or : (us : List ℕ) → unwrap_or (first_place usage us) (length us) ≡ first_with usage us
+  place-or us = go (ltb (first_with usage us) (length us)) refl
+    where
+      go : (b : Bool) → ltb (first_with usage us) (length us) ≡ b → unwrap_or (cond b (Some (first_with usage us)) None) (length us) ≡ first_with usage us
+      go true e = refl
+      go false e = sym (place-end us e)

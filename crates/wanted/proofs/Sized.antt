@@ -17,15 +17,12 @@ use Rattle.pdi.specs.declared.BitLen.{BitLen}
 use Rattle.pdi.specs.declared.ByteLen.{ByteLen}
 use Rattle.grammar.specs.Grammar.{manager_count, manager_place}
 use Rattle.sheet.specs.Sheet.{manager_at, sheet_data}
-use Rattle.sheet.specs.declared.Answer.TheVariants.{Accepted}
 use Rattle.sheet.specs.declared.SyncManager.{SyncManager}
 use Rattle.sheet.proofs.Managers.{manager-count}
 use Rattle.channels.specs.Channels.{size_at}
 use Rattle.passes.specs.Handed.{has_usage}
-use Rattle.wanted.specs.declared.Sizes.{Sizes}
 use Rattle.wanted.specs.ByKind.{bit_at}
 use Rattle.wanted.specs.Paths.{rounded_in, some_size}
-use Rattle.wanted.specs.Wanted.{no_sizes, sizes_after}
 use Rattle.wanted.proofs.Managers.{usage-here}
 
 -- what one refusal's number says of its condition
@@ -48,7 +45,7 @@ module _ (bits : List BitLen) where
     pub rounded : list ≡ list_of size k ++ replicate (16 - k) no_size
     pub narrow : some_below wide k ≡ false
 
-  pub rounding-start : Rounding no_sizes 0
+  pub rounding-start : Rounding (replicate 16 no_size) 0
   unfolding some_below
   rounding-start = record { rounded = none_yet size no_size; narrow = refl }
 
@@ -63,17 +60,17 @@ module _ (bits : List BitLen) where
 
   -- one that is too wide, and all
   module _ (n : ℕ) where
-    pub rounding-refused : (k m : ℕ) (x : Sizes) → k < n → refused m ≡ rounded_up (bit_at bits k) → x ≡ sizes_after (refused m) → x ≡ sizes_after (rounded_in n bits)
-    rounding-refused k m x h a e =
+    pub rounding-refused : (k m : ℕ) → k < n → refused m ≡ rounded_up (bit_at bits k) → refused m ≡ rounded_in n bits
+    rounding-refused k m h a =
         let w = was-refused 6 m (wide k) (bytes_of (bit_at bits k)) a in
         let some = some-hit wide k n h w.0 in
-        e ∙ ap (λ (j : ℕ). sizes_after (refused j)) w.1 ∙ rw some
+        ap refused w.1 ∙ rw some
 
-    pub rounding-end : (list : List ByteLen) (k : ℕ) → k ≡ n → Rounding list k → record { answer = Accepted; list = list } ≡ sizes_after (rounded_in n bits)
+    pub rounding-end : (list : List ByteLen) (k : ℕ) → k ≡ n → Rounding list k → accepted list ≡ rounded_in n bits
     rounding-end list k e t =
         let none : some_below wide n ≡ false = ap (some_below wide) (sym e) ∙ t.narrow in
         let all : list ≡ list_of size n ++ replicate (16 - n) no_size = t.rounded ∙ ap (λ (j : ℕ). list_of size j ++ replicate (16 - j) no_size) e in
-        (λ i. record { answer = Accepted; list = all i }) ∙ rw none
+        ap accepted all ∙ rw none
 
 -- whether a size of a usage is above 0: none so far, one that is, one more that isn't or has another usage, none at all
 module _ (s : List ℕ) (usage : ℕ) (sizes : List ByteLen) where

@@ -2,7 +2,7 @@
 -- Assumes nothing.
 use mathlib.Core.Path.{◌≡◌, refl, sym, ◌∙◌, ap, subst}
 use mathlib.Core.Bool.{Bool, true, false, cond, ◌&&◌, ◌||◌, false≢true}
-use mathlib.Core.List.{List}
+use mathlib.Core.List.{List, [], ◌∷◌, map}
 use Prim.Native.Nat.{ℕ, suc, ◌+◌, ◌-◌, ◌*◌, ◌≤◌, ◌<◌}
 use native.Mathlib.Nat.{add-zero, zero-add, sub-zero}
 use native.Mathlib.Omega.{arith}
@@ -10,6 +10,7 @@ use lib.ListN.{length, get_or, drop, set, replicate, length-set, get_or-replicat
 use lib.Seq.{ext_get_or, get_or-set_same, get_or-set_other}
 use lib.Dec.{eqb, ltb}
 use borrow.Author.Tests.{eqb-true, eqb-false}
+use Rattle.std.specs.List.{fold, sum as total}
 use Rattle.wire.specs.Lists.{list_of, sum}
 use Rattle.wire.proofs.Lists.{length-list_of, get_d-list_of, number_same}
 use Rattle.pdi.specs.declared.BitLen.{BitLen}
@@ -22,6 +23,18 @@ use Rattle.pdo.proofs.Bits.{at_most}
 use Rattle.pdo.proofs.Records.{product-bounded}
 use Rattle.pdo.proofs.Sums.{bits-turn, bits-end}
 use Rattle.wanted.specs.ByKind.{kind_for, usage_at, has_data, bits_at, bits_in, no_bits, bit_at}
+
+-- the bytes of a part as code sums them up: it is their sum, and no byte is above 255
+sum-from : (n : ℕ) (l : List ℕ) → fold (λ m b. m + b) n (map (λ (b : ℕ). b) l) ≡ n + sum l
+sum-from n [] = sym (add-zero n)
+sum-from n (x ∷ l) = let e = sum-from (n + x) l in omega (arith, e)
+
+pub sum-is : (l : List ℕ) → total (map (λ (b : ℕ). b) l) ≡ sum l
+sum-is l = sum-from 0 l ∙ zero-add (sum l)
+
+pub bytes-most : (l : List ℕ) → ((k : ℕ) → get_or l k 0 < 256) → sum l ≤ 255 * length l
+bytes-most [] h = omega arith
+bytes-most (x ∷ l) h = let a = h 0 in let b = bytes-most l (λ k. h (suc k)) in omega (arith, a, b)
 
 -- one of the sums is written
 sum-set : (sums : List BitLen) (slot k v : ℕ) → slot < length sums → bit_at (set sums slot (record { 0 = bit_at sums slot + v })) k ≡ bit_at sums k + cond (eqb slot k) v 0

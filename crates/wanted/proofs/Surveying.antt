@@ -1,14 +1,15 @@
 -- A survey of uses from the last to the first: one more in front, the numbers that have bits, and its two ends.
 -- Assumes nothing.
 use mathlib.Core.Path.{◌≡◌, refl, sym, ◌∙◌, ap, subst}
-use mathlib.Core.Bool.{Bool, true, false, cond, not, ◌&&◌, ◌||◌, and-false, or_self_left, or_assoc, or_comm}
+use mathlib.Core.Bool.{Bool, true, false, cond, not, ◌&&◌, ◌||◌, and-false, or-false, or_self_left, or_assoc, or_comm}
 use mathlib.Core.List.{List, [], ◌∷◌}
 use Prim.Native.Nat.{ℕ, zero, suc, ◌+◌, ◌-◌, ◌≤◌, ◌<◌}
 use native.Mathlib.Omega.{arith}
-use lib.ListN.{get_or, set, replicate, length-set, get_or-eq_default}
+use lib.ListN.{length, get_or, set, replicate, length-set, get_or-eq_default}
 use lib.Seq.{ext_get_or, get_or-set_same, get_or-set_other}
 use lib.Dec.{eqb, ltb}
 use borrow.Author.Tests.{eq-eqb, ne_eqb, eqb-true, eqb-false, lt-ltb, le-ltb, ltb-true, ltb-false}
+use Rattle.std.specs.List.{list_any, zip}
 use Rattle.wire.specs.Lists.{list_of, some_below}
 use Rattle.wire.proofs.Lists.{some-hit, some-none, some_same, length-list_of, get_d-list_of}
 use Rattle.pdi.specs.declared.BitLen.{BitLen}
@@ -29,6 +30,27 @@ some_or f g (suc n) = ap (λ (b : Bool). b || (f n || g n)) (some_or f g n) ∙ 
     swap false true true d = refl
     swap false true false d = refl
     swap false false c d = refl
+
+-- a question by number: its first part
+pub some_first : (f : ℕ → Bool) (n : ℕ) → some_below f (suc n) ≡ f 0 || some_below (λ j. f (suc j)) n
+unfolding some_below
+some_first f zero = sym (or-false (f 0))
+some_first f (suc n) = ap (λ (b : Bool). b || f (suc n)) (some_first f n) ∙ or_assoc (f 0) (some_below (λ j. f (suc j)) n) (f (suc n))
+
+-- it is asked of each element of a list; of each two of a pair of lists
+pub some-element : {A : Type 0} (f : A → Bool) (d : A) (l : List A) → list_any f l ≡ some_below (λ k. f (get_or l k d)) (length l)
+unfolding some_below
+some-element f d [] = refl
+some-element f d (x ∷ l) = ap (λ (b : Bool). f x || b) (some-element f d l) ∙ sym (some_first (λ k. f (get_or (x ∷ l) k d)) (length l))
+
+pub some-pair : (one two : List Bool) → length one ≡ length two
+    → list_any (λ (p : Bool × Bool). p.0 && p.1) (zip one two) ≡ some_below (λ k. get_or one k false && get_or two k false) (length one)
+unfolding some_below
+some-pair [] two e = refl
+some-pair (x ∷ one) [] e = absurd (omega (arith, e))
+some-pair (x ∷ one) (y ∷ two) e =
+    ap (λ (b : Bool). (x && y) || b) (some-pair one two (omega (arith, e)))
+    ∙ sym (some_first (λ k. get_or (x ∷ one) k false && get_or (y ∷ two) k false) (length one))
 
 -- it is asked of one number alone; it is asked of one once more
 some_at : (f : ℕ → Bool) (e n : ℕ) → e < n → some_below (λ k. eqb e k && f k) n ≡ f e

@@ -1,6 +1,6 @@
 -- Sizes from exact bits, 7 of a direction, and what is wanted on either path.
 -- Assumes nothing.
-use Rattle.std.specs.Prelude.{Bool, false, not, ◌&&◌, List, [], ◌∷◌, ◌++◌, ℕ, ◌-◌, length, replicate, eqb, ltb}
+use Rattle.std.specs.Prelude.{Bool, false, not, ◌&&◌, List, [], ◌∷◌, ◌++◌, ℕ, ◌-◌, Option, Some, None, cond, length, replicate, eqb, ltb}
 use Rattle.wire.specs.Lists.{list_of, some_below}
 use Rattle.wire.specs.Outcome.{Outcome, when, decide}
 use Rattle.pdi.specs.Unit.{bytes_of, too_many_bits}
@@ -8,7 +8,6 @@ use Rattle.pdi.specs.declared.BitLen.{BitLen}
 use Rattle.pdi.specs.declared.ByteLen.{ByteLen}
 use Rattle.sheet.specs.Device.{Data}
 use Rattle.sheet.specs.declared.SyncManager.{SyncManager}
-use Rattle.sheet.specs.declared.Answer.TheVariants.{Accepted}
 use Rattle.channels.specs.Channels.{size_at}
 use Rattle.pdo.specs.declared.PdoDirection.{PdoDirection}
 use Rattle.pdo.specs.declared.PdoDirection.TheVariants.{MasterRead, MasterWrite}
@@ -17,12 +16,12 @@ use Rattle.passes.specs.declared.FmmuMode.{FmmuMode}
 use Rattle.passes.specs.declared.FmmuMode.TheVariants.{OwnNumber, Paired}
 use Rattle.passes.specs.declared.Chosen.{Chosen}
 use Rattle.passes.specs.declared.Route.{Route}
-use Rattle.passes.specs.Use.{coe_entry}
+use Rattle.passes.specs.declared.Route.TheVariants.{Given}
+use Rattle.passes.specs.declared.Wanted.{Wanted}
+use Rattle.passes.specs.Use.{first_with, coe_entry}
 use Rattle.passes.specs.Start.{of_either}
 use Rattle.passes.specs.Handed.{has_usage, route_by}
-use Rattle.wanted.specs.declared.Wanted.{Wanted}
 use Rattle.wanted.specs.ByKind.{bit_at}
-use Rattle.wanted.specs.Wanted.{wanted_after}
 
 -- the first n of sixteen rounded up, each by itself, or 6
 abbrev pub rounded_in : ℕ → List BitLen → Outcome (List ByteLen)
@@ -32,6 +31,10 @@ rounded_in n bits =
 -- some sync manager of the usage has a size above 0
 unfoldable pub some_size : List SyncManager → ℕ → List ByteLen → Bool
 some_size ms usage sizes = some_below (λ k. has_usage usage ms k && ltb 0 (size_at sizes k)) (length ms)
+
+-- the place of the first entry with the usage, if there is one
+abbrev pub first_place : ℕ → List ℕ → Option ℕ
+first_place usage us = cond (ltb (first_with usage us) (length us)) (Some (first_with usage us)) None
 
 -- 7 of a direction, on the CoE path: by an entry that is handed on, and by the one that the sheet has
 abbrev pub lacks_at : Data → List ByteLen → PdoDirection → ℕ → Bool
@@ -45,17 +48,13 @@ abbrev pub pairs_read : Bool → FmmuMode → Bool
 pairs_read path OwnNumber = false
 pairs_read path Paired = not path
 
--- what is wanted by EEPROM; the route on one entry, and the CoE path's; what is wanted on it, or 7
+-- what is wanted by EEPROM; the CoE path's route on one entry; what is wanted on it, or 7
 abbrev pub eeprom_wants : FmmuMode → Chosen → List ByteLen → Wanted
-eeprom_wants mode c sizes = record { answer = Accepted; sizes = sizes; inputs = route_by mode c; outputs = route_by mode c }
-
-abbrev pub route_on : ℕ → Route
-route_on entry = record { own = false; entries = replicate 16 entry }
+eeprom_wants mode c sizes = record { sizes = sizes; routes = record { inputs = route_by mode c; outputs = route_by mode c } }
 
 abbrev pub coe_route : Data → PdoDirection → Route
-coe_route d r = route_on (coe_entry d r)
+coe_route d r = Given (replicate 16 (coe_entry d r))
 
-abbrev pub coe_wants : Data → List ByteLen → Wanted
+abbrev pub coe_wants : Data → List ByteLen → Outcome Wanted
 coe_wants d sizes =
-    wanted_after
-    (decide (when 7 (of_either (lacks_entry d sizes)) ∷ []) (record { answer = Accepted; sizes = sizes; inputs = coe_route d MasterRead; outputs = coe_route d MasterWrite }))
+    decide (when 7 (of_either (lacks_entry d sizes)) ∷ []) (record { sizes = sizes; routes = record { inputs = coe_route d MasterRead; outputs = coe_route d MasterWrite } })

@@ -1,6 +1,7 @@
 -- `with_pair`: its number is none of sixteen; or an earlier pair decided; or it decides.
 -- Assumes nothing.
 use mathlib.Core.Path.{◌≡◌, sym, ◌∙◌}
+use native.Mathlib.Omega.{arith}
 use borrow.Author.Rules.{rules}
 use lib.ListN.{length}
 use Rattle.pairs.proofs.OneMore.{nowhere, decided-before, decided-now}
@@ -16,10 +17,10 @@ pub returns-then-not-after-k : goal.returns-then-not-after-k
 returns-then-not-after-k c =
     let entries : length c.args.before.entries ≡ 16 = search rules in
     let decided : length c.args.before.decided ≡ 16 = search rules in
-    decided-now c.args.before c.args.pair entries decided c.above_with.ensures c.wide-k.ensures.0 c.if-not-after-k.true
+    decided-now c.args.before c.args.pair entries decided c.above_with.ensures (omega arith) c.if-not-after-k.true
 
 pub returns-else-not-after-k : goal.returns-else-not-after-k
 returns-else-not-after-k c =
     let entries : length c.args.before.entries ≡ 16 = search rules in
     let decided : length c.args.before.decided ≡ 16 = search rules in
-    decided-before c.args.before c.args.pair entries decided c.above_with.ensures c.wide-k.ensures.0 c.if-not-after-k.false
+    decided-before c.args.before c.args.pair entries decided c.above_with.ensures (omega arith) c.if-not-after-k.false

@@ -14,15 +14,16 @@ returns-then-manager_count-manager c =
     let s = a.sheet.now in
     counts-nowhere s a.«coe» (get_or s a.at 0) (get_or s (a.at + 1) 0) (omega arith)
 
-pub returns-then-not-is_data : goal.returns-then-not-is_data
-returns-then-not-is_data c =
-    let a = c.args in
-    let s = a.sheet.now in
-    counts-no-data s a.«coe» (get_or s a.at 0) (get_or s (a.at + 1) 0) _ (omega arith) (ap (λ (x : ℕ). get_or s (x + 4) 0) c.manager_place.ensures.0) (sym c.is_data.ensures ∙ c.if-not-is_data.true)
-
-pub returns : goal.returns
-returns c =
+pub returns-then-is_data : goal.returns-then-is_data
+returns-then-is_data c =
     let a = c.args in
     let s = a.sheet.now in
     ap (eqb _) c.kind_for.ensures
-    ∙ counts-data s a.«coe» (get_or s a.at 0) (get_or s (a.at + 1) 0) _ (omega arith) (ap (λ (x : ℕ). get_or s (x + 4) 0) c.manager_place.ensures.0) (sym c.is_data.ensures ∙ c.if-not-is_data.false)
+    ∙ counts-data s a.«coe» (get_or s a.at 0) (get_or s (a.at + 1) 0) _ (omega arith) (ap (λ (x : ℕ). get_or s (x + 4) 0) c.manager_place.ensures.0) (sym c.is_data.ensures ∙ c.if-is_data.true)
+
+pub returns-else-is_data : goal.returns-else-is_data
+returns-else-is_data c =
+    let a = c.args in
+    let s = a.sheet.now in
+    c.if-is_data.false
+    ∙ counts-no-data s a.«coe» (get_or s a.at 0) (get_or s (a.at + 1) 0) _ (omega arith) (ap (λ (x : ℕ). get_or s (x + 4) 0) c.manager_place.ensures.0) (sym c.is_data.ensures ∙ c.if-is_data.false)

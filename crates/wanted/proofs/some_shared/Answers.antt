@@ -1,29 +1,21 @@
--- `wanted::some_shared`: no entry so far is used by both.
+-- `wanted::some_shared`: asked of each two.
 -- Assumes nothing.
-use native.Mathlib.Omega.{arith}
-use Rattle.wanted.proofs.Judging.{no-shared-start, shared-here, not-shared-two, not-shared-one, shared-nowhere}
+use Rattle.std.proofs.Common.{rules, Bool, false, ◌&&◌, ◌≡◌, ◌∙◌, sym, ap, length, get_or}
+use Rattle.std.proofs.lemmas.Iterator.{YieldsList-from_slice, YieldsList-from_zip}
+use Rattle.std.proofs.lemmas.Iterator.Search.{any_from_yields_List}
+use borrow.Author.Tests.{tests}
+use Rattle.wire.specs.Lists.{some_below}
+use Rattle.wanted.specs.Judged.{some_shared}
+use Rattle.wanted.proofs.Surveying.{some-pair}
 use Rattle.wanted.proofs.some_shared.Goals as goal
-use Rattle.wanted.proofs.some_shared.Goals.{then-one-k+else-two-k, else-one-k}
-
-pub loop-k-init : goal.loop-k-init
-loop-k-init c = (omega arith, no-shared-start c.args.one c.args.two)
-
-pub returns-then-two-k : goal.returns-then-two-k
-returns-then-two-k c =
-    let l = c.loop-k in
-    let a = c.args in
-    shared-here a.one a.two l.k (omega arith) c.if-one-k.true c.if-two-k.true
-
-pub loop-k-preserved : goal.loop-k-preserved
-loop-k-preserved c =
-    let l = c.loop-k in
-    let a = c.args in (
-      omega arith,
-      elim c.if-one-k.branch [
-        | then-one-k+else-two-k w ↦ not-shared-two a.one a.two l.k l.invariant.1 w.if-two-k.false
-        | else-one-k w ↦ not-shared-one a.one a.two l.k l.invariant.1 w.if-one-k.false
-      ],
-    )
 
 pub returns : goal.returns
-returns c = let l = c.loop-k in let a = c.args in shared-nowhere a.one a.two l.k (omega arith) l.invariant.1
+unfolding some_shared
+returns c =
+    let one = c.args.one in
+    let two = c.args.two in
+    let a : length one ≡ 16 = search rules in
+    let b : length two ≡ 16 = search rules in
+    any_from_yields_List (λ (p : Bool × Bool). p.0 && p.1) c.any.new.self _ _ c.any.ensures.ran
+    (YieldsList-from_zip {s = c.zip.result} (YieldsList-from_slice {s = c.zip.result.a} one (search rules)) (YieldsList-from_slice {s = c.zip.result.b} two (search rules))) (λ x b q k. search (rules, tests))
+    ∙ some-pair one two (a ∙ sym b) ∙ ap (some_below (λ k. get_or one k false && get_or two k false)) a

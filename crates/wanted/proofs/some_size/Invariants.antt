@@ -2,18 +2,12 @@
 -- Assumes nothing.
 use mathlib.Core.Path.{◌≡◌}
 use mathlib.Core.Bool.{false, ◌&&◌}
-use Prim.Native.Nat.{◌-◌, ◌≤◌}
 use lib.Dec.{ltb}
 use Rattle.wire.specs.Lists.{some_below}
-use Rattle.grammar.specs.Grammar.{manager_count}
 use Rattle.sheet.specs.Sheet.{sheet_data}
 use Rattle.channels.specs.Channels.{size_at}
 use Rattle.passes.specs.Handed.{has_usage}
 use Rattle.wanted.proofs.some_size.Given as goal
 
 abbrev pub invariant-loop-k : goal.invariant-loop-k
-invariant-loop-k l =
-    (l.k ≤ l.n) × (l.n ≡ manager_count l.sheet) × (l.n ≤ 16) × (some_below (λ j. has_usage l.usage (sheet_data l.sheet).managers j && ltb 0 (size_at l.sizes j)) l.k ≡ false)
-
-abbrev pub decreases-loop-k : goal.decreases-loop-k
-decreases-loop-k l = l.n - l.k
+invariant-loop-k l = some_below (λ j. has_usage l.usage (sheet_data l.sheet).managers j && ltb 0 (size_at l.sizes j)) l.k ≡ false

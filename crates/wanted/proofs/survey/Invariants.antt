@@ -6,6 +6,3 @@ use Rattle.wanted.proofs.survey.Given as goal
 
 abbrev pub invariant-loop-k : goal.invariant-loop-k
 invariant-loop-k l = (l.k ≤ 16) × Seen (uses_after l.bits l.entries l.k) l.seen
-
-abbrev pub decreases-loop-k : goal.decreases-loop-k
-decreases-loop-k l = l.k

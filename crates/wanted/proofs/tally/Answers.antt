@@ -1,6 +1,6 @@
 -- `wanted::tally`: the sums so far, and what the records ahead add, are the whole.
 -- Assumes nothing.
-use mathlib.Core.Path.{◌≡◌, sym, ◌∙◌}
+use mathlib.Core.Path.{sym, ◌∙◌}
 use Prim.Native.Nat.{◌+◌, ◌-◌}
 use native.Mathlib.Omega.{arith}
 use lib.ListN.{get_or}
@@ -18,27 +18,26 @@ pub loop-i-init : goal.loop-i-init
 loop-i-init c =
     let s = c.args.sheet.now in
     let k = kept s c.requires.1 in
-    let e : c.wide-count.result ≡ pdo_count s = c.wide-count.ensures.0 ∙ c.pdo_count.ensures in
-    (c.requires.0, k.managers, omega arith, e, omega arith, tallied-start _ _ _ _ (pdo_count s) (pdos_place s) _ c.pdos_place-place.ensures.0 k.walk)
+    (k.managers, omega arith, tallied-start _ _ _ _ (pdo_count s) (pdos_place s) _ c.pdos_place-place.ensures.0 k.walk)
 
 pub counts-requires : goal.counts-requires
 counts-requires c =
-    let fit : Fits c.args.sheet.now (pdo_count c.args.sheet.now - (c.loop-i.i + 1)) c.loop-i.place = next_fits _ _ _ _ c.loop-i.invariant.5 (omega arith) in
-    (omega (arith, fit.within), c.loop-i.invariant.2, c.loop-i.invariant.0)
+    let fit : Fits c.args.sheet.now (pdo_count c.args.sheet.now - (c.loop-i.i + 1)) c.loop-i.place = next_fits _ _ _ _ c.loop-i.invariant.2 (omega arith) in
+    (omega (arith, fit.within), c.loop-i.invariant.1, c.requires.0)
 
 pub overflow_add-place : goal.overflow_add-place
 overflow_add-place c =
-    let fit : Fits c.args.sheet.now (pdo_count c.args.sheet.now - (c.loop-i.i + 1)) c.loop-i.place = next_fits _ _ _ _ c.loop-i.invariant.5 (omega arith) in
+    let fit : Fits c.args.sheet.now (pdo_count c.args.sheet.now - (c.loop-i.i + 1)) c.loop-i.place = next_fits _ _ _ _ c.loop-i.invariant.2 (omega arith) in
     omega (arith, fit.within)
 
 pub overflow_add-place-in-loop-i : goal.overflow_add-place-in-loop-i
 overflow_add-place-in-loop-i c =
-    let fit : Fits c.args.sheet.now (pdo_count c.args.sheet.now - (c.loop-i.i + 1)) c.loop-i.place = next_fits _ _ _ _ c.loop-i.invariant.5 (omega arith) in
+    let fit : Fits c.args.sheet.now (pdo_count c.args.sheet.now - (c.loop-i.i + 1)) c.loop-i.place = next_fits _ _ _ _ c.loop-i.invariant.2 (omega arith) in
     omega (arith, fit.within)
 
 pub bounds-sheet-place : goal.bounds-sheet-place
 bounds-sheet-place c =
-    let fit : Fits c.args.sheet.now (pdo_count c.args.sheet.now - (c.loop-i.i + 1)) c.loop-i.place = next_fits _ _ _ _ c.loop-i.invariant.5 (omega arith) in
+    let fit : Fits c.args.sheet.now (pdo_count c.args.sheet.now - (c.loop-i.i + 1)) c.loop-i.place = next_fits _ _ _ _ c.loop-i.invariant.2 (omega arith) in
     omega (arith, fit.within)
 
 pub bounds-sums-slot : goal.bounds-sums-slot
@@ -49,18 +48,18 @@ bounds-sums-slot c =
 
 pub pdo_bits-requires : goal.pdo_bits-requires
 pdo_bits-requires c =
-    let fit : Fits c.args.sheet.now (pdo_count c.args.sheet.now - (c.loop-i.i + 1)) c.loop-i.place = next_fits _ _ _ _ c.loop-i.invariant.5 (omega arith) in
-    (fit.within, fit.kind, c.loop-i.invariant.0)
+    let fit : Fits c.args.sheet.now (pdo_count c.args.sheet.now - (c.loop-i.i + 1)) c.loop-i.place = next_fits _ _ _ _ c.loop-i.invariant.2 (omega arith) in
+    (fit.within, fit.kind, c.requires.0)
 
 pub overflow_mul-sums : goal.overflow_mul-sums
-overflow_mul-sums c = omega (arith, product-bounded c.pdo_bits.result c.multiplier_at.result c.pdo_bits.ensures.1 (omega arith))
+overflow_mul-sums c = omega (arith, product-bounded c.pdo_bits.result c.from.result c.pdo_bits.ensures.1 (omega arith))
 
 pub overflow_add-sums : goal.overflow_add-sums
 overflow_add-sums c =
     let s = c.args.sheet.now in
     let h = counts-there s c.args.«coe» (get_or s c.loop-i.place 0) (get_or s (c.loop-i.place + 1) 0) (sym c.counts.ensures ∙ c.if-counts.true) in
-    let product = product-bounded c.pdo_bits.result c.multiplier_at.result c.pdo_bits.ensures.1 (omega arith) in
-    omega (arith, product, c.loop-i.invariant.5.small c.wide-slot.result (omega arith))
+    let product = product-bounded c.pdo_bits.result c.from.result c.pdo_bits.ensures.1 (omega arith) in
+    omega (arith, product, c.loop-i.invariant.2.small c.from-slot.result (omega arith))
 
 pub bounds-sums-slot-then-counts : goal.bounds-sums-slot-then-counts
 bounds-sums-slot-then-counts c =
@@ -70,40 +69,35 @@ bounds-sums-slot-then-counts c =
 
 pub overflow_add-place-in-loop-i-2 : goal.overflow_add-place-in-loop-i-2
 overflow_add-place-in-loop-i-2 c =
-    let fit : Fits c.args.sheet.now (pdo_count c.args.sheet.now - (c.loop-i.i + 1)) c.loop-i.place = next_fits _ _ _ _ c.loop-i.invariant.5 (omega arith) in
+    let fit : Fits c.args.sheet.now (pdo_count c.args.sheet.now - (c.loop-i.i + 1)) c.loop-i.place = next_fits _ _ _ _ c.loop-i.invariant.2 (omega arith) in
     omega (arith, fit.within)
 
 pub bounds-sheet-place-in-loop-i : goal.bounds-sheet-place-in-loop-i
 bounds-sheet-place-in-loop-i c =
-    let fit : Fits c.args.sheet.now (pdo_count c.args.sheet.now - (c.loop-i.i + 1)) c.loop-i.place = next_fits _ _ _ _ c.loop-i.invariant.5 (omega arith) in
+    let fit : Fits c.args.sheet.now (pdo_count c.args.sheet.now - (c.loop-i.i + 1)) c.loop-i.place = next_fits _ _ _ _ c.loop-i.invariant.2 (omega arith) in
     omega (arith, fit.within)
 
 pub overflow_add-place-in-loop-i-3 : goal.overflow_add-place-in-loop-i-3
 overflow_add-place-in-loop-i-3 c =
-    let fit : Fits c.args.sheet.now (pdo_count c.args.sheet.now - (c.loop-i.i + 1)) c.loop-i.place = next_fits _ _ _ _ c.loop-i.invariant.5 (omega arith) in
+    let fit : Fits c.args.sheet.now (pdo_count c.args.sheet.now - (c.loop-i.i + 1)) c.loop-i.place = next_fits _ _ _ _ c.loop-i.invariant.2 (omega arith) in
     omega (arith, fit.within)
 
 pub loop-i-preserved : goal.loop-i-preserved
 loop-i-preserved c =
     let l = c.loop-i in
-    let i = l.invariant in
     let s = c.args.sheet.now in
-    let next = l.place + 5 + c.wide.result in
+    let next = l.place + (5 + c.from-in-loop-i.result) in
     let e = sym c.counts.ensures in (
-      i.0,
-      i.1,
-      i.2,
-      i.3,
-      i.4,
+      l.invariant.0,
+      l.invariant.1,
       elim c.if-counts.branch [
         | then-counts w ↦
-            let h = counts-there s c.args.«coe» (get_or s l.place 0) (get_or s (l.place + 1) 0) (e ∙ w.if-counts.true) in
-            tallied-here _ _ _ _ i.5 next (omega arith) (omega arith) w.wide-slot.result w.pdo_bits.result w.multiplier_at.result _ (e ∙ w.if-counts.true)
-            w.wide-slot.ensures.0 (omega arith) w.pdo_bits.ensures.0 w.multiplier_at.ensures w.pdo_bits.ensures.1 (omega arith) w.sums-is
-        | else-counts w ↦ tallied-on _ _ _ _ i.5 next (omega arith) (omega arith) _ (e ∙ w.if-counts.false) w.sums-is
+            tallied-here _ _ _ _ l.invariant.2 next (omega arith) (omega arith) w.from-slot.result w.pdo_bits.result w.from.result _ (e ∙ w.if-counts.true)
+            (omega arith) (omega (arith, counts-there s c.args.«coe» (get_or s l.place 0) (get_or s (l.place + 1) 0) (e ∙ w.if-counts.true))) w.pdo_bits.ensures.0 (omega arith) w.pdo_bits.ensures.1 (omega arith) w.sums-is
+        | else-counts w ↦ tallied-on _ _ _ _ l.invariant.2 next (omega arith) (omega arith) _ (e ∙ w.if-counts.false) w.sums-is
       ],
     )
 
 pub returns : goal.returns
 unfolding sheet_data
-returns c = let a = c.args in sums-are a.sheet.now a.«coe» a.multipliers.now _ (tallied-end _ _ _ _ c.loop-i.invariant.5 (omega arith))
+returns c = let a = c.args in sums-are a.sheet.now a.«coe» a.multipliers.now _ (tallied-end _ _ _ _ c.loop-i.invariant.2 (omega arith))

@@ -1,7 +1,6 @@
 -- `wanted::tally`: the sums so far, and what the records ahead add, are the whole.
 -- Assumes nothing.
-use mathlib.Core.Path.{◌≡◌}
-use Prim.Native.Nat.{◌-◌, ◌≤◌}
+use Prim.Native.Nat.{◌≤◌}
 use lib.ListN.{length}
 use Rattle.grammar.specs.Grammar.{manager_count, pdo_count, usages_place, pdos_place}
 use Rattle.sheet.specs.Sheet.{sheet_data}
@@ -11,8 +10,5 @@ use Rattle.wanted.proofs.tally.Given as goal
 
 abbrev pub invariant-loop-i : goal.invariant-loop-i
 invariant-loop-i l =
-    (length l.sheet ≤ 16386) × (manager_count l.sheet ≤ 16) × (usages_place l.sheet ≤ length l.sheet) × (l.count ≡ pdo_count l.sheet) × (l.count ≤ 255)
+    (manager_count l.sheet ≤ 16) × (usages_place l.sheet ≤ length l.sheet)
     × Tallied l.sheet l.multipliers (λ k. kind_for l.coe (usage_at (sheet_data l.sheet).managers k)) (has_data (sheet_data l.sheet).managers) (pdo_count l.sheet) (pdos_place l.sheet) l.sums l.place l.i
-
-abbrev pub decreases-loop-i : goal.decreases-loop-i
-decreases-loop-i l = l.count - l.i
