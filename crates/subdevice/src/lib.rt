@@ -3,8 +3,9 @@
 
 ghost use Rattle.passes.specs.Call.{Configures};
 
-use passes::{Chosen, Configured, Offsets, Settings};
-use sheet::Answer;
+use passes::{Both, Chosen, Mapping, Settings};
+use pdi::PdiOffset;
+use wire::Reason;
 
 // Second stage: inputs and outputs, both or neither. Lent a multiplier for each PDO; one that is lacking is 1.
 pub fn configure(
@@ -13,29 +14,16 @@ pub fn configure(
     chosen: Chosen,
     fmmus: &mut [u8],
     channels: &mut [u8],
-    offsets: Offsets,
+    offsets: Both<PdiOffset>,
     settings: Settings,
-) -> Configured
+) -> Result<Both<Mapping>, Reason>
     ensures { Configures sheet.now multipliers.now chosen offsets settings fmmus.old channels.old result fmmus.new channels.new }
 {
-    if fmmus.len() != 256 {
-        return Configured::Refused(1);
+    if fmmus.len() != 256 || channels.len() != 128 {
+        return Err(Reason::AreaLength);
     }
-    if channels.len() != 128 {
-        return Configured::Refused(1);
-    }
-    let mode = settings.mode;
-    let wanted = wanted::wanted_of(sheet, multipliers, mode, chosen);
-    let answer = wanted.answer;
-    if let Answer::Refused(number) = answer {
-        return Configured::Refused(number);
-    }
-    let sizes = wanted.sizes;
-    let inputs = wanted.inputs;
-    let outputs = wanted.outputs;
-    let done = entries::write_entries(fmmus, sheet, sizes, inputs, outputs, offsets, settings);
-    if let Configured::Mapped(_, _) = done {
-        channels::write_channels(channels, sheet, sizes);
-    }
-    done
+    let wanted = wanted::wanted_of(sheet, multipliers, settings.mode, chosen)?;
+    let mapped = entries::write_entries(fmmus, sheet, wanted, offsets, settings)?;
+    channels::write_channels(channels, sheet, wanted.sizes);
+    Ok(mapped)
 }
