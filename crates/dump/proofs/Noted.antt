@@ -176,7 +176,7 @@ module _ (dump : List ℕ) where
     noted-end t (Some place) n = sym n
 
   pub seen_end : {f m i o : Option ℕ} {known at : ℕ} → Seen f m i o known at → category_long (drop at dump) ≡ 0
-      → Finds dump (record { fmmus = f; managers = m; inputs = i; outputs = o; known = known; end = at })
+      → Finds dump (record { places = record { fmmus = f; managers = m; inputs = i; outputs = o }; known = known; end = at })
   seen_end {f} {m} {i} {o} {known} {at} s z =
       let none = no-category (drop at dump) z in
       let k = ap known_in none in

@@ -50,11 +50,11 @@ known_in cs = how_many 40 cs + (how_many 41 cs + (how_many 50 cs + how_many 51 c
 
 -- what one walk finds of a dump
 pub record Finds (dump : List ℕ) (r : Found) : Type 0 where
-  pub fmmus : categories (from_place r.fmmus dump) ≡ from_type 40 (categories dump)
-  pub managers : categories (from_place r.managers dump) ≡ from_type 41 (categories dump)
-  pub inputs : categories (from_place r.inputs dump) ≡ from_type 50 (categories dump)
-  pub outputs : categories (from_place r.outputs dump) ≡ from_type 51 (categories dump)
-  pub order : comes_before r.inputs r.outputs ≡ ltb (length (from_type 51 (categories dump))) (length (from_type 50 (categories dump)))
+  pub fmmus : categories (from_place r.places.fmmus dump) ≡ from_type 40 (categories dump)
+  pub managers : categories (from_place r.places.managers dump) ≡ from_type 41 (categories dump)
+  pub inputs : categories (from_place r.places.inputs dump) ≡ from_type 50 (categories dump)
+  pub outputs : categories (from_place r.places.outputs dump) ≡ from_type 51 (categories dump)
+  pub order : comes_before r.places.inputs r.places.outputs ≡ ltb (length (from_type 51 (categories dump))) (length (from_type 50 (categories dump)))
   pub known : r.known ≡ known_in (categories dump)
   pub end : drop r.end dump ≡ rest_of category_long dump
 

@@ -1,7 +1,7 @@
 // A device's own EEPROM dump: the category area of ETG2010, read as device data of the EEPROM path.
 #![tactic(auto)]
 
-ghost use Rattle.std.specs.Prelude.{◌≡◌, cond, ◌||◌, map, ◌++◌, ◌+◌, ◌*◌, ◌-◌, ◌/◌, ◌≤◌, ◌<◌, length, replicate, ltb};
+ghost use Rattle.std.specs.Prelude.{◌≡◌, cond, ◌||◌, eqb, map, ◌++◌, ◌+◌, ◌*◌, ◌-◌, ◌/◌, ◌≤◌, ◌<◌, length, replicate, ltb};
 ghost use Rattle.wire.specs.Number.{little_at};
 ghost use Rattle.wire.specs.Lists.{some_of};
 ghost use Rattle.wire.specs.Room.{over};
@@ -89,22 +89,51 @@ fn content(rest: &[u8]) -> &[u8]
     wire::behind(wire::front(rest, category_long(rest).unwrap_or(0)), 4)
 }
 
-// What a walk over a dump finds: where the first category of each of the four types begins, how many are of these types, and where all of them end.
+// Where the first category of each of the four types begins, where there is one.
 #[derive(Clone, Copy)]
-struct Found {
+struct Places {
     fmmus: Option<usize>,
     managers: Option<usize>,
     inputs: Option<usize>,
     outputs: Option<usize>,
-    known: usize,
-    end: usize,
 }
 
-// The first place counts.
-fn first(noted: Option<usize>, at: usize, here: bool) -> Option<usize>
-    ensures { result ≡ first_noted noted at here }
-{
-    noted.or(here.then_some(at))
+impl Places {
+    // With a category of a type at a place: the first of each type counts.
+    fn with(self, kind: u16, at: usize) -> Places
+        ensures fmmus { result.fmmus ≡ first_noted self.fmmus at (eqb kind 40) }
+        ensures managers { result.managers ≡ first_noted self.managers at (eqb kind 41) }
+        ensures inputs { result.inputs ≡ first_noted self.inputs at (eqb kind 50) }
+        ensures outputs { result.outputs ≡ first_noted self.outputs at (eqb kind 51) }
+    {
+        match kind {
+            FMMU => Places {
+                fmmus: self.fmmus.or(Some(at)),
+                ..self
+            },
+            SYNC_MANAGER => Places {
+                managers: self.managers.or(Some(at)),
+                ..self
+            },
+            TX_PDO => Places {
+                inputs: self.inputs.or(Some(at)),
+                ..self
+            },
+            RX_PDO => Places {
+                outputs: self.outputs.or(Some(at)),
+                ..self
+            },
+            _ => self,
+        }
+    }
+}
+
+// What a walk over a dump finds: those places, how many categories are of the four types, and where all of them end.
+#[derive(Clone, Copy)]
+struct Found {
+    places: Places,
+    known: usize,
+    end: usize,
 }
 
 // Whether a type is one of the four.
@@ -118,30 +147,22 @@ fn is_known(kind: u16) -> bool
 fn find(dump: &[u8]) -> Found
     ensures { Finds dump.now result }
 {
-    let mut fmmus = None;
-    let mut managers = None;
-    let mut inputs = None;
-    let mut outputs = None;
+    let mut places = Places {
+        fmmus: None,
+        managers: None,
+        inputs: None,
+        outputs: None,
+    };
     let mut known = 0;
     let mut end = 0;
     while let Some(long) = category_long(wire::behind(dump, end)) {
         let rest = wire::behind(dump, end);
         let kind = wire::le16(rest[0], rest[1]);
-        fmmus = first(fmmus, end, kind == FMMU);
-        managers = first(managers, end, kind == SYNC_MANAGER);
-        inputs = first(inputs, end, kind == TX_PDO);
-        outputs = first(outputs, end, kind == RX_PDO);
+        places = places.with(kind, end);
         known += usize::from(is_known(kind));
         end += long;
     }
-    Found {
-        fmmus,
-        managers,
-        inputs,
-        outputs,
-        known,
-        end,
-    }
+    Found { places, known, end }
 }
 
 // The dump from a place on; nothing where there is no place.
@@ -196,14 +217,14 @@ fn manager(rest: &[u8]) -> SyncManager
 fn some_manager_unnamed(records: &[u8]) -> bool
     ensures { result ≡ some_of (λ m. ltb 4 m.usage_type) (map manager_for (parts_of manager_long records.now)) }
 {
-    (0..records.len() / 8).any(|k| 4 < wire::byte_at(records, 8 * k + 7))
+    (0..records.len() / 8).any(|k| 4 < records[8 * k + 7])
 }
 
 // 5: whether a control has an unnamed mode or direction.
 fn some_control_unnamed(records: &[u8]) -> bool
     ensures { result ≡ some_unnamed (map manager_for (parts_of manager_long records.now)) }
 {
-    (0..records.len() / 8).any(|k| Control::unpack(wire::byte_at(records, 8 * k + 4)).unnamed())
+    (0..records.len() / 8).any(|k| Control::unpack(records[8 * k + 4]).unnamed())
 }
 
 // The sync managers.
@@ -390,10 +411,10 @@ pub fn read(dump: &[u8], head: Head, room: &mut [u8]) -> Result<Device, Reason>
     if !marked(wire::behind(dump, found.end)) {
         return Err(Reason::DumpCutShort);
     }
-    let fmmus = from_place(dump, found.fmmus);
-    let managers = from_place(dump, found.managers);
-    let inputs = from_place(dump, found.inputs);
-    let outputs = from_place(dump, found.outputs);
+    let fmmus = from_place(dump, found.places.fmmus);
+    let managers = from_place(dump, found.places.managers);
+    let inputs = from_place(dump, found.places.inputs);
+    let outputs = from_place(dump, found.places.outputs);
     let usages = content(fmmus);
     let records = content(managers);
     let tx = pdo_records(content(inputs));
@@ -413,7 +434,7 @@ pub fn read(dump: &[u8], head: Head, room: &mut [u8]) -> Result<Device, Reason>
         return Err(Reason::RoomTooShort);
     }
     put_records(
-        comes_before(found.inputs, found.outputs),
+        comes_before(found.places.inputs, found.places.outputs),
         inputs,
         outputs,
         room,

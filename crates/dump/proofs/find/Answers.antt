@@ -12,7 +12,7 @@ loop-long-preserved c =
     let long = c.in-Some.ensures.0 ∙ ap category_long c.behind.ensures in
     let known = flag-counts c.is_known.result c.is_known.ensures in
     seen-turn c.args.dump.now c.loop-long.end c.in-Some.long long c.in-Some.ensures.1 c.le16-kind.result c.loop-long.invariant kind
-    c.first-fmmus.ensures c.first-managers.ensures c.first-inputs.ensures c.first-outputs.ensures (c.from-known.ensures ∙ known.0)
+    c.with-places.ensures.fmmus c.with-places.ensures.managers c.with-places.ensures.inputs c.with-places.ensures.outputs (c.from-known.ensures ∙ known.0)
     (omega (arith, c.from-known.ensures, known.1))
 
 pub returns : goal.returns

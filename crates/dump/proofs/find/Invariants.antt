@@ -6,7 +6,7 @@ use Rattle.dump.proofs.Noted.{Seen}
 use Rattle.dump.proofs.find.Given as goal
 
 abbrev pub invariant-loop-long : goal.invariant-loop-long
-invariant-loop-long l = Seen l.dump l.fmmus l.managers l.inputs l.outputs l.known l.end
+invariant-loop-long l = Seen l.dump l.places.fmmus l.places.managers l.places.inputs l.places.outputs l.known l.end
 
 abbrev pub decreases-loop-long : goal.decreases-loop-long
 decreases-loop-long l = length l.initial.dump - l.end

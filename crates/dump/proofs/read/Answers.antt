@@ -103,7 +103,7 @@ module _ (c : After-second-twice) where
   pdos b = pdos_from b (categories c.from_place-inputs.result.now) (categories c.from_place-outputs.result.now)
 
   abbrev inputs_first : Bool
-  inputs_first = comes_before c.find-found.result.inputs c.find-found.result.outputs
+  inputs_first = comes_before c.find-found.result.places.inputs c.find-found.result.places.outputs
 
   counted : (b : Bool) → count ≡ length (pdos b)
   counted b =
