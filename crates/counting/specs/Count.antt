@@ -1,8 +1,10 @@
 -- Counting through the sync managers (document 01, 'Counting').
 -- Assumes nothing.
 use Rattle.std.specs.Prelude.{cond, List, [], ◌∷◌, ◌++◌, ℕ, ◌+◌, ◌-◌}
+use Rattle.std.specs.Prelude as std
 use Rattle.std.proofs.Math.Option.{Option, none, some}
-use Rattle.wire.specs.Outcome.{Outcome, refused, accepted, Refusal, when, decide}
+use Rattle.wire.specs.Outcome.{Outcome, refused, accepted, Refusal, when, decide, outcome_by}
+use Rattle.wire.specs.declared.Reason.{Reason}
 use Rattle.pdi.specs.Unit.{bytes_of}
 use Rattle.pdi.specs.Offset.{past_end}
 use Rattle.sheet.specs.Sheet.{sheet_refusals, sheet_data}
@@ -12,8 +14,6 @@ use Rattle.passes.specs.Use.{size_of}
 use Rattle.passes.specs.Pass.{wanted_refusals}
 use Rattle.translation.specs.Translate.{within, named, reached_of}
 use Rattle.counting.specs.declared.Position.{Position}
-use Rattle.counting.specs.declared.Counted.{Counted}
-use Rattle.counting.specs.declared.Counted.TheVariants.{Nowhere, In, Refused}
 
 -- where an address is reached: the sync manager, the byte within it, and the device address, none if that is over 65,535
 pub record Spot : Type 0 where
@@ -52,11 +52,13 @@ device_alone (accepted p) = accepted (device_in p)
 abbrev pub counted_address : PdoDirection → ℕ → List ℕ → List ℕ → ℕ → Outcome (Option ℕ)
 counted_address r a sheet ws offset = device_alone (count r a sheet ws offset)
 
--- what the cases of `Counted` say
+-- what an answer says: a position, if there is one, and what counting does
 abbrev pub spot_of : Position → Spot
 spot_of p = record { manager = p.sync_manager; byte = p.byte; device = reached_of p.device }
 
-abbrev pub counted_of : Counted → Outcome (Option Spot)
-counted_of Nowhere = accepted none
-counted_of (In p) = accepted (some (spot_of p))
-counted_of (Refused n) = refused n
+abbrev pub found_of : std.Option Position → Option Spot
+found_of std.None = none
+found_of (std.Some p) = some (spot_of p)
+
+abbrev pub counted_of : std.Result (std.Option Position) Reason → Outcome (Option Spot)
+counted_of r = outcome_by found_of r

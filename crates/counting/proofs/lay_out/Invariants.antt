@@ -1,9 +1,7 @@
 -- `counting::lay_out`: what is found and where the rest ends are what all find and where all end.
 -- Assumes nothing.
-use mathlib.Core.Path.{◌≡◌}
-use Prim.Native.Nat.{◌+◌, ◌-◌, ◌*◌, ◌≤◌, min}
+use Prim.Native.Nat.{◌+◌, ◌*◌, ◌≤◌}
 use lib.ListN.{drop}
-use Rattle.grammar.specs.Grammar.{manager_count}
 use Rattle.sheet.specs.Sheet.{managers_in}
 use Rattle.channels.specs.Channels.{size_at}
 use Rattle.pdo.specs.Bits.{pieces_from}
@@ -13,8 +11,5 @@ use Rattle.counting.proofs.lay_out.Given as goal
 
 abbrev pub invariant-loop-k : goal.invariant-loop-k
 invariant-loop-k l =
-    (l.k ≤ l.n) × (l.n ≡ min (manager_count l.sheet) 16) × (l.end ≤ 4294967295 + l.k * 65535)
+    (l.end ≤ 4294967295 + l.k * 65535)
     × Laying (pieces_by l.usage l.sizes (managers_in l.sheet)) l.initial.end l.address (pieces_from l.usage (λ j. 8 * size_at l.sizes j) l.k (drop l.k (managers_in l.sheet))) l.end l.found
-
-abbrev pub decreases-loop-k : goal.decreases-loop-k
-decreases-loop-k l = l.n - l.k

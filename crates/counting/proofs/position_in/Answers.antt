@@ -1,9 +1,11 @@
 -- `counting::position_in`: not held, or the byte counted from the start.
 -- Assumes nothing.
-use mathlib.Core.Path.{◌≡◌, sym, ◌∙◌, ap}
+use mathlib.Core.Path.{◌≡◌, sym, ◌∙◌}
 use mathlib.Core.Bool.{true}
-use Prim.Native.Nat.{ℕ, ◌+◌, ◌-◌, ◌<◌}
+use Prim.Native.Nat.{◌+◌, ◌-◌}
 use native.Mathlib.Omega.{arith}
+use Rattle.grammar.specs.Grammar.{manager_place}
+use Rattle.sheet.specs.Sheet.{manager_at}
 use Rattle.translation.specs.Translate.{within, named}
 use Rattle.translation.proofs.Lies.{started, among}
 use Rattle.counting.proofs.Counting.{not-held, held_at}
@@ -17,20 +19,17 @@ returns-then-not-within c =
 pub overflow_sub-byte : goal.overflow_sub-byte
 overflow_sub-byte c =
     let held : within c.args.start c.args.size.0 c.args.address ≡ true = sym c.within.ensures ∙ c.if-not-within.false in
-    let a = c.args in started a.start a.size.0 a.address (held)
+    omega (arith, started c.args.start c.args.size.0 c.args.address held)
 
 pub overflow_cast-result : goal.overflow_cast-result
 overflow_cast-result c =
     let held : within c.args.start c.args.size.0 c.args.address ≡ true = sym c.within.ensures ∙ c.if-not-within.false in
-    let few : c.args.address - c.args.start < 65536 = let a = c.args in
-    let l = among a.start a.size.0 a.address (held) in
-    let w = c.well_formed in
-    omega arith in
-    let l = few in omega arith
+    omega (arith, among c.args.start c.args.size.0 c.args.address held)
 
 pub returns : goal.returns
 returns c =
     let held : within c.args.start c.args.size.0 c.args.address ≡ true = sym c.within.ensures ∙ c.if-not-within.false in
     let a = c.args in
-    held_at a.start a.size.0 a.k _ a.address c.named.result (held)
-    (c.named.ensures ∙ ap (λ (x : ℕ). named (x + (a.address - a.start))) c.start_of.ensures)
+    let at : c.from.result ≡ a.address = omega arith in
+    let from : c.from-2.result ≡ (manager_at a.sheet.now (manager_place a.k)).start_addr = omega arith in
+    rw at (held_at a.start a.size.0 a.k _ a.address c.named.result held (c.named.ensures ∙ (λ i. named (from i + (at i - a.start)))))
