@@ -8,7 +8,7 @@ use native.Mathlib.Omega.{arith}
 use lib.ListN.{length, take, drop}
 use lib.Seq.{get_or-take}
 use lib.Dec.{eqb, ltb, leb}
-use borrow.Author.Tests.{eqb-true, eqb-false, leb-true, lt-leb, lt-ltb}
+use borrow.Author.Tests.{eqb-true, eqb-false, leb-true, lt-ltb}
 use Rattle.wire.specs.Number.{little_at}
 use Rattle.dump.specs.Parts.{whole}
 use Rattle.dump.specs.Categories.{type_of, marked, category_long, categories, how_many}
@@ -36,14 +36,6 @@ category-stands l = go (marked l) (leb (4 + 2 * little_at l 2 2) (length l)) ref
     go true c e f h = absurd (omega arith)
     go false true e f h = record { unmarked = e; long = rw (e, f); within = leb-true (4 + 2 * little_at l 2 2) (length l) f }
     go false false e f h = absurd (omega arith)
-
--- fewer than four bytes hold none
-pub none-short : (l : List ℕ) → length l < 4 → category_long l ≡ 0
-none-short l h = rw (lt-leb (4 + 2 * little_at l 2 2) (length l) (omega arith)) (go (marked l))
-  where
-    go : (b : Bool) → cond {A = ℕ} b 0 0 ≡ 0
-    go true = refl
-    go false = refl
 
 -- none stands at the front, or one does, before those behind it
 pub no-category : (l : List ℕ) → category_long l ≡ 0 → categories l ≡ []

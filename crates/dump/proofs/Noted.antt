@@ -15,7 +15,7 @@ use Rattle.dump.specs.Parts.{rest_of}
 use Rattle.dump.specs.Categories.{type_of, category_long, categories}
 use Rattle.dump.specs.Looked.{from_type, from_place, first_noted, comes_before, known_type, known_in, Finds}
 use Rattle.dump.proofs.Parts.{rest-none, rest-on}
-use Rattle.dump.proofs.Categories.{category-fits, no-category, category-on, category-stands, type-alone}
+use Rattle.dump.proofs.Categories.{category-fits, no-category, category-on, type-alone}
 
 -- a flag as a number: that of its type, and at most one
 pub flag-counts : (b : Bool) {known : ℕ} → cond b 1 0 ≡ known → (bool_byte b ≡ known) × (bool_byte b ≤ 1)
@@ -55,27 +55,8 @@ module _ (dump : List ℕ) where
   none_left : left None ≡ 0
   none_left = ap length (no-category [] refl)
 
-  pub seen_start : Seen None None None None 0 0
-  seen_start =
-      record {
-        rest = refl;
-        within = omega arith;
-        few = omega arith;
-        count = omega arith;
-        fmmus_noted = refl;
-        managers_noted = refl;
-        inputs_noted = refl;
-        outputs_noted = refl;
-        inputs_passed = tt;
-        outputs_passed = tt;
-        order = sym (le-ltb (left None) (left None) (omega arith));
-      }
-
   -- the category where the walk stands, and those behind it
   module _ (at long : ℕ) (e : long ≡ category_long (drop at dump)) (h : 0 < long) where
-    pub four-there : 4 ≤ length (drop at dump)
-    four-there = omega (arith, (category-stands (drop at dump) (omega arith)).within)
-
     behind : drop (category_long (drop at dump)) (drop at dump) ≡ drop (at + long) dump
     behind = drop-drop (category_long (drop at dump)) at dump ∙ ap (λ (k : ℕ). drop (at + k) dump) (sym e)
 

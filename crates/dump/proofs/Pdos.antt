@@ -24,7 +24,7 @@ use Rattle.dump.specs.Records.{pdo_long, bits_in, pdo_for, pdos_for}
 use Rattle.dump.specs.declared.Kind.{Kind}
 use Rattle.dump.specs.declared.Kind.TheVariants.{Input, Output}
 use Rattle.dump.specs.Looked.{number_of}
-use Rattle.dump.proofs.Parts.{whole-fits, parts_none, parts-on, Walk, walk_start, walk_turn, walk_end}
+use Rattle.dump.proofs.Parts.{whole-fits, parts_none, parts-on, Walk, walk_turn, walk_end}
 
 -- a record that stands at the front is within the bytes
 pub pdo-fits : (l : List ℕ) → pdo_long l ≤ length l
@@ -118,9 +118,6 @@ pub record Put (kind to : ℕ) (l room₀ : List ℕ) (at place : ℕ) (room : L
   pub there : place ≡ to + 7 * k
   pub long : length room ≡ length room₀
   pub gives : stored_at place (flat (map pdo_bytes (pdos_for kind (drop at l)))) room ≡ stored_at to (flat (map pdo_bytes (pdos_for kind l))) room₀
-
-pub put-start : (kind to : ℕ) (l room : List ℕ) → Put kind to l room 0 to room
-put-start kind to l room = record { k = 0; walk = walk_start pdo_long pdo-fits l; there = omega arith; long = refl; gives = refl }
 
 module _ {kind to : ℕ} {l room₀ : List ℕ} {at place : ℕ} {room : List ℕ} (p : Put kind to l room₀ at place room) (h : 0 < kind)
     (fits : to + 7 * length (parts_of pdo_long l) ≤ length room₀) where
