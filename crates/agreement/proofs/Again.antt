@@ -6,6 +6,7 @@ use mathlib.Core.List.{List, [], map}
 use mathlib.Core.Logic.{◌⊎◌, inl, inr, ⊎_elim}
 use Prim.Native.Nat.{ℕ, ◌<◌}
 use lib.ListN.{length, get_or, length-map}
+use Rattle.std.specs.Prelude.{Ok}
 use Rattle.wire.specs.Outcome.{Outcome, accepted}
 use Rattle.wire.specs.Image.{Bytes}
 use Rattle.wire.specs.Lists.{Each, some_of}
@@ -20,12 +21,10 @@ use Rattle.area.proofs.Flat.{length-chunks}
 use Rattle.channels.specs.Channels.{channels_after}
 use Rattle.passes.specs.declared.OldEntries.TheVariants.{Clear}
 use Rattle.passes.specs.declared.Chosen.{Chosen}
-use Rattle.passes.specs.declared.Offsets.{Offsets}
-use Rattle.passes.specs.declared.Segments.TheVariants as segments
 use Rattle.passes.specs.declared.Settings.{Settings}
 use Rattle.passes.specs.Use.{Use}
 use Rattle.passes.specs.Old.{cleared_of_both, both_bits, some_enabled, in_the_way}
-use Rattle.passes.specs.Start.{Both, segments_alone, offsets_after}
+use Rattle.passes.specs.Start.{Offsets, Both, segments_alone, offsets_after}
 use Rattle.passes.specs.Entries.{plan, plan_both, too_long, uses_of_both}
 use Rattle.passes.specs.Pass.{not_areas}
 use Rattle.passes.specs.Call.{uses_for, starts_at, call_refusals, both_of, call, both_size, entries_after, images_after, Calls}
@@ -221,8 +220,8 @@ module _ (sheet ws : List ℕ) (chosen : Chosen) (o : Offsets) (settings : Setti
 -- what it left, with the same answer and offsets, keeps the promise of the call made again; and the promise leaves one answer
 kept_again :
     (sheet ws : List ℕ) (chosen : Chosen) (o : Offsets) (settings : Settings) (fmmus channels : List ℕ) (i u : PdiSegment) (p : Offsets) (f g : List ℕ)
-    → Bytes sheet → Calls sheet ws chosen o (with_old Clear settings) fmmus channels (segments.Both i u) p f g
-    → Calls sheet ws chosen o (with_old Clear settings) f g (segments.Both i u) p f g
+    → Bytes sheet → Calls sheet ws chosen o (with_old Clear settings) fmmus channels (Ok (record { inputs = i; outputs = u })) p f g
+    → Calls sheet ws chosen o (with_old Clear settings) f g (Ok (record { inputs = i; outputs = u })) p f g
 kept_again sheet ws chosen o settings fmmus channels i u p f g bytes k =
     let a = answered (by_default sheet ws chosen o settings fmmus channels) i u k.says in
     let same = a.says ∙ sym (outcome-again sheet ws chosen o settings fmmus channels f g bytes a.both a.says k.entries k.images) in
@@ -235,4 +234,4 @@ kept_again sheet ws chosen o settings fmmus channels i u p f g bytes k =
 
 pub made_again : MadeAgain
 made_again sheet ws chosen o settings fmmus channels i u p f g answer p' f' g' bytes k again =
-    calls-once sheet ws chosen o (with_old Clear settings) f g answer (segments.Both i u) p' p f' f g' g again (kept_again sheet ws chosen o settings fmmus channels i u p f g bytes k)
+    calls-once sheet ws chosen o (with_old Clear settings) f g answer (Ok (record { inputs = i; outputs = u })) p' p f' f g' g again (kept_again sheet ws chosen o settings fmmus channels i u p f g bytes k)

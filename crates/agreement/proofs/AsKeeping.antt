@@ -17,12 +17,11 @@ use Rattle.area.specs.Area.{entries_of, flat, not_entries, not_channels, chunks}
 use Rattle.area.proofs.Flat.{Sixteen, sixteen-of, flat-bytes, flat-entries}
 use Rattle.passes.specs.declared.OldEntries.TheVariants.{Clear, Keep}
 use Rattle.passes.specs.declared.Chosen.{Chosen}
-use Rattle.passes.specs.declared.Offsets.{Offsets}
 use Rattle.passes.specs.declared.Settings.{Settings}
 use Rattle.passes.specs.Use.{Use, size_of}
 use Rattle.passes.specs.Pairs.{bad_pairs}
 use Rattle.passes.specs.Old.{cleared_of_both, in_the_way, both_bits, carries_both}
-use Rattle.passes.specs.Start.{of_either, offset_of, is_given, end_of, Both, segments_alone, offsets_after}
+use Rattle.passes.specs.Start.{Offsets, of_either, offset_of, is_given, end_of, Both, segments_alone, offsets_after}
 use Rattle.passes.specs.Entries.{plan_both, too_long, uses_of_both}
 use Rattle.passes.specs.Call.{uses_for, starts_at, wanted_of_both, both_of, call, entries_after, images_after}
 use Rattle.passes.proofs.Cleared.{cleared-eight, sixteen-begun, Off, zeros-all-off, none-used, both-off, cleared_at}

@@ -11,6 +11,7 @@ use native.Mathlib.Omega.{arith}
 use lib.Dec.{ltb}
 use lib.ListN.{length, get_or}
 use borrow.Author.Tests.{ltb-true, ltb-false}
+use Rattle.std.specs.Prelude.{Err}
 use Rattle.wire.specs.Image.{Bytes}
 use Rattle.wire.specs.Outcome.{Outcome, refused, accepted}
 use Rattle.wire.proofs.Order.{never}
@@ -21,10 +22,8 @@ use Rattle.pdo.specs.declared.PdoDirection.TheVariants.{MasterRead, MasterWrite}
 use Rattle.pdo.specs.Direction.{other}
 use Rattle.area.specs.Area.{entries_of}
 use Rattle.area.proofs.Flat.{length-chunks}
-use Rattle.passes.specs.declared.Offsets.{Offsets}
-use Rattle.passes.specs.declared.Segments.TheVariants as segments
 use Rattle.passes.specs.Use.{Use, total}
-use Rattle.passes.specs.Start.{offsets, Both, segments_alone, segments_of, offsets_after}
+use Rattle.passes.specs.Start.{Offsets, offsets, Both, segments_alone, segments_of, offsets_after}
 use Rattle.passes.specs.Entries.{plan}
 use Rattle.passes.specs.Call.{call, entries_after, images_after}
 use Rattle.passes.proofs.Pieces.{uses-total}
@@ -72,7 +71,7 @@ module _ (sheet : List ℕ) (bytes : Bytes sheet) (l : Lent) (area after : List 
 pub refused-leaves : RefusedLeaves
 refused-leaves sheet ws c o settings fmmus channels n p f g k = go (call sheet ws c o settings fmmus channels) k.says k.moves k.entries k.images
   where
-    go : (x : Outcome Both) → segments_of (segments.Refused n) ≡ segments_alone x → p ≡ offsets_after x o → f ≡ entries_after x (sheet_data sheet) ws c o settings fmmus
+    go : (x : Outcome Both) → segments_of (Err n) ≡ segments_alone x → p ≡ offsets_after x o → f ≡ entries_after x (sheet_data sheet) ws c o settings fmmus
         → g ≡ images_after x (sheet_data sheet) ws channels → ◌≡◌ {A = Offsets × List ℕ × List ℕ} (p, f, g) (o, fmmus, channels)
     go (refused m) says moves entries images = λ i. (moves i, entries i, images i)
     go (accepted b) says moves entries images = absurd (never says)

@@ -10,6 +10,7 @@ use native.Mathlib.Omega.{arith}
 use lib.Dec.{ltb}
 use lib.ListN.{length, get_or, get_or-eq_default}
 use borrow.Author.Tests.{ltb-true, ltb-false, eq-eqb}
+use Rattle.std.specs.Prelude.{Ok}
 use Rattle.wire.specs.Image.{Bytes}
 use Rattle.wire.specs.Outcome.{accepted}
 use Rattle.wire.proofs.Lists.{none_below}
@@ -23,9 +24,8 @@ use Rattle.area.specs.Area.{entries_of}
 use Rattle.area.proofs.Flat.{length-chunks}
 use Rattle.passes.specs.declared.OldEntries.{OldEntries}
 use Rattle.passes.specs.declared.OldEntries.TheVariants.{Clear, Keep}
-use Rattle.passes.specs.declared.Offsets.{Offsets}
-use Rattle.passes.specs.declared.Segments.TheVariants as segments
 use Rattle.passes.specs.Use.{Use, own, total_on, size_of}
+use Rattle.passes.specs.Start.{Offsets}
 use Rattle.passes.specs.Old.{beginning, in_the_way}
 use Rattle.passes.specs.Entries.{plan, length_before, too_long, uses_of_both}
 use Rattle.passes.specs.Call.{Calls}
@@ -234,5 +234,5 @@ demand-3-in-reach sheet l area after bytes p n r reach = demand-3 sheet l area a
 -- the promise of the call's code, where it answers segments, is such an accepted call
 pub promised :
     (sheet : List ℕ) (l : Lent) (area after channels_after : List ℕ) (i u : PdiSegment) (o : Offsets)
-    → Calls sheet (weights sheet l) (choice l) l.offsets l.settings area l.channels (segments.Both i u) o after channels_after → Accepted sheet l area after
+    → Calls sheet (weights sheet l) (choice l) l.offsets l.settings area l.channels (Ok (record { inputs = i; outputs = u })) o after channels_after → Accepted sheet l area after
 promised sheet l area after channels_after i u o c = let a = answered (call_of sheet l area) i u c.says in record { both = a.both; says = a.says; leaves = c.entries }

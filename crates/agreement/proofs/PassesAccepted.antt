@@ -20,7 +20,6 @@ use Rattle.pdo.specs.declared.PdoDirection.TheVariants.{MasterRead, MasterWrite}
 use Rattle.pdo.specs.Direction.{other}
 use Rattle.area.specs.Area.{entries_of, not_entries, not_channels}
 use Rattle.passes.specs.declared.Chosen.{Chosen}
-use Rattle.passes.specs.declared.Offsets.{Offsets}
 use Rattle.passes.specs.declared.OldEntries.{OldEntries}
 use Rattle.passes.specs.declared.OldEntries.TheVariants.{Clear, Keep}
 use Rattle.passes.specs.declared.OutputStart.{OutputStart}
@@ -28,7 +27,7 @@ use Rattle.passes.specs.declared.OutputStart.TheVariants.{Given, AfterInputs}
 use Rattle.passes.specs.declared.Settings.{Settings}
 use Rattle.passes.specs.Use.{Use, size_of}
 use Rattle.passes.specs.Old.{beginning, in_the_way}
-use Rattle.passes.specs.Start.{of_either, offset_of, is_given, start_of, Planned, planned, Both, planned_for}
+use Rattle.passes.specs.Start.{Offsets, of_either, offset_of, is_given, start_of, Planned, planned, Both, planned_for}
 use Rattle.passes.specs.Entries.{plan, too_long, uses_of_both}
 use Rattle.passes.specs.Pass.{not_areas, some_too_many, no_entry, keeping_refusals, keeping_pass}
 use Rattle.passes.specs.Call.{uses_for, starts_at, call_refusals, both_of, call}

@@ -7,6 +7,7 @@ use Prim.Native.Nat.{ℕ}
 use lib.Dec.{eqb}
 use lib.ListN.{length}
 use borrow.Author.Tests.{eqb-true, not-false}
+use Rattle.std.specs.Prelude.{Ok}
 use Rattle.wire.specs.Image.{Bytes}
 use Rattle.wire.specs.Outcome.{Outcome, refused, accepted}
 use Rattle.wire.proofs.Lists.{or-none}
@@ -20,13 +21,11 @@ use Rattle.pdo.specs.declared.PdoDirection.TheVariants.{MasterRead, MasterWrite}
 use Rattle.pdo.specs.Direction.{other}
 use Rattle.area.specs.Area.{entries_of, flat, not_entries, not_channels}
 use Rattle.passes.specs.declared.Chosen.{Chosen}
-use Rattle.passes.specs.declared.Offsets.{Offsets}
 use Rattle.passes.specs.declared.Settings.{Settings}
-use Rattle.passes.specs.declared.Segments.TheVariants as segments
 use Rattle.passes.specs.Use.{size_of}
 use Rattle.passes.specs.Pairs.{bad_pairs}
 use Rattle.passes.specs.Old.{beginning, in_the_way}
-use Rattle.passes.specs.Start.{of_either, end_of, Both, segments_alone, segments_of}
+use Rattle.passes.specs.Start.{Offsets, of_either, end_of, Both, segments_alone, segments_of}
 use Rattle.passes.specs.Entries.{plan, plan_both, too_long, uses_of_both}
 use Rattle.passes.specs.Pass.{some_too_many, no_entry}
 use Rattle.passes.specs.Call.{uses_for, starts_at, call_refusals, both_of, call, entries_after}
@@ -43,7 +42,7 @@ pub record Answered (o : Outcome Both) : Type 0 where
   pub both : Both
   pub says : o ≡ accepted both
 
-pub answered : (o : Outcome Both) (i u : PdiSegment) → segments_of (segments.Both i u) ≡ segments_alone o → Answered o
+pub answered : (o : Outcome Both) (i u : PdiSegment) → segments_of (Ok (record { inputs = i; outputs = u })) ≡ segments_alone o → Answered o
 answered (refused n) i u e = absurd (never (sym e))
 answered (accepted b) i u e = record { both = b; says = refl }
 

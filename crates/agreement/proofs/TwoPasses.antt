@@ -28,7 +28,6 @@ use Rattle.area.specs.Area.{entries_of, flat}
 use Rattle.area.proofs.Flat.{Sixteen, sixteen-of, flat-bytes, flat-entries}
 use Rattle.channels.specs.Channels.{written}
 use Rattle.passes.specs.declared.Chosen.{Chosen}
-use Rattle.passes.specs.declared.Offsets.{Offsets}
 use Rattle.passes.specs.declared.OldEntries.{OldEntries}
 use Rattle.passes.specs.declared.OldEntries.TheVariants.{Clear, Keep}
 use Rattle.passes.specs.declared.OutputStart.{OutputStart}
@@ -36,7 +35,7 @@ use Rattle.passes.specs.declared.OutputStart.TheVariants.{Given, AfterInputs}
 use Rattle.passes.specs.declared.Settings.{Settings}
 use Rattle.passes.specs.Use.{Use, total_on, size_of}
 use Rattle.passes.specs.Old.{beginning, in_the_way}
-use Rattle.passes.specs.Start.{of_either, offset_of, is_given, start_of, planned, Both, planned_for}
+use Rattle.passes.specs.Start.{Offsets, of_either, offset_of, is_given, start_of, planned, Both, planned_for}
 use Rattle.passes.specs.Entries.{laid, with_use, plan, plan_both, length_now, length_before, too_long, uses_of_both}
 use Rattle.passes.specs.Pass.{not_areas, no_entry, keeping_refusals, keeping_pass, entries_kept, images_of, data_size}
 use Rattle.passes.specs.Call.{uses_for, starts_at, call_refusals, both_of, call, or_else, both_size, entries_after, images_after}

@@ -15,12 +15,11 @@ use Rattle.area.specs.Area.{entries_of}
 use Rattle.passes.specs.declared.FmmuMode.{FmmuMode}
 use Rattle.passes.specs.declared.FmmuMode.TheVariants.{OwnNumber, Paired}
 use Rattle.passes.specs.declared.Chosen.{Chosen}
-use Rattle.passes.specs.declared.Offsets.{Offsets}
 use Rattle.passes.specs.declared.Settings.{Settings}
 use Rattle.passes.specs.Use.{use_of, own, given, chosen_of, uses_of, size_of}
 use Rattle.passes.specs.Pairs.{bad_pairs}
 use Rattle.passes.specs.Entries.{entry_refusals, entry_area}
-use Rattle.passes.specs.Start.{Both}
+use Rattle.passes.specs.Start.{Offsets, Both}
 use Rattle.passes.specs.Pass.{not_areas}
 use Rattle.passes.specs.Call.{starts_at, wanted_of_both, both_of, call, entries_after}
 use Rattle.agreement.specs.Paired.{in_mode, CoeUnread, EmptyList}

@@ -16,10 +16,9 @@ use Rattle.passes.specs.declared.FmmuPair.{FmmuPair}
 use Rattle.passes.specs.declared.Chosen.{Chosen}
 use Rattle.passes.specs.declared.OldEntries.{OldEntries}
 use Rattle.passes.specs.declared.OldEntries.TheVariants.{Clear, Keep}
-use Rattle.passes.specs.declared.Offsets.{Offsets}
 use Rattle.passes.specs.declared.Settings.{Settings}
 use Rattle.area.specs.Area.{entries_of}
-use Rattle.passes.specs.Start.{Both}
+use Rattle.passes.specs.Start.{Offsets, Both}
 use Rattle.passes.specs.Call.{uses_for, starts_at, call, entries_after}
 use Rattle.translation.specs.Translate.{translate}
 use Rattle.counting.specs.Count.{counted_address}

@@ -13,13 +13,12 @@ use Rattle.sync_manager_channel.specs.Image.{read_channel, image_of}
 use Rattle.sheet.specs.Sheet.{sheet_data}
 use Rattle.pdo.specs.Bits.{multipliers_of}
 use Rattle.area.specs.Area.{entries_of}
-use Rattle.passes.specs.declared.Offsets.{Offsets}
 use Rattle.passes.specs.declared.Settings.{Settings}
 use Rattle.passes.specs.declared.FmmuMode.TheVariants.{OwnNumber}
 use Rattle.passes.specs.declared.OutputStart.TheVariants.{AfterInputs}
 use Rattle.passes.specs.Use.{nothing_chosen}
 use Rattle.passes.specs.Old.{clean, keeping}
-use Rattle.passes.specs.Start.{offsets, Both}
+use Rattle.passes.specs.Start.{Offsets, offsets, Both}
 use Rattle.passes.specs.Call.{call, entries_after, images_after}
 
 -- a case: its number, what is computed, what the document says; answers as lists of numbers

@@ -19,13 +19,12 @@ use Rattle.sheet.specs.Sheet.{sheet_data}
 use Rattle.area.specs.Area.{entries_of, flat}
 use Rattle.passes.specs.declared.FmmuPair.{FmmuPair}
 use Rattle.passes.specs.declared.FmmuMode.TheVariants.{OwnNumber, Paired}
-use Rattle.passes.specs.declared.Offsets.{Offsets}
 use Rattle.passes.specs.declared.OutputStart.{OutputStart}
 use Rattle.passes.specs.declared.OutputStart.TheVariants.{Given, AfterInputs}
 use Rattle.passes.specs.declared.Settings.{Settings}
 use Rattle.passes.specs.Use.{nothing_chosen, chosen_of, chosen_by}
 use Rattle.passes.specs.Old.{clean, keeping}
-use Rattle.passes.specs.Start.{Both, offsets_after}
+use Rattle.passes.specs.Start.{Offsets, Both, offsets_after}
 use Rattle.passes.specs.Call.{call, entries_after, images_after}
 use Rattle.translation.specs.Translate.{translate}
 use Rattle.counting.specs.Count.{Spot, count}

@@ -1,8 +1,9 @@
 -- The call beside keeping (document 02, 3/13 and 7/13): by default the same as keeping where the old entries are zero; what two passes that keep leave, one after the
 -- other in either order; and made again it leaves what it left.
 -- Assumes nothing.
-use Rattle.std.specs.Prelude.{◌≡◌, false, cond, List, map, ℕ, length, replicate}
+use Rattle.std.specs.Prelude.{◌≡◌, false, cond, List, map, ℕ, length, replicate, Ok, Err}
 use Rattle.wire.specs.Outcome.{Outcome, accepted}
+use Rattle.wire.specs.declared.Reason.{Reason}
 use Rattle.wire.specs.Image.{Bytes}
 use Rattle.pdi.specs.declared.PdiOffset.{PdiOffset}
 use Rattle.pdi.specs.declared.PdiSegment.{PdiSegment}
@@ -15,13 +16,10 @@ use Rattle.passes.specs.declared.OldEntries.{OldEntries}
 use Rattle.passes.specs.declared.OldEntries.TheVariants.{Clear, Keep}
 use Rattle.passes.specs.declared.Chosen.{Chosen}
 use Rattle.passes.specs.declared.OutputStart.TheVariants.{AfterInputs}
-use Rattle.passes.specs.declared.Offsets.{Offsets}
 use Rattle.passes.specs.declared.Settings.{Settings}
-use Rattle.passes.specs.declared.Segments.{Segments}
-use Rattle.passes.specs.declared.Segments.TheVariants as segments
 use Rattle.passes.specs.Pairs.{bad_pairs}
 use Rattle.passes.specs.Old.{cleared_of_both, in_the_way}
-use Rattle.passes.specs.Start.{of_either, Planned, Both, planned_for, offsets}
+use Rattle.passes.specs.Start.{Offsets, Segments, of_either, Planned, Both, planned_for, offsets}
 use Rattle.passes.specs.Entries.{uses_of_both, too_long}
 use Rattle.passes.specs.Pass.{no_entry, keeping_pass, entries_kept, images_of}
 use Rattle.passes.specs.Call.{uses_for, starts_at, call, entries_after, images_after, Calls}
@@ -70,8 +68,8 @@ PromiseAsKeeping =
     (sheet ws : List ℕ) (c : Chosen) (o : Offsets) (settings : Settings) (fmmus channels : List ℕ)
     (i u : PdiSegment) (offsets_then : Offsets) (fmmus_then channels_then : List ℕ)
     → Bytes fmmus
-    → Calls sheet ws c o (with_old Clear settings) fmmus channels (segments.Both i u) offsets_then fmmus_then channels_then
-    → Calls sheet ws c o (with_old Keep settings) (zeroed fmmus) channels (segments.Both i u) offsets_then fmmus_then channels_then
+    → Calls sheet ws c o (with_old Clear settings) fmmus channels (Ok (record { inputs = i; outputs = u })) offsets_then fmmus_then channels_then
+    → Calls sheet ws c o (with_old Keep settings) (zeroed fmmus) channels (Ok (record { inputs = i; outputs = u })) offsets_then fmmus_then channels_then
 
 -- so where the clearing changes nothing, whatever the answer is: the promise of the default is that of keeping on the very area
 abbrev pub NothingCleared : Type 0
@@ -161,8 +159,8 @@ EightOfEither =
 abbrev pub RefusedLeaves : Type 0
 RefusedLeaves =
     (sheet ws : List ℕ) (c : Chosen) (o : Offsets) (settings : Settings) (fmmus channels : List ℕ)
-    (n : ℕ) (offsets_then : Offsets) (fmmus_then channels_then : List ℕ)
-    → Calls sheet ws c o settings fmmus channels (segments.Refused n) offsets_then fmmus_then channels_then
+    (n : Reason) (offsets_then : Offsets) (fmmus_then channels_then : List ℕ)
+    → Calls sheet ws c o settings fmmus channels (Err n) offsets_then fmmus_then channels_then
     → ◌≡◌ {A = Offsets × List ℕ × List ℕ} (offsets_then, fmmus_then, channels_then) (o, fmmus, channels)
 
 -- straight after the inputs the outputs' lent offset isn't read: whatever it is, the same answer and the same entries
@@ -181,6 +179,6 @@ MadeAgain =
     (i u : PdiSegment) (offsets_then : Offsets) (fmmus_then channels_then : List ℕ)
     (answer : Segments) (offsets_again : Offsets) (fmmus_again channels_again : List ℕ)
     → Bytes sheet
-    → Calls sheet ws c o (with_old Clear settings) fmmus channels (segments.Both i u) offsets_then fmmus_then channels_then
+    → Calls sheet ws c o (with_old Clear settings) fmmus channels (Ok (record { inputs = i; outputs = u })) offsets_then fmmus_then channels_then
     → Calls sheet ws c o (with_old Clear settings) fmmus_then channels_then answer offsets_again fmmus_again channels_again
-    → ◌≡◌ {A = Segments × Offsets × List ℕ × List ℕ} (answer, offsets_again, fmmus_again, channels_again) (segments.Both i u, offsets_then, fmmus_then, channels_then)
+    → ◌≡◌ {A = Segments × Offsets × List ℕ × List ℕ} (answer, offsets_again, fmmus_again, channels_again) (Ok (record { inputs = i; outputs = u }), offsets_then, fmmus_then, channels_then)

@@ -12,11 +12,10 @@ use Rattle.passes.specs.declared.OldEntries.{OldEntries}
 use Rattle.passes.specs.declared.FmmuMode.{FmmuMode}
 use Rattle.passes.specs.declared.FmmuMode.TheVariants.{OwnNumber, Paired}
 use Rattle.passes.specs.declared.Chosen.{Chosen}
-use Rattle.passes.specs.declared.Offsets.{Offsets}
 use Rattle.passes.specs.declared.Settings.{Settings}
 use Rattle.passes.specs.Use.{Use, chosen_of}
 use Rattle.passes.specs.Pairs.{shared_by_both, one_between, bad_by}
-use Rattle.passes.specs.Start.{Both}
+use Rattle.passes.specs.Start.{Offsets, Both}
 use Rattle.passes.specs.Call.{refusals_if, both_of, call, entries_after}
 use Rattle.agreement.specs.Agreement.{EveryDisabled, Lent, weights, choice, EndToEnd, laid_by, Agree}
 
