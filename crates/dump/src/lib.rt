@@ -22,7 +22,7 @@ use sheet::{Device, SyncManager};
 use wire::Reason;
 
 // What a sheet's head says and a category area doesn't: the flags, as in its byte 3, and the mailboxes' sizes.
-#[derive(Clone, Copy)]
+#[derive(Clone, Copy, Debug, PartialEq, Eq)]
 pub struct Head {
     pub flags: u8,
     pub receive_size: ByteLen,
