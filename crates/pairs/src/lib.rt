@@ -7,22 +7,20 @@ ghost use Rattle.pairs.specs.Reading.{said_of, with_pair, handed_on};
 
 use passes::{Chosen, FmmuMode, FmmuPair};
 
-// What the pairs before a place say: what is handed on of them, and which sync managers they decide.
-#[derive(Clone, Copy)]
+// What the pairs before a place say: the entry of each sync manager that they decide, and whether a number of them is above 15.
+#[derive(Clone, Copy, Debug, PartialEq, Eq)]
 struct Said {
-    entries: [u8; 16],
+    entries: [Option<u8>; 16],
     above: bool,
-    decided: [bool; 16],
 }
 
-// What no pairs say: each sync manager's own number.
+// What no pairs say.
 fn none_said() -> Said
     ensures { result ≡ said_of [] }
 {
     Said {
-        entries: [0, 1, 2, 3, 4, 5, 6, 7, 8, 9, 10, 11, 12, 13, 14, 15],
+        entries: [None; 16],
         above: false,
-        decided: [false; 16],
     }
 }
 
@@ -51,18 +49,18 @@ fn with_pair(before: Said, pair: FmmuPair) -> Said
         return after;
     }
     let k = usize::from(number);
-    if !after.decided[k] {
-        after.entries[k] = pair.fmmu;
-        after.decided[k] = true;
-    }
+    after.entries[k] = before.entries[k].or(Some(pair.fmmu));
     after
 }
 
-// What is handed on of what is said.
+// What is handed on of what is said: a sync manager that no pair decides has its own number.
 fn handed_on(said: Said) -> Chosen
     ensures { result ≡ handed_on said }
 {
-    let entries = said.entries;
+    let mut entries = [0u8; 16];
+    for k in 0..16 {
+        entries[usize::from(k)] = said.entries[usize::from(k)].unwrap_or(k);
+    }
     Chosen {
         entries,
         above: said.above,
