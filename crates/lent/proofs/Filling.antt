@@ -1,6 +1,6 @@
 -- An array of 255 ones, filled from a table, gives the exact bits of the table's multipliers; and a table of no records is the empty one.
 -- Assumes nothing.
-use mathlib.Core.Path.{◌≡◌, refl, ◌∙◌, ap}
+use mathlib.Core.Path.{◌≡◌, ◌∙◌, ap}
 use mathlib.Core.List.{List, [], ◌∷◌}
 use Prim.Native.Nat.{ℕ}
 use native.Mathlib.Omega.{arith}
@@ -10,13 +10,13 @@ use Rattle.wire.specs.Room.{over}
 use Rattle.sheet.specs.Sheet.{sheet_data}
 use Rattle.pdo.specs.declared.Oversampling.{Oversampling}
 use Rattle.pdo.specs.Bits.{multipliers_of, bits_of}
-use Rattle.pdo.proofs.Lacking.{SameBits}
+use Rattle.pdo.proofs.Lacking.{SameBits, bits_none}
 use Rattle.oversampling.proofs.Made.{made}
 
--- a table of length 0 has no record
-pub no_record : (t : List Oversampling) → length t ≡ 0 → [] ≡ t
-no_record [] h = refl
-no_record (r ∷ t) h = absurd (omega arith)
+-- a table of no records multiplies by 1, as a list that has none
+pub unmultiplied : (t : List Oversampling) (s : List ℕ) → length t ≡ 0 → SameBits (sheet_data s).pdos [] (multipliers_of t (sheet_data s).pdos)
+unmultiplied [] s h = bits_none (sheet_data s).pdos
+unmultiplied (r ∷ t) s h = absurd (omega arith)
 
 abbrev pub Ones : List ℕ
 Ones = replicate 255 1

@@ -7,10 +7,8 @@ use Rattle.wire.proofs.Pins.{Pins}
 use Rattle.wire.proofs.Stated.{Saying, States}
 use Rattle.sheet.specs.Sheet.{sheet_data}
 use Rattle.pdo.specs.Bits.{multipliers_of}
-use Rattle.passes.specs.declared.Offsets.{Offsets}
-use Rattle.passes.specs.declared.Segments.{Segments}
 use Rattle.passes.specs.Use.{chosen_by}
-use Rattle.passes.specs.Start.{offsets}
+use Rattle.passes.specs.Start.{Offsets, offsets, Segments}
 use Rattle.passes.specs.Call.{Calls}
 use Rattle.passes.proofs.Once.{calls-once}
 use Rattle.counting.specs.Count as meaning

@@ -1,98 +1,15 @@
 // The call for both directions, lent its offsets, its oversampling table and its list of pairs.
-ghost use Rattle.std.specs.Prelude.{[]};
 ghost use Rattle.sheet.specs.Sheet.{sheet_data};
 ghost use Rattle.pdo.specs.Bits.{multipliers_of};
 ghost use Rattle.passes.specs.Use.{chosen_by};
 ghost use Rattle.passes.specs.Start.{offsets};
 ghost use Rattle.passes.specs.Call.{Calls};
 
-use passes::{Chosen, Configured, FmmuPair, Offsets, Segments, Settings};
-use pdi::PdiOffset;
+use crate::multipliers;
+use passes::{Both, FmmuPair, Settings};
+use pdi::{PdiOffset, PdiSegment};
 use pdo::Oversampling;
-
-// What a call hands back: its answer, and the offsets as they then are.
-#[derive(Clone, Copy)]
-struct Done {
-    answer: Segments,
-    next: Offsets,
-}
-
-// A call by value, as the lent one answers it.
-fn by_value(
-    sheet: &[u8],
-    multipliers: &[u8],
-    chosen: Chosen,
-    fmmus: &mut [u8],
-    channels: &mut [u8],
-    offsets: Offsets,
-    settings: Settings,
-) -> Done
-    ensures { Calls sheet.now multipliers.now chosen offsets settings fmmus.old channels.old result.answer result.next fmmus.new channels.new }
-{
-    match subdevice::configure(
-        sheet,
-        multipliers,
-        chosen,
-        fmmus,
-        channels,
-        offsets,
-        settings,
-    ) {
-        Configured::Mapped(one, two) => {
-            let first = one.segment;
-            let second = two.segment;
-            let inputs = one.next;
-            let outputs = two.next;
-            Done {
-                answer: Segments::Both(first, second),
-                next: Offsets { inputs, outputs },
-            }
-        }
-        Configured::Refused(number) => Done {
-            answer: Segments::Refused(number),
-            next: offsets,
-        },
-    }
-}
-
-// Without a table nothing is prepared.
-fn without_table(
-    sheet: &[u8],
-    chosen: Chosen,
-    fmmus: &mut [u8],
-    channels: &mut [u8],
-    offsets: Offsets,
-    settings: Settings,
-) -> Done
-    ensures { Calls sheet.now (multipliers_of [] (sheet_data sheet.now).pdos) chosen offsets settings fmmus.old channels.old result.answer result.next fmmus.new channels.new }
-{
-    by_value(sheet, &[], chosen, fmmus, channels, offsets, settings)
-}
-
-// With one, each PDO's multiplier is looked up first.
-fn with_table(
-    sheet: &[u8],
-    table: &[Oversampling],
-    chosen: Chosen,
-    fmmus: &mut [u8],
-    channels: &mut [u8],
-    offsets: Offsets,
-    settings: Settings,
-) -> Done
-    ensures { Calls sheet.now (multipliers_of table.now (sheet_data sheet.now).pdos) chosen offsets settings fmmus.old channels.old result.answer result.next fmmus.new channels.new }
-{
-    let mut multipliers = [1u8; 255];
-    oversampling::multipliers_for(table, sheet, &mut multipliers);
-    by_value(
-        sheet,
-        &multipliers,
-        chosen,
-        fmmus,
-        channels,
-        offsets,
-        settings,
-    )
-}
+use wire::Reason;
 
 // Second stage: inputs and outputs, both or neither. An accepted call moves each lent offset to its direction's end. The pairs are read in the mode that asks for
 // them, and the lent offset for outputs counts where it is given.
@@ -105,20 +22,21 @@ pub fn configure_fmmus(
     inputs: &mut PdiOffset,
     outputs: &mut PdiOffset,
     settings: Settings,
-) -> Segments
+) -> Result<Both<PdiSegment>, Reason>
     ensures { Calls sheet.now (multipliers_of table.now (sheet_data sheet.now).pdos) (chosen_by settings.mode pairs.now) (offsets inputs.old outputs.old) settings fmmus.old channels.old result (offsets inputs.new outputs.new) fmmus.new channels.new }
 {
     let chosen = pairs::fmmu_mappings(settings.mode, pairs);
-    let offsets = Offsets {
+    let offsets = Both {
         inputs: *inputs,
         outputs: *outputs,
     };
-    let done = if table.len() == 0 {
-        without_table(sheet, chosen, fmmus, channels, offsets, settings)
-    } else {
-        with_table(sheet, table, chosen, fmmus, channels, offsets, settings)
-    };
-    *inputs = done.next.inputs;
-    *outputs = done.next.outputs;
-    done.answer
+    let mut room = [1u8; 255];
+    let weights = multipliers(sheet, table, &mut room);
+    let mapped = subdevice::configure(sheet, weights, chosen, fmmus, channels, offsets, settings)?;
+    *inputs = mapped.inputs.next;
+    *outputs = mapped.outputs.next;
+    Ok(Both {
+        inputs: mapped.inputs.segment,
+        outputs: mapped.outputs.segment,
+    })
 }
