@@ -2,7 +2,7 @@
 -- Assumes nothing.
 use Rattle.std.specs.Prelude.{◌≡◌, List, [], ◌∷◌, ◌++◌, ℕ, get_or}
 use Rattle.wire.specs.Lists.{list_of}
-use Rattle.wire.specs.Outcome.{Outcome, refused, accepted}
+use Rattle.wire.specs.Outcome.{Outcome, refused, accepted, outcome_by}
 use Rattle.pdi.specs.declared.PdiSegment.{PdiSegment}
 use Rattle.pdi.specs.Segment.{segment_text}
 use Rattle.sync_manager_channel.specs.Image.{channel_of}
@@ -12,12 +12,9 @@ use Rattle.sheet.specs.Sheet.{sheet_data, manager_count}
 use Rattle.pdo.specs.Bits.{multipliers_of}
 use Rattle.passes.specs.declared.FmmuMode.TheVariants.{OwnNumber}
 use Rattle.passes.specs.declared.OutputStart.TheVariants.{AfterInputs}
-use Rattle.passes.specs.declared.Offsets.{Offsets}
-use Rattle.passes.specs.declared.Segments.{Segments}
-use Rattle.passes.specs.declared.Segments.TheVariants as segments
 use Rattle.passes.specs.Use.{nothing_chosen}
 use Rattle.passes.specs.Old.{clean}
-use Rattle.passes.specs.Start.{offsets, Both}
+use Rattle.passes.specs.Start.{Offsets, offsets, Both, Segments}
 use Rattle.passes.specs.Call.{call, entries_after, images_after}
 use Rattle.mailboxes.specs.Mailbox.{Recorded, mailbox_pass, mailbox_area}
 use Rattle.lines.specs.Text.{line, numbered, inputs_front, outputs_front, lines, enabled_line, refused_text, bay_text}
@@ -93,7 +90,6 @@ plain_text n b =
 abbrev pub EveryLine : Type 0
 EveryLine = (sheet : List ℕ) (a : Areas) (b : Bay) → plan_bay sheet a ≡ accepted b → report_text sheet a ≡ plain_text (manager_count sheet) b
 
--- what the cases of `Segments` say, beside the areas that are left
+-- what an answer says, beside the areas that are left
 abbrev pub bay_of : Segments → Areas → Outcome Bay
-bay_of (segments.Both inputs outputs) a = accepted (bay inputs outputs a)
-bay_of (segments.Refused n) a = refused n
+bay_of r a = outcome_by (λ s. bay s.inputs s.outputs a) r

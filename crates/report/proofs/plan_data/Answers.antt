@@ -6,9 +6,8 @@ use Prim.Native.Nat.{ℕ}
 use Rattle.sheet.specs.Sheet.{sheet_data}
 use Rattle.pdo.proofs.Lacking.{bits_none}
 use Rattle.passes.specs.declared.Chosen.{Chosen}
-use Rattle.passes.specs.declared.Configured.{Configured}
-use Rattle.passes.specs.declared.Offsets.{Offsets}
 use Rattle.passes.specs.declared.Settings.{Settings}
+use Rattle.passes.specs.Start.{Offsets, Configured}
 use Rattle.passes.specs.Call.{Configures}
 use Rattle.passes.proofs.Same.{configures-same}
 use Rattle.report.specs.Plan.{once}

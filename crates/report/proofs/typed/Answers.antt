@@ -5,18 +5,8 @@ use Rattle.report.specs.Plan.{areas}
 use Rattle.report.proofs.Passes.{bay-text, refusal-text}
 use Rattle.report.proofs.typed.Goals as goal
 
-pub returns-in-Both : goal.returns-in-Both
-returns-in-Both c =
-    let a = c.args in
-    let p = c.plan_bay in
-    let s = c.in-Both in
-    let n = c.manager_count-n in
-    types (bay-text a.sheet.now (areas a.fmmus a.channels) p.result p.new.fmmus p.new.channels p.ensures s.inputs s.outputs n.result s.is n.ensures)
-    c.put_bay.ensures
+pub returns-in-Ok : goal.returns-in-Ok
+returns-in-Ok c = let a = c.args in types (bay-text a.sheet.now (areas a.fmmus a.channels) c.manager_count-n.ensures c.in-Ok.ensures) c.put_bay.ensures
 
-pub returns-in-Refused : goal.returns-in-Refused
-returns-in-Refused c =
-    let a = c.args in
-    let p = c.plan_bay in
-    let n = c.in-Refused in
-    types (refusal-text a.sheet.now (areas a.fmmus a.channels) p.result p.new.fmmus p.new.channels p.ensures n.number n.is) c.put_refused.ensures
+pub returns-in-Err : goal.returns-in-Err
+returns-in-Err c = let a = c.args in types (refusal-text a.sheet.now (areas a.fmmus a.channels) c.number.ensures c.in-Err.ensures) c.put_refused.ensures
