@@ -19,14 +19,12 @@ use Rattle.pdo.specs.Bits.{multipliers_of, pieces_of}
 use Rattle.mailboxes.specs.Mailbox.{Recorded, config_of, mailbox_pass, mailbox_area}
 use Rattle.passes.specs.declared.Chosen.{Chosen}
 use Rattle.passes.specs.declared.FmmuMode.TheVariants.{OwnNumber}
-use Rattle.passes.specs.declared.Offsets.{Offsets}
 use Rattle.passes.specs.declared.OutputStart.TheVariants.{AfterInputs}
-use Rattle.passes.specs.declared.Segments.{Segments}
 use Rattle.passes.specs.declared.Settings.{Settings}
 use Rattle.passes.specs.Old.{clean}
 use Rattle.passes.specs.Use.{nothing_chosen, chosen_by, size_of}
 use Rattle.passes.specs.Pairs.{bad_pairs}
-use Rattle.passes.specs.Start.{Both, segments_alone, offsets_after}
+use Rattle.passes.specs.Start.{Both, Offsets, Segments, segments_alone, offsets_after}
 use Rattle.passes.specs.Entries.{entry_refusals}
 use Rattle.passes.specs.Pass.{not_areas, wanted_refusals}
 use Rattle.passes.specs.Call.{uses_for, wanted_of_both, both_of, call, entries_after, images_after, Calls}
@@ -151,4 +149,4 @@ module _ (s t : List ℕ) {x : Data} (e : read_sheet s ≡ accepted x) (f : read
 
 -- planning a dump is planning its sheet
 pub planning-a-dump : PlanningADump
-planning-a-dump c t e f = let s = (has-sheet c e).0 in (both-planned t (sheet_from c) f s, both-planned (sheet_from c) t s f)
+planning-a-dump c d t e f = let s = (has-sheet c d e).0 in (both-planned t (sheet_from c d) f s, both-planned (sheet_from c d) t s f)

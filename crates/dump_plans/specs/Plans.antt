@@ -1,19 +1,19 @@
 -- Planning a dump is planning its sheet (document 02, 5/13): any sheet that reads as what a dump gave, typed by hand or written from it, is planned and
 -- counted through as the one that is written from it.
 -- Assumes nothing.
-use Rattle.std.specs.Prelude.{◌≡◌, List, ℕ}
+use Rattle.std.specs.Prelude.{◌≡◌, List, ℕ, Result, Ok}
 use Rattle.wire.specs.Outcome.{accepted}
-use Rattle.sheet.specs.declared.Answer.TheVariants.{Accepted}
+use Rattle.wire.specs.declared.Reason.{Reason}
+use Rattle.sheet.specs.declared.Device.{Device}
 use Rattle.sheet.specs.Sheet.{sheet_data, read_sheet}
 use Rattle.pdo.specs.declared.PdoDirection.{PdoDirection}
 use Rattle.pdo.specs.declared.Oversampling.{Oversampling}
 use Rattle.pdo.specs.Bits.{multipliers_of}
-use Rattle.mailboxes.specs.declared.MailboxAnswer.{MailboxAnswer}
+use Rattle.mailboxes.specs.declared.MailboxConfig.{MailboxConfig}
 use Rattle.mailboxes.specs.Mailbox.{ConfiguresMailboxes}
 use Rattle.passes.specs.declared.FmmuPair.{FmmuPair}
-use Rattle.passes.specs.declared.Offsets.{Offsets}
-use Rattle.passes.specs.declared.Segments.{Segments}
 use Rattle.passes.specs.declared.Settings.{Settings}
+use Rattle.passes.specs.Start.{Offsets, Segments}
 use Rattle.passes.specs.Use.{chosen_by}
 use Rattle.passes.specs.Call.{Calls}
 use Rattle.counting.specs.Count.{count}
@@ -24,7 +24,7 @@ use Rattle.dump.specs.Calls.{Call, given, sheet_from}
 -- and both hold the same data
 pub record PlannedAlike (s t : List ℕ) : Type 0 where
   pub holding : sheet_data s ≡ sheet_data t
-  pub mailboxes : (area : List ℕ) (r : MailboxAnswer) (after : List ℕ) → ConfiguresMailboxes s area r after → ConfiguresMailboxes t area r after
+  pub mailboxes : (area : List ℕ) (r : Result MailboxConfig Reason) (after : List ℕ) → ConfiguresMailboxes s area r after → ConfiguresMailboxes t area r after
   pub calls :
       (table : List Oversampling) (pairs : List FmmuPair) (o : Offsets) (settings : Settings) (fmmus channels : List ℕ)
       (answer : Segments) (offsets_then : Offsets) (fmmus_then channels_then : List ℕ)
@@ -38,4 +38,5 @@ pub record PlannedAlike (s t : List ℕ) : Type 0 where
 -- so of every call of `dump::read` that accepts
 abbrev pub PlanningADump : Type 0
 PlanningADump =
-    (c : Call) (t : List ℕ) → c.read.answer ≡ Accepted → read_sheet t ≡ accepted (given c) → PlannedAlike t (sheet_from c) × PlannedAlike (sheet_from c) t
+    (c : Call) (d : Device) (t : List ℕ) → c.read ≡ Ok d → read_sheet t ≡ accepted (given c d)
+    → PlannedAlike t (sheet_from c d) × PlannedAlike (sheet_from c d) t
