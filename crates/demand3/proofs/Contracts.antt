@@ -5,19 +5,17 @@
 use contract.Lifetimes.{Lfts}
 use denote.Triple.Clauses.{AtExit}
 use denote.Triple.Entry.{Args}
+use Rattle.std.specs.Prelude.{Ok}
 use Rattle.pdi.specs.declared.PdiSegment.{PdiSegment}
-use Rattle.passes.specs.declared.Segments.TheVariants as segments
-use Rattle.translation.specs.declared.Translated.{Translated}
 use Rattle.translation.specs.contracts.translate as translating
 use Rattle.translation.proofs.translate.Reads.{Post}
-use Rattle.counting.specs.declared.Counted.{Counted}
 use Rattle.lent.specs.contracts.configure_fmmus as configuring
 use Rattle.lent.specs.contracts.count as counting
 use Rattle.lent.proofs.Unique.{CallsLent, CountsBy}
-use Rattle.demand3.specs.Calls.{Planning, Translation, Counting}
+use Rattle.demand3.specs.Calls.{Planning, Translated, Translation, Counted, Counting}
 
 -- `lent::configure_fmmus`, where it answered segments: sheet, table, pairs, FMMU bytes, sync manager bytes, the inputs' offset, the outputs', settings
-pub planning-of : (κs : Lfts 7) (a : Args configuring.signature κs) (inputs outputs : PdiSegment) (s : AtExit configuring.ended κs) → CallsLent κs a (segments.Both inputs outputs) s
+pub planning-of : (κs : Lfts 7) (a : Args configuring.signature κs) (inputs outputs : PdiSegment) (s : AtExit configuring.ended κs) → CallsLent κs a (Ok (record { inputs = inputs; outputs = outputs })) s
     → Planning a.0.now
 planning-of κs a inputs outputs s kept =
     record {

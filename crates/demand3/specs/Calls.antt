@@ -3,8 +3,10 @@
 -- Each `promise` is the function's own `ensures`, at the values of the call: `Contracts` in proofs/ makes these records of the contracts.
 -- Assumes nothing.
 use Rattle.std.specs.Prelude.{◌≡◌, List, ◌↔◌, ℕ, ◌^◌, ◌<◌}
+use Rattle.std.specs.Prelude as std
 use Rattle.std.proofs.Math.Option.{Option}
 use Rattle.wire.specs.Outcome.{accepted}
+use Rattle.wire.specs.declared.Reason.{Reason}
 use Rattle.wire.specs.Image.{Bytes}
 use Rattle.pdi.specs.declared.PdiOffset.{PdiOffset}
 use Rattle.pdi.specs.declared.PdiSegment.{PdiSegment}
@@ -18,13 +20,11 @@ use Rattle.passes.specs.declared.OldEntries.TheVariants.{Clear}
 use Rattle.passes.specs.declared.OutputStart.{OutputStart}
 use Rattle.passes.specs.declared.OutputStart.TheVariants.{Given, AfterInputs}
 use Rattle.passes.specs.declared.Settings.{Settings}
-use Rattle.passes.specs.declared.Segments.TheVariants as segments
 use Rattle.passes.specs.Use.{Use, chosen_by}
 use Rattle.passes.specs.Start.{offsets}
 use Rattle.passes.specs.Call.{Calls}
-use Rattle.translation.specs.declared.Translated.{Translated}
 use Rattle.translation.specs.Translate.{translate, translated_of}
-use Rattle.counting.specs.declared.Counted.{Counted}
+use Rattle.counting.specs.declared.Position.{Position}
 use Rattle.counting.specs.Count.{count, counted_of, device_alone}
 use Rattle.agreement.specs.Agreement.{EveryDisabled, Needs, Lent, EndToEnd, laid_by}
 
@@ -45,7 +45,7 @@ pub record Planning (sheet : List ℕ) : Type 0 where
   pub outputs_then : PdiOffset
   pub promise :
       Calls sheet (multipliers_of table (sheet_data sheet).pdos) (chosen_by settings.mode pairs) (offsets inputs outputs) settings fmmus channels
-      (segments.Both inputs_at outputs_at) (offsets inputs_then outputs_then) fmmus_then channels_then
+      (std.Ok (record { inputs = inputs_at; outputs = outputs_at })) (offsets inputs_then outputs_then) fmmus_then channels_then
 
 -- what it was lent beside the sheet and the FMMU bytes
 abbrev pub lent_to : {sheet : List ℕ} → Planning sheet → Lent
@@ -59,6 +59,13 @@ outputs_begun AfterInputs lent inputs_then = inputs_then
 abbrev pub begun_at : {sheet : List ℕ} → Planning sheet → PdoDirection → PdiOffset
 begun_at p MasterRead = p.inputs
 begun_at p MasterWrite = outputs_begun p.settings.outputs p.outputs p.inputs_then
+
+-- what translating and counting answer
+abbrev pub Translated : Type 0
+Translated = std.Result (std.Option ℕ) Reason
+
+abbrev pub Counted : Type 0
+Counted = std.Result (std.Option Position) Reason
 
 -- a call of `translation::translate` at an address
 pub record Translation (fmmus : List ℕ) (r : PdoDirection) (a : ℕ) : Type 0 where
