@@ -19,14 +19,20 @@ pub struct BitLen(pub u32);
 pub struct ByteLen(pub u16);
 
 impl BitLen {
-    // The only way from bits to bytes: rounded up.
+    // The only way from bits to bytes: whole bytes, and one more where bits are left over, as 4/13 wants it written.
     pub fn round_up(self) -> Result<ByteLen, Reason>
         ensures { rounded_of result ≡ rounded_up self.0 }
     {
-        if self.0 > 65528 {
+        let bits = self.0;
+        if bits > 65528 {
             return Err(Reason::TooManyBits);
         }
-        Ok(ByteLen(self.0.div_ceil(8) as u16))
+        let mut bytes = bits / 8;
+        let left_over = bits % 8;
+        if left_over > 0 {
+            bytes += 1;
+        }
+        Ok(ByteLen(bytes as u16))
     }
 }
 
