@@ -16,20 +16,6 @@ pub fn entry_at<const N: usize>(area: &[u8], k: usize) -> [u8; N]
     out
 }
 
-// The FMMU entry with a number; 0 where the area isn't 256 bytes, or the number is past the last.
-pub fn fmmu_at(area: &[u8], k: usize) -> [u8; 16]
-    ensures { result ≡ entry_at 16 area.now k }
-{
-    entry_at(area, k)
-}
-
-// The sync manager's entry with a number; 0 where the area isn't 128 bytes, or the number is past the last.
-pub fn channel_at(area: &[u8], k: usize) -> [u8; 8]
-    ensures { result ≡ entry_at 8 area.now k }
-{
-    entry_at(area, k)
-}
-
 // Stores an entry from a place on; where it has no room there, the area stays.
 pub fn store(entry: &[u8], area: &mut [u8], at: usize)
     ensures { area.new ≡ stored_at at entry.now area.old }

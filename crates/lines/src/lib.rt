@@ -69,7 +69,7 @@ fn put_channels(room: &mut [u8], from: usize, channels: &[u8], n: u8) -> usize
 {
     let mut at = from;
     for k in 0..n.min(16) {
-        let image = area::channel_at(channels, usize::from(k));
+        let image = area::entry_at(channels, usize::from(k));
         at = put_channel(room, at, u16::from(k), image);
     }
     at
@@ -81,7 +81,7 @@ fn put_entries(room: &mut [u8], from: usize, fmmus: &[u8]) -> usize
 {
     let mut at = from;
     for k in 0..16 {
-        let image = area::fmmu_at(fmmus, usize::from(k));
+        let image = area::entry_at(fmmus, usize::from(k));
         at = put_entry(room, at, k, image);
     }
     at

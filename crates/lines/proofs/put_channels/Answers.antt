@@ -27,7 +27,7 @@ loop-k-preserved c =
     let images = entries_of 8 (area_of 128 area) in
     let all = many n area in
     let here : l.k < n = omega arith in
-    let read = c.channel_at-image in
+    let read = c.entry_at-image in
     let is = get_or-take n images l.k [] here ∙ sym (read.ensures ∙ ap (entry_at 8 area) c.from.ensures ∙ entry-any 8 area l.k [] (omega arith)) in
     let put = types (ap (λ (k : ℕ). image_line k read.result) c.from-in-loop-k.ensures) c.put_channel-at.ensures in
     lines-turn image_line (take n images) l.k read.result (omega arith) is put ∙ l.invariant

@@ -16,7 +16,7 @@ loop-k-preserved c =
     let l = c.loop-k in
     let area = c.args.fmmus.now in
     let many = length-chunks 16 16 (area_of 256 area) in
-    let read = c.fmmu_at-image in
+    let read = c.entry_at-image in
     let is = sym (read.ensures ∙ ap (entry_at 16 area) c.from.ensures ∙ entry-any 16 area l.k [] (omega arith)) in
     lines-turn enabled_line (entries_of 16 (area_of 256 area)) l.k read.result (omega arith) is c.put_entry-at.ensures ∙ l.invariant
 
