@@ -2,7 +2,6 @@
 #![tactic(auto)]
 
 ghost use Rattle.std.specs.Prelude.{◌≡◌, true, false, ◌-◌, ◌≤◌, ◌<◌, MatchOption, IfSome};
-ghost use Rattle.std.specs.Io.{ReadsAtMost};
 ghost use Rattle.lockersheet.specs.Decimal.{no_digit, number_in};
 
 use dump::Head;
@@ -84,25 +83,10 @@ fn write(rt: &impl Print, dump: &[u8], head: Head) -> io::Result<()> {
     tell(rt, answer, &room)
 }
 
-// Reads until the buffer is full or the input ends, and says how many bytes came.
-fn read_full(input: &mut impl Read, buffer: &mut [u8]) -> io::Result<usize>
-    ensures { ReadsAtMost result buffer.new }
-{
-    let mut done = 0;
-    while done < buffer.len() {
-        let n = input.read(&mut buffer[done..])?;
-        if n == 0 {
-            break;
-        }
-        done += n;
-    }
-    Ok(done)
-}
-
 // The largest EEPROM has 4 Mbit, which is 524,288 bytes: one more, so that a longer dump is seen.
 fn convert(rt: &(impl Print + Eprint), input: &mut impl Read, head: Head) -> io::Result<()> {
     let mut dump = [0u8; 524289];
-    let n = read_full(input, &mut dump)?;
+    let n = input::read_full(input, &mut dump)?;
     if 524288 < n {
         return complain(
             rt,
