@@ -95,6 +95,7 @@ impl From<u8> for OperationMode {
     }
 }
 
+// As a mode, but each names cases of its own: one impl for both would be no plainer.
 impl Direction {
     // The number that stands for it, likewise.
     pub fn number(self) -> u8

@@ -101,7 +101,7 @@ impl Fmmu {
         7 < self.logical_start_bit || 7 < self.logical_end_bit || 7 < self.physical_start_bit
     }
 
-    // Its text, into lent room.
+    // Its text, into lent room. It is typed, since std's Display says what it wrote where it succeeds, and not that it does.
     pub fn fmt(self, room: &mut [u8]) -> Result<usize, Reason>
         ensures { InRoom (text_in (fmmu_text self) room.old) (fmmu_text self) room.old result room.new }
     {

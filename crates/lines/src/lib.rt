@@ -75,7 +75,7 @@ fn put_channels(room: &mut [u8], from: usize, channels: &[u8], n: u8) -> usize
     at
 }
 
-// The lines of an area's enabled entries.
+// The lines of an area's enabled entries. It shares but the `for` with the one above, so one for both would be no plainer.
 fn put_entries(room: &mut [u8], from: usize, fmmus: &[u8]) -> usize
     ensures { Types (page room.old from) (page room.new result) (lines enabled_line 0 (entries_of 16 (area_of 256 fmmus.now))) }
 {

@@ -78,7 +78,7 @@ impl SyncManagerChannel {
         Ok(8)
     }
 
-    // Its text, into lent room.
+    // Its text, into lent room. It is typed, since std's Display says what it wrote where it succeeds, and not that it does.
     pub fn fmt(self, room: &mut [u8]) -> Result<usize, Reason>
         ensures { InRoom (text_in (channel_text self) room.old) (channel_text self) room.old result room.new }
     {
@@ -118,7 +118,7 @@ fn put_direction(room: &mut [u8], at: usize, direction: Direction) -> usize
     }
 }
 
-// The mode, typed at a place of the room.
+// The mode, typed at a place of the room. Its words are its own, so one function for both kinds would be no plainer.
 fn put_mode(room: &mut [u8], at: usize, mode: OperationMode) -> usize
     ensures { Types (page room.old at) (page room.new result) (mode_text mode) }
 {
