@@ -155,6 +155,7 @@ fn find(dump: &[u8]) -> Found
     };
     let mut known = 0;
     let mut end = 0;
+    // a while: each category says its own length, and the places are noted
     while let Some(long) = category_long(wire::behind(dump, end)) {
         let rest = wire::behind(dump, end);
         let kind = wire::le16(rest[0], rest[1]);
@@ -287,6 +288,7 @@ fn pdo_records(bytes: &[u8]) -> Records
 {
     let mut count = 0;
     let mut end = 0;
+    // a while: each record says its own length, and where the last one ends is asked for
     while let Some(long) = pdo_long(wire::behind(bytes, end)) {
         end += long;
         count += 1;
@@ -332,6 +334,7 @@ fn put_pdos(bytes: &[u8], kind: Kind, room: &mut [u8], to: usize) -> usize
 {
     let mut at = 0;
     let mut place = to;
+    // a while: each record says its own length
     while let Some(long) = pdo_long(wire::behind(bytes, at)) {
         area::store(&pdo_bytes(wire::behind(bytes, at), kind), room, place);
         at += long;
