@@ -1,13 +1,15 @@
 // The entry points that take an image, or a record and lent room.
-use crate::say::Line;
-use crate::{numbers, parts, say};
-use fmmu::{Fmmu, FmmuRead};
+use crate::numbers::{control_fields, enable_fields, status_fields};
+use crate::parts;
+use crate::parts::Request;
+use crate::say::{Hex, Item, Numbers};
+use fmmu::Fmmu;
 use pdi::{ByteLen, PdiSegment};
 use std::io;
 use sync_manager_channel::{
-    BufferState, ChannelRead, Control, Direction, Enable, OperationMode, Status, SyncManagerChannel,
+    BufferState, Control, Direction, Enable, OperationMode, Status, SyncManagerChannel,
 };
-use wire::Written;
+use wire::Reason;
 
 pub fn set(bytes: &[u8], at: usize) -> bool {
     wire::byte_at(bytes, at) != 0
@@ -30,32 +32,18 @@ fn fmmu_of(bytes: &[u8]) -> Fmmu {
 
 // A mode and a direction by their numbers, or as the case with the number.
 fn mode_of(number: u8, unnamed: bool) -> OperationMode {
-    if unnamed {
-        return OperationMode::Unnamed(number);
+    match (unnamed, number) {
+        (true, _) => OperationMode::Unnamed(number),
+        (false, 0) => OperationMode::Normal,
+        (false, _) => OperationMode::Mailbox,
     }
-    if number == 0 {
-        return OperationMode::Normal;
-    }
-    OperationMode::Mailbox
 }
 
 fn direction_of(number: u8, unnamed: bool) -> Direction {
-    if unnamed {
-        return Direction::Unnamed(number);
-    }
-    if number == 0 {
-        return Direction::MasterRead;
-    }
-    Direction::MasterWrite
-}
-
-fn state_of(number: u8) -> BufferState {
-    let state = number % 4;
-    match state {
-        0 => BufferState::First,
-        1 => BufferState::Second,
-        2 => BufferState::Third,
-        _ => BufferState::Next,
+    match (unnamed, number) {
+        (true, _) => Direction::Unnamed(number),
+        (false, 0) => Direction::MasterRead,
+        (false, _) => Direction::MasterWrite,
     }
 }
 
@@ -75,7 +63,7 @@ fn status_of(bytes: &[u8]) -> Status {
         has_write_event: set(bytes, 9),
         has_read_event: set(bytes, 10),
         mailbox_full: set(bytes, 11),
-        buffer_state: state_of(wire::byte_at(bytes, 12)),
+        buffer_state: BufferState::from(wire::byte_at(bytes, 12) & 0x03),
         read_buffer_open: set(bytes, 13),
         write_buffer_open: set(bytes, 14),
     }
@@ -102,122 +90,105 @@ fn channel_of(bytes: &[u8]) -> SyncManagerChannel {
     }
 }
 
-pub fn fmmu_read(rt: &impl Print, request: &[u8]) -> io::Result<()> {
-    match Fmmu::unpack_from_slice(parts::fmmus(request)) {
-        FmmuRead::Entry(f) => say::first(
-            rt,
-            &[
-                f.logical_start_address as u64,
-                f.length_bytes.0 as u64,
-                f.logical_start_bit as u64,
-                f.logical_end_bit as u64,
-                f.physical_start_address as u64,
-                f.physical_start_bit as u64,
-                f.read_enable as u64,
-                f.write_enable as u64,
-                f.enable as u64,
-            ],
+pub fn fmmu_read(rt: &impl Print, request: Request) -> io::Result<()> {
+    match Fmmu::unpack_from_slice(request.fmmus()) {
+        Ok(f) => print!(rt;
+            "{} {} {} {} {} {} {} {} {}",
+            f.logical_start_address,
+            f.length_bytes.0,
+            f.logical_start_bit,
+            f.logical_end_bit,
+            f.physical_start_address,
+            f.physical_start_bit,
+            u8::from(f.read_enable),
+            u8::from(f.write_enable),
+            u8::from(f.enable)
         ),
-        FmmuRead::Refused(number) => say::refuse(rt, number),
+        Err(reason) => rt.print(Item::Refused(reason)),
     }
 }
 
 fn channel_fields(rt: &impl Print, channel: SyncManagerChannel) -> io::Result<()> {
-    let control = channel.control;
-    let status = channel.status;
-    let enable = channel.enable;
-    say::put_item(rt, channel.physical_start_address as u64)?;
-    say::item(rt, channel.length_bytes.0 as u64)?;
-    say::then(rt, numbers::control_items(control), 5)?;
-    say::then(rt, numbers::status_items(status), 6)?;
-    say::then(rt, numbers::enable_items(enable), 6)
+    print!(rt;
+        "{} {}{}{}{}",
+        channel.physical_start_address,
+        channel.length_bytes.0,
+        Numbers(&control_fields(channel.control)),
+        Numbers(&status_fields(channel.status)),
+        Numbers(&enable_fields(channel.enable))
+    )
 }
 
-pub fn channel_read(rt: &impl Print, request: &[u8]) -> io::Result<()> {
-    match SyncManagerChannel::unpack_from_slice(parts::channels(request)) {
-        ChannelRead::Channel(channel) => channel_fields(rt, channel),
-        ChannelRead::Refused(number) => say::refuse(rt, number),
+pub fn channel_read(rt: &impl Print, request: Request) -> io::Result<()> {
+    match SyncManagerChannel::unpack_from_slice(request.channels()) {
+        Ok(channel) => channel_fields(rt, channel),
+        Err(reason) => rt.print(Item::Refused(reason)),
     }
 }
 
 // The image by value.
-pub fn channel_packed(rt: &impl Print, request: &[u8]) -> io::Result<()> {
-    let image = channel_of(parts::channels(request)).pack();
-    say::line(
-        rt,
-        [
-            say::byte(image[0]),
-            say::next_byte(image[1]),
-            say::next_byte(image[2]),
-            say::next_byte(image[3]),
-            say::next_byte(image[4]),
-            say::next_byte(image[5]),
-            say::next_byte(image[6]),
-            say::next_byte(image[7]),
-        ],
-    )
+pub fn channel_packed(rt: &impl Print, request: Request) -> io::Result<()> {
+    rt.print(Hex(&channel_of(request.channels()).pack()))
 }
 
-// Writes a text or an image into lent room.
-fn write(
-    letter: u8,
-    segment: PdiSegment,
-    fmmu: Fmmu,
-    channel: SyncManagerChannel,
-    room: &mut [u8],
-) -> Written {
-    match letter {
-        b's' => segment.fmt(room),
-        b'f' => fmmu.fmt(room),
-        b'W' => fmmu.pack_to_slice(room),
-        b'y' => channel.fmt(room),
-        _ => channel.pack_to_slice(room),
+// What is written into room that is filled with `~` first, as a text.
+fn text<F: FnOnce(&mut [u8]) -> Result<usize, Reason>>(
+    rt: &impl Print,
+    request: Request,
+    write: F,
+) -> io::Result<()>
+    requires { F.IsAlwaysCallable write }
+{
+    let mut space = [b'~'; 20480];
+    let room = parts::front_mut(&mut space, usize::from(request.room()));
+    match write(room) {
+        Ok(length) => print!(rt; "{length} |")?,
+        Err(reason) => print!(rt; "{} |", Item::Refused(reason))?,
+    }
+    rt.write_all(room)?;
+    rt.print("|")
+}
+
+// What is written into room that is filled with 0xff first, as an image.
+fn image<F: FnOnce(&mut [u8]) -> Result<usize, Reason>>(
+    rt: &impl Print,
+    request: Request,
+    write: F,
+) -> io::Result<()>
+    requires { F.IsAlwaysCallable write }
+{
+    let mut space = [0xff; 20480];
+    let room = parts::front_mut(&mut space, usize::from(request.room()));
+    match write(room) {
+        Ok(_) => print!(rt; "ok {}", Hex(room)),
+        Err(reason) => print!(rt; "{} {}", Item::Refused(reason), Hex(room)),
     }
 }
 
-fn written(answer: Written, image: bool) -> Line {
-    match answer {
-        Written::Len(length) => say::one(if image { say::OK } else { length as u64 }),
-        Written::Refused(number) => say::refused(number),
-    }
-}
-
-// What writing into the room answers, and the room.
-fn tell(rt: &impl Print, answer: Written, image: bool, room: &[u8]) -> io::Result<()> {
-    say::line(rt, written(answer, image))?;
-    if image {
-        say::then_bytes(rt, room)
-    } else {
-        say::then_room(rt, room)
-    }
-}
-
-fn writes_image(letter: u8) -> bool {
-    match letter {
-        b'W' | b'Z' => true,
-        _ => false,
-    }
-}
-
-fn filler(image: bool) -> u8 {
-    if image { 0xff } else { b'~' }
-}
-
-// The entry points that are lent room, filled with 0xff first for an image and with `~` for a text.
-pub fn roomed(rt: &impl Print, letter: u8, request: &[u8]) -> io::Result<()> {
-    let image = writes_image(letter);
-    let mut space = [filler(image); 20480];
-    let room = parts::front_mut(&mut space, parts::number2(request, 2) as usize);
+pub fn segment_text(rt: &impl Print, request: Request) -> io::Result<()> {
     let segment = PdiSegment {
-        start: parts::number4(request, 4),
-        end: parts::number4(request, 8),
+        start: request.a(),
+        end: request.b(),
     };
-    let answer = write(
-        letter,
-        segment,
-        fmmu_of(parts::fmmus(request)),
-        channel_of(parts::channels(request)),
-        room,
-    );
-    tell(rt, answer, image, room)
+    text(rt, request, |room| segment.fmt(room))
+}
+
+pub fn fmmu_text(rt: &impl Print, request: Request) -> io::Result<()> {
+    let fmmu = fmmu_of(request.fmmus());
+    text(rt, request, |room| fmmu.fmt(room))
+}
+
+pub fn fmmu_image(rt: &impl Print, request: Request) -> io::Result<()> {
+    let fmmu = fmmu_of(request.fmmus());
+    image(rt, request, |room| fmmu.pack_to_slice(room))
+}
+
+pub fn channel_text(rt: &impl Print, request: Request) -> io::Result<()> {
+    let channel = channel_of(request.channels());
+    text(rt, request, |room| channel.fmt(room))
+}
+
+pub fn channel_image(rt: &impl Print, request: Request) -> io::Result<()> {
+    let channel = channel_of(request.channels());
+    image(rt, request, |room| channel.pack_to_slice(room))
 }

@@ -1,180 +1,163 @@
-// What is answered: items, which are numbers, and how each is written.
-use crate::parts;
-use std::io;
+// What is answered: words, items and lines of them, and how each is written.
+use std::fmt;
+use wire::Reason;
 
-// An item below 2^32 is a number after a space. What is added to it says how else it is written.
-const KIND: u64 = 0x1_0000_0000;
-
-// After a slash.
-pub const SLASH: u64 = 0x1_0000_0000;
-
-// Close to what stands before it.
-const CLOSE: u64 = 0x2_0000_0000;
-
-// After a space and an r.
-pub const R: u64 = 0x3_0000_0000;
-
-// As two hexadecimal digits.
-pub const HEX: u64 = 0x4_0000_0000;
-
-// As one of the words in `word`: 32 times its row there, and its length.
-const WORD: u64 = 0x8_0000_0000;
-
-pub const OK: u64 = WORD + 2;
-
-pub const NONE: u64 = WORD + 32 + 4;
-
-pub const REFUSED: u64 = WORD + 64 + 7;
-
-pub const SAME: u64 = WORD + 96 + 4;
-
-pub const DIFFER: u64 = WORD + 128 + 6;
-
-pub const MANAGERS: u64 = WORD + 160 + 8;
-
-pub const USAGES: u64 = WORD + 192 + 6;
-
-pub const PDOS: u64 = WORD + 224 + 4;
-
-pub const UNKNOWN: u64 = WORD + 256 + 19;
-
-// After the last item.
-pub const END: u64 = 0x10_0000_0000;
-
-// An answer that can change with c, so that two can be compared.
-pub type Line = [u64; 8];
-
-pub fn row(a: u64, b: u64, c: u64, d: u64) -> Line {
-    [a, b, c, d, END, END, END, END]
+// A word of an answer.
+#[derive(Clone, Copy, Debug, PartialEq, Eq)]
+pub enum Word {
+    Ok,
+    None,
+    Same,
+    Differ,
+    Unknown,
 }
 
-pub fn one(item: u64) -> Line {
-    row(item, END, END, END)
+impl fmt::Display for Word {
+    fn fmt<W: fmt::Write>(&self, f: &mut fmt::Formatter<W>) -> fmt::Result {
+        f.write_str(match self {
+            Word::Ok => "ok",
+            Word::None => "none",
+            Word::Same => "same",
+            Word::Differ => "differ",
+            Word::Unknown => "no such entry point",
+        })
+    }
 }
 
-pub fn two(a: u64, b: u64) -> Line {
-    row(a, b, END, END)
+// One item of a line.
+#[derive(Clone, Copy, Debug, PartialEq, Eq)]
+pub enum Item {
+    Word(Word),
+    // In decimal.
+    Number(u64),
+    // Two of them with a slash between.
+    Slashed(u64, u8),
+    // As two hexadecimal digits each.
+    Byte(u8),
+    Bytes([u8; 2]),
+    // A refusal by its number: in words, and short beside other answers.
+    Refused(Reason),
+    Short(Reason),
 }
 
-pub fn refused(number: u8) -> Line {
-    two(REFUSED, number as u64)
+impl From<u8> for Item {
+    fn from(number: u8) -> Item {
+        Item::Number(u64::from(number))
+    }
 }
 
-// Whether two lines are the same.
-pub fn same(a: Line, b: Line) -> bool {
-    let mut k = 0;
-    while k < 8 {
-        if a[k] != b[k] {
-            return false;
+impl From<u16> for Item {
+    fn from(number: u16) -> Item {
+        Item::Number(u64::from(number))
+    }
+}
+
+impl From<u32> for Item {
+    fn from(number: u32) -> Item {
+        Item::Number(u64::from(number))
+    }
+}
+
+impl From<usize> for Item {
+    fn from(number: usize) -> Item {
+        Item::Number(number as u64)
+    }
+}
+
+// A device address, if there is one.
+impl From<Option<u16>> for Item {
+    fn from(address: Option<u16>) -> Item {
+        address.map_or(Item::Word(Word::None), Item::from)
+    }
+}
+
+impl fmt::Display for Item {
+    fn fmt<W: fmt::Write>(&self, f: &mut fmt::Formatter<W>) -> fmt::Result {
+        match self {
+            Item::Word(word) => write!(f, "{word}"),
+            Item::Number(number) => write!(f, "{number}"),
+            Item::Slashed(number, other) => write!(f, "{number}/{other}"),
+            Item::Byte(byte) => write!(f, "{byte:02x}"),
+            Item::Bytes([first, second]) => write!(f, "{first:02x}{second:02x}"),
+            Item::Refused(reason) => write!(f, "refused {}", reason.number()),
+            Item::Short(reason) => write!(f, "r{}", reason.number()),
         }
-        k += 1;
-    }
-    true
-}
-
-// A byte as two hexadecimal digits, after a space or close to the one before.
-pub fn byte(x: u8) -> u64 {
-    HEX + (x as u64)
-}
-
-pub fn next_byte(x: u8) -> u64 {
-    CLOSE + HEX + (x as u64)
-}
-
-pub fn text(rt: &impl Print, bytes: &[u8]) -> io::Result<()> {
-    rt.write_all(bytes)
-}
-
-// What stands before an item.
-fn lead(rt: &impl Print, kind: u64) -> io::Result<()> {
-    match kind {
-        0 => text(rt, b" "),
-        1 => text(rt, b"/"),
-        2 => text(rt, b""),
-        _ => text(rt, b" r"),
     }
 }
 
-// The words stand in rows of eight bytes; the last takes three.
-fn word(rt: &impl Print, item: u64) -> io::Result<()> {
-    let rows =
-        b"ok      none    refused same    differ  managersusages  pdos    no such entry point";
-    let row = (item % KIND / 32) as usize;
-    text(rt, parts::part(rows, 8 * row, (item % 32) as usize))
-}
+// An answer that can change with c, so that two can be compared: at most seven items.
+#[derive(Clone, Copy, Debug, PartialEq, Eq)]
+pub struct Line([Option<Item>; 7]);
 
-// The first item of a line.
-pub fn put_item(rt: &impl Print, item: u64) -> io::Result<()> {
-    if item < HEX {
-        rt.print(item % KIND)
-    } else if item < WORD {
-        print!(rt; "{:02x}", item % 256)
-    } else {
-        word(rt, item)
-    }
-}
-
-// One item more of a line.
-pub fn item(rt: &impl Print, item: u64) -> io::Result<()> {
-    lead(rt, item / KIND % 4)?;
-    put_item(rt, item)
-}
-
-// The first `count` items of a list; nothing stands before the first, unless the line has begun.
-fn put(rt: &impl Print, list: &[u64], count: usize, begun: bool) -> io::Result<()> {
-    let n = wire::least(count, list.len());
-    let mut inside = begun;
-    let mut k = 0;
-    while k < n {
-        let item = list[k];
-        if item == END {
-            return Ok(());
+impl<const N: usize> From<[Item; N]> for Line {
+    fn from(items: [Item; N]) -> Line {
+        let mut line = [None; 7];
+        for (place, item) in line.iter_mut().zip(&items) {
+            *place = Some(*item);
         }
-        if inside {
-            lead(rt, item / KIND % 4)?;
+        Line(line)
+    }
+}
+
+impl Line {
+    // The fields of a register in turn, and then what is written of it again.
+    pub fn fields(fields: &[u8], again: Item) -> Line {
+        let mut line = [None; 7];
+        for (place, field) in line.iter_mut().zip(fields) {
+            *place = Some(Item::from(*field));
         }
-        put_item(rt, item)?;
-        inside = true;
-        k += 1;
+        if let Some(place) = line.get_mut(fields.len()) {
+            *place = Some(again);
+        }
+        Line(line)
     }
-    Ok(())
-}
 
-pub fn first(rt: &impl Print, list: &[u64]) -> io::Result<()> {
-    put(rt, list, list.len(), false)
-}
-
-// By value, as a caller that lends an array is dear to prove.
-pub fn line(rt: &impl Print, line: Line) -> io::Result<()> {
-    first(rt, &line)
-}
-
-// The first items of a line, after what stands before them.
-pub fn then(rt: &impl Print, line: Line, count: usize) -> io::Result<()> {
-    put(rt, &line, count, true)
-}
-
-pub fn refuse(rt: &impl Print, number: u8) -> io::Result<()> {
-    first(rt, &[REFUSED, number as u64])
-}
-
-// The next bytes of a line; `-` where there are none.
-pub fn then_bytes(rt: &impl Print, bytes: &[u8]) -> io::Result<()> {
-    if bytes.len() == 0 {
-        return text(rt, b" -");
+    pub fn word(word: Word) -> Line {
+        Line::from([Item::Word(word)])
     }
-    text(rt, b" ")?;
-    let mut i = 0;
-    while i < bytes.len() {
-        put_item(rt, byte(bytes[i]))?;
-        i += 1;
+
+    pub fn refused(reason: Reason) -> Line {
+        Line::from([Item::Refused(reason)])
     }
-    Ok(())
 }
 
-// The room lent for a text, between two bars.
-pub fn then_room(rt: &impl Print, room: &[u8]) -> io::Result<()> {
-    text(rt, b" |")?;
-    text(rt, room)?;
-    text(rt, b"|")
+impl fmt::Display for Line {
+    fn fmt<W: fmt::Write>(&self, f: &mut fmt::Formatter<W>) -> fmt::Result {
+        for (k, item) in self.0.iter().flatten().enumerate() {
+            if 0 < k {
+                write!(f, " ")?;
+            }
+            write!(f, "{item}")?;
+        }
+        Ok(())
+    }
+}
+
+// Numbers in decimal, a space before each.
+#[derive(Clone, Copy)]
+pub struct Numbers<'a>(pub &'a [u8]);
+
+impl fmt::Display for Numbers<'_> {
+    fn fmt<W: fmt::Write>(&self, f: &mut fmt::Formatter<W>) -> fmt::Result {
+        for number in self.0 {
+            write!(f, " {number}")?;
+        }
+        Ok(())
+    }
+}
+
+// Bytes as two hexadecimal digits each, without gaps; `-` where there are none.
+#[derive(Clone, Copy)]
+pub struct Hex<'a>(pub &'a [u8]);
+
+impl fmt::Display for Hex<'_> {
+    fn fmt<W: fmt::Write>(&self, f: &mut fmt::Formatter<W>) -> fmt::Result {
+        if self.0.is_empty() {
+            return write!(f, "-");
+        }
+        for byte in self.0 {
+            write!(f, "{byte:02x}")?;
+        }
+        Ok(())
+    }
 }

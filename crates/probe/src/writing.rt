@@ -1,95 +1,77 @@
 // The entry points that write device data as a sheet.
-use crate::{arrivals, numbers, parts, records, say};
+use crate::again::over_and_over;
+use crate::parts::Request;
+use crate::say::{Hex, Item};
+use crate::{arrivals, parts, records};
 use pdi::ByteLen;
-use sheet::{Answer, Device, SyncManager};
-use std::io;
+use sheet::{Device, SyncManager};
+use std::{array, io};
 use sync_manager_channel::{Control, Direction, OperationMode};
-use wire::Written;
+use wire::Reason;
 
 // What stands in the room up to a length, and how many bytes behind that aren't as they were.
 pub fn tell_room(rt: &impl Print, room: &[u8], length: usize) -> io::Result<()> {
-    say::then_bytes(rt, wire::front(room, length))?;
-    say::item(rt, arrivals::wrong(room, length, room))
+    let wrong = arrivals::wrong(room, length, room);
+    print!(rt; " {} {wrong}", Hex(wire::front(room, length)))
 }
 
 // A refusal, and how many bytes of the whole room aren't as they were.
-pub fn tell_refused(rt: &impl Print, number: u8, room: &[u8]) -> io::Result<()> {
-    say::refuse(rt, number)?;
-    say::item(rt, arrivals::wrong(room, 0, room))
+pub fn tell_refused(rt: &impl Print, reason: Reason, room: &[u8]) -> io::Result<()> {
+    let wrong = arrivals::wrong(room, 0, room);
+    print!(rt; "{} {wrong}", Item::Refused(reason))
 }
 
 // What writing answered, and the room.
-pub fn tell(rt: &impl Print, answer: Written, room: &[u8]) -> io::Result<()> {
+pub fn tell(rt: &impl Print, answer: Result<usize, Reason>, room: &[u8]) -> io::Result<()> {
     match answer {
-        Written::Len(length) => {
-            say::put_item(rt, length as u64)?;
+        Ok(length) => {
+            rt.print(length)?;
             tell_room(rt, room, length)
         }
-        Written::Refused(number) => tell_refused(rt, number, room),
+        Err(reason) => tell_refused(rt, reason, room),
     }
-}
-
-// The same device data over and over, for whoever counts the cost.
-fn over_and_over(d: Device, bytes: &[u8], room: &mut [u8], times: u32) -> Written {
-    let mut last = writer::write(d, bytes, room);
-    let mut left = times;
-    while 1 < left {
-        last = writer::write(d, bytes, room);
-        left -= 1;
-    }
-    last
 }
 
 // Device data into room that is filled with 0xff first, the request's sheet being the lent bytes.
-fn roomed(rt: &impl Print, d: Device, request: &[u8], times: u32) -> io::Result<()> {
+fn roomed(rt: &impl Print, d: Device, request: Request, times: u32) -> io::Result<()> {
     let mut space = [0xffu8; 20480];
-    let room = parts::front_mut(&mut space, parts::number2(request, 2) as usize);
-    let answer = over_and_over(d, parts::sheet(request), room, times);
+    let room = parts::front_mut(&mut space, usize::from(request.room()));
+    let bytes = request.sheet();
+    let answer = over_and_over(times, || writer::write(d, bytes, room));
     tell(rt, answer, room)
 }
 
 // A sheet's own device data, as often as a says.
-pub fn again(rt: &impl Print, request: &[u8]) -> io::Result<()> {
-    let read = sheet::read(parts::sheet(request));
-    let answer = read.answer;
-    let d = read.device;
-    match answer {
-        Answer::Refused(number) => say::refuse(rt, number),
-        Answer::Accepted => roomed(rt, d, request, parts::number4(request, 4)),
+pub fn again(rt: &impl Print, request: Request) -> io::Result<()> {
+    match sheet::read(request.sheet()) {
+        Ok(d) => roomed(rt, d, request, request.a()),
+        Err(reason) => rt.print(Item::Refused(reason)),
     }
 }
 
-// A number of eight bytes, as a count or a place.
-fn number8(record: &[u8], at: usize) -> usize {
-    let bytes = parts::part(record, at, 8);
-    numbers::joined(parts::number4(bytes, 0), parts::number4(bytes, 4)) as usize
-}
-
-// Of four bytes: whether the mode is the case with a number, that number, and the same of the direction; else they are as the control byte says.
+// Four bytes say whether the mode is the case with a number, that number, and so of the direction; else the control byte says it.
 fn mode(said: OperationMode, given: &[u8]) -> OperationMode {
     if records::set(given, 0) {
-        return OperationMode::Unnamed(wire::byte_at(given, 1));
+        OperationMode::Unnamed(wire::byte_at(given, 1))
+    } else {
+        said
     }
-    said
 }
 
 fn direction(said: Direction, given: &[u8]) -> Direction {
     if records::set(given, 2) {
-        return Direction::Unnamed(wire::byte_at(given, 3));
+        Direction::Unnamed(wire::byte_at(given, 3))
+    } else {
+        said
     }
-    said
 }
 
 fn control(byte: u8, given: &[u8]) -> Control {
     let said = Control::unpack(byte);
-    let said_mode = said.operation_mode;
-    let said_direction = said.direction;
     Control {
-        operation_mode: mode(said_mode, given),
-        direction: direction(said_direction, given),
-        ecat_event_enable: said.ecat_event_enable,
-        dls_user_event_enable: said.dls_user_event_enable,
-        watchdog_enable: said.watchdog_enable,
+        operation_mode: mode(said.operation_mode, given),
+        direction: direction(said.direction, given),
+        ..said
     }
 }
 
@@ -105,23 +87,17 @@ fn manager(bytes: &[u8], given: &[u8]) -> SyncManager {
 
 // The sixteen sync managers of a record.
 fn managers(record: &[u8]) -> [SyncManager; 16] {
-    let mut list = [manager(b"", b""); 16];
-    let mut k = 0;
-    while k < 16 {
-        list[k] = manager(
+    array::from_fn(|k| {
+        manager(
             parts::part(record, 32 + 5 * k, 5),
             parts::part(record, 128 + 4 * k, 4),
-        );
-        k += 1;
-    }
-    list
+        )
+    })
 }
 
 // The sixteen FMMU usages of a record.
 fn usages(record: &[u8]) -> [u8; 16] {
-    let mut list = [0u8; 16];
-    wire::copy(parts::part(record, 112, 16), &mut list);
-    list
+    array::from_fn(|k| wire::byte_at(record, 112 + k))
 }
 
 // A device record of 128 bytes, or of 192.
@@ -133,15 +109,15 @@ fn device_of(record: &[u8]) -> Device {
         receive_size: ByteLen(parts::number2(record, 3)),
         send_size: ByteLen(parts::number2(record, 5)),
         managers: managers(record),
-        n: number8(record, 7),
+        n: parts::number8(record, 7) as usize,
         usages: usages(record),
-        f: number8(record, 15),
-        pdos: number8(record, 23),
+        f: parts::number8(record, 15) as usize,
+        pdos: parts::number8(record, 23) as usize,
         p: wire::byte_at(record, 31),
     }
 }
 
 // Device data that is given by its fields, once.
-pub fn given(rt: &impl Print, request: &[u8]) -> io::Result<()> {
-    roomed(rt, device_of(parts::fmmus(request)), request, 1)
+pub fn given(rt: &impl Print, request: Request) -> io::Result<()> {
+    roomed(rt, device_of(request.fmmus()), request, 1)
 }

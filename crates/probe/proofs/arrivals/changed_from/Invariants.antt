@@ -1,7 +1,0 @@
--- `probe::arrivals::changed_from`: each turn comes nearer to the end.
--- Assumes nothing.
-use Rattle.std.proofs.Common.{◌-◌, length}
-use Rattle.probe.proofs.arrivals.changed_from.Given as goal
-
-abbrev pub decreases-loop-i : goal.decreases-loop-i
-decreases-loop-i l = length l.room - l.i

@@ -1,7 +1,0 @@
--- `probe::bays::usages`: each turn comes nearer to the end.
--- Assumes nothing.
-use Rattle.std.proofs.Common.{◌-◌}
-use Rattle.probe.proofs.bays.usages.Given as goal
-
-abbrev pub decreases-loop-k : goal.decreases-loop-k
-decreases-loop-k g l = l.count - l.k

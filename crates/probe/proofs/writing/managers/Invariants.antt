@@ -1,7 +1,0 @@
--- `probe::writing::managers`: each turn comes nearer to the end.
--- Assumes nothing.
-use Rattle.std.proofs.Common.{◌-◌}
-use Rattle.probe.proofs.writing.managers.Given as goal
-
-abbrev pub decreases-loop-k : goal.decreases-loop-k
-decreases-loop-k l = 16 - l.k
