@@ -9,6 +9,7 @@ use native.Mathlib.Omega.{arith}
 use lib.ListN.{length, get_or, drop, length-map, get_or-eq_default}
 use Rattle.std.specs.Prelude.{Option, Some, None}
 use Rattle.wire.specs.Lists.{some_of}
+use Rattle.wire.proofs.Lists.{at_none}
 use Rattle.pdi.specs.declared.ByteLen.{ByteLen}
 use Rattle.fmmu.specs.Image.{fields_of}
 use Rattle.sheet.specs.declared.SyncManager.{SyncManager}
@@ -25,9 +26,10 @@ use Rattle.passes.specs.Use.{Use}
 use Rattle.passes.specs.Handed.{uses_by, Short}
 use Rattle.passes.specs.Entries.{length_now, too_long, uses_of_both}
 use Rattle.passes.specs.Old.{cleared_of_both, both_bits, some_enabled, in_the_way}
-use Rattle.passes.proofs.Cleared.{zeros-all-off, cleared_at, length-off, cleared-short, from_zero, cleared-eight}
+use Rattle.passes.proofs.Cleared.{nil-off, none-used, zeros-all-off, cleared_at, length-off, cleared-short, from_zero, cleared-eight}
 use Rattle.entries.specs.Lay.{entry_taken}
 use Rattle.entries.specs.Ready.{on, zero_entries, ready, Readies}
+use Rattle.entries.proofs.Clearing.{some-both-kept, none-both}
 use Rattle.entries.proofs.Uses.{uses_at, uses-end, uses-other, with_taken, uses-taken}
 
 -- a number past the last one is no entry
@@ -111,25 +113,18 @@ module _ {old : OldEntries} (us : List Use) (before : List (List ℕ)) where
   keeps is = subst (λ (o : OldEntries). Readies o us before before false) (sym is) (record { says = refl; holds = refl })
 
   -- what is in the way once they are cleared
-  module _ (is : old ≡ Clear) {two : Bool} (t : two ≡ some_of both_bits before) {after : List (List ℕ)} (holds : after ≡ map cleared_of_both before) where
-    made : {now : List (List ℕ)} {b : Bool} → b ≡ some_of both_bits before || some_enabled us (map cleared_of_both before) → now ≡ cond b zero_entries (map cleared_of_both before) → Readies old us before now b
+  module _ (is : old ≡ Clear) {after : List (List ℕ)} (holds : after ≡ map cleared_of_both before) where
+    pub made : {now : List (List ℕ)} {b : Bool} → b ≡ some_of both_bits after || some_enabled us after → now ≡ cond b zero_entries after → Readies old us before now b
     unfolding in_the_way
     made {now} {b} w h =
+        let both = ap (some_of both_bits) holds ∙ some-both-kept before in
+        let way : b ≡ in_the_way Clear us before = w ∙ (λ i. both i || some_enabled us (holds i)) in
         subst (λ (o : OldEntries). Readies o us before now b) (sym is)
-        (record { says = w; holds = h ∙ ap (λ (x : Bool). cond x zero_entries (map cleared_of_both before)) w })
+        (record { says = way; holds = h ∙ (λ i. cond (way i) zero_entries (holds i)) })
 
-    wanted : {b : Bool} → some_enabled us after ≡ b → b ≡ some_enabled us (map cleared_of_both before)
-    wanted e = sym e ∙ ap (some_enabled us) holds
-
-    -- one with both bits; one that is wanted; none
-    pub both-blocks : two ≡ true → Readies old us before zero_entries true
-    both-blocks b = made (ap (λ (x : Bool). x || some_enabled us (map cleared_of_both before)) (sym b ∙ t)) refl
-
-    pub wanted-blocks : two ≡ false → some_enabled us after ≡ true → Readies old us before zero_entries true
-    wanted-blocks b e = made (λ i. (sym b ∙ t) i || wanted e i) refl
-
-    pub none-blocks : two ≡ false → some_enabled us after ≡ false → Readies old us before after false
-    none-blocks b e = made (λ i. (sym b ∙ t) i || wanted e i) holds
+-- where none is enabled at all, none is in the way
+pub all-off : (us : List Use) (es : List (List ℕ)) → some_of on es ≡ false → false ≡ some_of both_bits es || some_enabled us es
+all-off us es e = λ i. sym (none-both es e) i || sym (none-used us es (at_none on es [] nil-off e)) i
 
 short-zeros : Short zero_entries
 short-zeros = record { many = refl; short = λ k h. (let z = length-off (get_or zero_entries k []) (zeros-all-off 16 k) in omega arith) }

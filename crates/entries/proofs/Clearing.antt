@@ -2,14 +2,16 @@
 -- Assumes nothing.
 use mathlib.Core.Path.{◌≡◌, refl, sym, ◌∙◌, ap}
 use mathlib.Core.Bool.{Bool, true, false, cond, ◌&&◌, ◌||◌}
-use mathlib.Core.List.{List}
+use mathlib.Core.List.{List, [], ◌∷◌, map}
 use Prim.Native.Nat.{ℕ}
 use lib.ListN.{replicate}
+use Rattle.wire.specs.Lists.{some_of}
+use Rattle.wire.proofs.Lists.{or-none}
 use Rattle.fmmu.specs.Image.{fields_of}
 use Rattle.pdo.specs.declared.PdoDirection.{PdoDirection}
 use Rattle.pdo.specs.declared.PdoDirection.TheVariants.{MasterRead, MasterWrite}
-use Rattle.passes.specs.Old.{carries_alone, is_old, cleared, cleared_of_both}
-use Rattle.passes.proofs.Cleared.{zeros-off, cleared-old, cleared-not, cleared-off, both-off}
+use Rattle.passes.specs.Old.{carries_alone, carries_both, is_old, cleared, cleared_of_both, both_bits}
+use Rattle.passes.proofs.Cleared.{zeros-off, old-not-both, cleared-old, cleared-not, cleared-off, both-off}
 use Rattle.entries.specs.Ready.{carries_one, on, old_one}
 
 module _ (e : List ℕ) where
@@ -36,3 +38,26 @@ module _ (e : List ℕ) where
       go : (x : Bool) → on e ≡ x → cond b (replicate 16 0) e ≡ cleared_of_both e
       go true o = ap (λ (c : Bool). cond c (replicate 16 0) e) (h ∙ ap (λ (x : Bool). x && carries_one (fields_of e)) o) ∙ sym (cleared_by o refl)
       go false o = ap (λ (c : Bool). cond c (replicate 16 0) e) (h ∙ ap (λ (x : Bool). x && carries_one (fields_of e)) o) ∙ sym (both-off e o)
+
+  -- the clearing leaves those with both bits, and makes none
+  both-kept : both_bits (cleared_of_both e) ≡ both_bits e
+  both-kept = go (is_old MasterRead (fields_of e)) (is_old MasterWrite (fields_of e)) refl refl
+    where
+      zeroed : cleared_of_both e ≡ replicate 16 0 → both_bits e ≡ false → both_bits (cleared_of_both e) ≡ both_bits e
+      zeroed z b = ap both_bits z ∙ ap (λ (o : Bool). o && carries_both (fields_of (replicate 16 0))) zeros-off ∙ sym b
+
+      go : (x y : Bool) → is_old MasterRead (fields_of e) ≡ x → is_old MasterWrite (fields_of e) ≡ y → both_bits (cleared_of_both e) ≡ both_bits e
+      go true y p q = zeroed (ap (cleared MasterWrite) (cleared-old MasterRead e p) ∙ cleared-off MasterWrite (replicate 16 0) zeros-off) (old-not-both MasterRead e p)
+      go false true p q = zeroed (ap (cleared MasterWrite) (cleared-not MasterRead e p) ∙ cleared-old MasterWrite e q) (old-not-both MasterWrite e q)
+      go false false p q = ap both_bits (neither-old p q)
+
+pub some-both-kept : (es : List (List ℕ)) → some_of both_bits (map cleared_of_both es) ≡ some_of both_bits es
+some-both-kept [] = refl
+some-both-kept (e ∷ es) = λ i. both-kept e i || some-both-kept es i
+
+-- where none is enabled, none has both bits and is
+pub none-both : (es : List (List ℕ)) → some_of on es ≡ false → some_of both_bits es ≡ false
+none-both [] h = refl
+none-both (e ∷ es) h =
+    let n = or-none (on e) (some_of on es) h in
+    λ i. (n.0 i && carries_both (fields_of e)) || none-both es n.1 i

@@ -1,12 +1,12 @@
 // Old entries, before a call is laid: those of both directions are cleared, and it is found whether another is in the way.
-ghost use Rattle.std.specs.Prelude.{◌≡◌, length, get_or, [], map};
+ghost use Rattle.std.specs.Prelude.{◌≡◌, ◌||◌, length, get_or, [], map};
 ghost use Rattle.std.specs.List.{list_any};
 ghost use Rattle.fmmu.specs.Image.{fields_of};
 ghost use Rattle.sheet.specs.Sheet.{managers_in};
 ghost use Rattle.passes.specs.Old.{cleared_of_both, both_bits, some_enabled};
 ghost use Rattle.passes.specs.Entries.{uses_of_both};
 ghost use Rattle.passes.specs.Handed.{uses_by, uses_by_both};
-ghost use Rattle.entries.specs.Ready.{old_one, Readies};
+ghost use Rattle.entries.specs.Ready.{on, old_one, Readies};
 
 use crate::entry_of;
 use fmmu::Fmmu;
@@ -22,16 +22,6 @@ fn is_old(image: [u8; 16]) -> bool
     entry.enable && entry.read_enable != entry.write_enable
 }
 
-// What is left of an entry: an old one is set to zero, all sixteen bytes of it.
-fn cleared(image: [u8; 16]) -> [u8; 16]
-    ensures { result ≡ cleared_of_both image }
-{
-    if is_old(image) {
-        return [0u8; 16];
-    }
-    image
-}
-
 // Whether an entry is enabled and has both bits.
 fn has_both(image: [u8; 16]) -> bool
     ensures { result ≡ both_bits image }
@@ -40,19 +30,27 @@ fn has_both(image: [u8; 16]) -> bool
     entry.enable && entry.read_enable && entry.write_enable
 }
 
-// Whether any of the entries is such.
+// Whether any of the entries is such; whether any is enabled at all.
 fn some_both(entries: &[[u8; 16]; 16]) -> bool
     ensures { result ≡ list_any both_bits entries.now }
 {
     entries.iter().any(|&image| has_both(image))
 }
 
-// Clears each old entry of either direction.
+fn some_left(entries: &[[u8; 16]; 16]) -> bool
+    ensures { result ≡ list_any on entries.now }
+{
+    entries.iter().any(|&image| Fmmu::unpack(image).enable)
+}
+
+// Clears each old entry of either direction: it is set to zero, all sixteen bytes of it.
 fn clear_old(entries: &mut [[u8; 16]; 16])
     ensures { entries.new ≡ map cleared_of_both entries.old }
 {
     for entry in entries.iter_mut() {
-        *entry = cleared(*entry);
+        if is_old(*entry) {
+            *entry = [0u8; 16];
+        }
     }
 }
 
@@ -110,6 +108,14 @@ fn some_wanted(entries: &[[u8; 16]; 16], sheet: &[u8], wanted: Wanted) -> bool
     )
 }
 
+// 15 of cleared entries: whether one has both bits, or is one that the call uses and still enabled.
+fn is_blocked(entries: &[[u8; 16]; 16], sheet: &[u8], wanted: Wanted) -> bool
+    requires { length entries.now ≡ 16 }
+    ensures { result ≡ list_any both_bits entries.now || some_enabled (uses_of_both (uses_by_both wanted (managers_in sheet.now))) entries.now }
+{
+    some_left(entries) && (some_both(entries) || some_wanted(entries, sheet, wanted))
+}
+
 // Makes the entries ready for a call: by default the old ones of both directions are cleared. Answers whether one is in the way then.
 pub(crate) fn make_ready(
     entries: &mut [[u8; 16]; 16],
@@ -123,9 +129,8 @@ pub(crate) fn make_ready(
     if let OldEntries::Keep = old {
         return false;
     }
-    let two = some_both(entries);
     clear_old(entries);
-    if two || some_wanted(entries, sheet, wanted) {
+    if is_blocked(entries, sheet, wanted) {
         // nothing of them will be written, and 8 counts from zero
         *entries = [[0u8; 16]; 16];
         return true;
