@@ -58,19 +58,13 @@ module _ (bits : List BitLen) where
         narrow = some-miss wide k t.narrow (passed_first (when 6 (too_many_bits b)) [] (bytes_of b) x.0 a).0;
       }
 
-  -- one that is too wide, and all
+  -- one that is too wide
   module _ (n : ℕ) where
     pub rounding-refused : (k m : ℕ) → k < n → refused m ≡ rounded_up (bit_at bits k) → refused m ≡ rounded_in n bits
     rounding-refused k m h a =
         let w = was-refused 6 m (wide k) (bytes_of (bit_at bits k)) a in
         let some = some-hit wide k n h w.0 in
         ap refused w.1 ∙ rw some
-
-    pub rounding-end : (list : List ByteLen) (k : ℕ) → k ≡ n → Rounding list k → accepted list ≡ rounded_in n bits
-    rounding-end list k e t =
-        let none : some_below wide n ≡ false = ap (some_below wide) (sym e) ∙ t.narrow in
-        let all : list ≡ list_of size n ++ replicate (16 - n) no_size = t.rounded ∙ ap (λ (j : ℕ). list_of size j ++ replicate (16 - j) no_size) e in
-        ap accepted all ∙ rw none
 
 -- whether a size of a usage is above 0: none so far, one that is, one more that isn't or has another usage, none at all
 module _ (s : List ℕ) (usage : ℕ) (sizes : List ByteLen) where

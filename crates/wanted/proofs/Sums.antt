@@ -117,6 +117,9 @@ module _ (s ws : List ℕ) (kind_at : ℕ → ℕ) (asked : ℕ → Bool) where
     pub next_fits : i < p → Fits s (p - (i + 1)) place
     next_fits l = fits_on s (p - (i + 1)) place (ap (λ (n : ℕ). pdos_fit s n place) (one_less p i l) ∙ t.fits)
 
+    pub next_within : i < p → next_pdo s place ≤ length s
+    next_within l = (next_fits l).within
+
     module _ (next : ℕ) (l : i < p) (en : next ≡ next_pdo s place) where
       abbrev kind : ℕ
       kind = get_or s place 0

@@ -17,7 +17,7 @@ use Rattle.passes.specs.Use.{Use}
 use Rattle.passes.specs.Pairs.{some_on, comes_back, interrupted}
 use Rattle.wanted.specs.declared.Entered.{Entered}
 use Rattle.wanted.specs.ByKind.{bit_at}
-use Rattle.wanted.specs.Judged.{uses_from, uses_in, comes_again, with_use, Surveys}
+use Rattle.wanted.specs.Judged.{uses_from, uses_in, with_use, Surveys}
 
 -- a question by number that is one of two
 pub some_or : (f g : ℕ → Bool) (n : ℕ) → some_below (λ k. f k || g k) n ≡ some_below f n || some_below g n
@@ -153,14 +153,6 @@ set-true f e n =
         let s = eqb-true e k q in
         ap (λ (j : ℕ). get_or (set (list_of f n) e true) j false) (sym s) ∙ get_or-set_same (list_of f n) e true false (omega (arith, length-list_of f n))
     go k m false q = get_or-set_other (list_of f n) e k true false (λ s. eqb-false e k q (sym s)) ∙ get_d-list_of f n k false m
-
--- as code asks: none is come back to so far, and the first is on the entry, or what is used decides
-module _ (seen : Entered) (entry : ℕ) where
-  pub again-first : seen.interrupted ≡ false → seen.first ≡ entry → false ≡ comes_again seen entry
-  again-first h e = rw (h, eq-eqb seen.first entry e)
-
-  pub again-used : (x : Bool) → seen.interrupted ≡ false → (seen.first ≡ entry → ⊥) → x ≡ get_or seen.used entry false → x ≡ comes_again seen entry
-  again-used x h e q = q ∙ rw (h, ne_eqb seen.first entry e)
 
 -- what is known of uses on the way
 pub record Seen (us : List Use) (x : Entered) : Type 0 where

@@ -182,7 +182,7 @@ pub fn sizes_of(
 }
 
 // The uses of entries that are seen so far: which entries are used, the first one's, and whether one is left for another and come back to.
-#[derive(Clone, Copy)]
+#[derive(Clone, Copy, Debug, PartialEq, Eq)]
 struct Entered {
     used: [bool; 16],
     first: u8,

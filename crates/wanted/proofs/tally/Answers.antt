@@ -10,7 +10,7 @@ use Rattle.sheet.specs.Sheet.{sheet_data}
 use Rattle.sheet.proofs.Sound.{Fits}
 use Rattle.pdo.proofs.Records.{product-bounded}
 use Rattle.wanted.proofs.Managers.{counts-there}
-use Rattle.wanted.proofs.Sums.{tallied-start, next_fits, tallied-here, tallied-on, tallied-end, sums-are}
+use Rattle.wanted.proofs.Sums.{tallied-start, next_fits, next_within, tallied-here, tallied-on, tallied-end, sums-are}
 use Rattle.wanted.proofs.tally.Goals as goal
 use Rattle.wanted.proofs.tally.Goals.{then-counts, else-counts}
 
@@ -26,19 +26,13 @@ counts-requires c =
     (omega (arith, fit.within), c.loop-i.invariant.1, c.requires.0)
 
 pub overflow_add-place : goal.overflow_add-place
-overflow_add-place c =
-    let fit : Fits c.args.sheet.now (pdo_count c.args.sheet.now - (c.loop-i.i + 1)) c.loop-i.place = next_fits _ _ _ _ c.loop-i.invariant.2 (omega arith) in
-    omega (arith, fit.within)
+overflow_add-place c = omega (arith, next_within _ _ _ _ c.loop-i.invariant.2 (omega arith))
 
 pub overflow_add-place-in-loop-i : goal.overflow_add-place-in-loop-i
-overflow_add-place-in-loop-i c =
-    let fit : Fits c.args.sheet.now (pdo_count c.args.sheet.now - (c.loop-i.i + 1)) c.loop-i.place = next_fits _ _ _ _ c.loop-i.invariant.2 (omega arith) in
-    omega (arith, fit.within)
+overflow_add-place-in-loop-i c = omega (arith, next_within _ _ _ _ c.loop-i.invariant.2 (omega arith))
 
 pub bounds-sheet-place : goal.bounds-sheet-place
-bounds-sheet-place c =
-    let fit : Fits c.args.sheet.now (pdo_count c.args.sheet.now - (c.loop-i.i + 1)) c.loop-i.place = next_fits _ _ _ _ c.loop-i.invariant.2 (omega arith) in
-    omega (arith, fit.within)
+bounds-sheet-place c = omega (arith, next_within _ _ _ _ c.loop-i.invariant.2 (omega arith))
 
 pub bounds-sums-slot : goal.bounds-sums-slot
 bounds-sums-slot c =
@@ -67,20 +61,11 @@ bounds-sums-slot-then-counts c =
     let h = counts-there s c.args.«coe» (get_or s c.loop-i.place 0) (get_or s (c.loop-i.place + 1) 0) (sym c.counts.ensures ∙ c.if-counts.true) in
     omega arith
 
-pub overflow_add-place-in-loop-i-2 : goal.overflow_add-place-in-loop-i-2
-overflow_add-place-in-loop-i-2 c =
-    let fit : Fits c.args.sheet.now (pdo_count c.args.sheet.now - (c.loop-i.i + 1)) c.loop-i.place = next_fits _ _ _ _ c.loop-i.invariant.2 (omega arith) in
-    omega (arith, fit.within)
-
 pub bounds-sheet-place-in-loop-i : goal.bounds-sheet-place-in-loop-i
-bounds-sheet-place-in-loop-i c =
-    let fit : Fits c.args.sheet.now (pdo_count c.args.sheet.now - (c.loop-i.i + 1)) c.loop-i.place = next_fits _ _ _ _ c.loop-i.invariant.2 (omega arith) in
-    omega (arith, fit.within)
+bounds-sheet-place-in-loop-i c = omega (arith, next_within _ _ _ _ c.loop-i.invariant.2 (omega arith))
 
 pub overflow_add-place-in-loop-i-3 : goal.overflow_add-place-in-loop-i-3
-overflow_add-place-in-loop-i-3 c =
-    let fit : Fits c.args.sheet.now (pdo_count c.args.sheet.now - (c.loop-i.i + 1)) c.loop-i.place = next_fits _ _ _ _ c.loop-i.invariant.2 (omega arith) in
-    omega (arith, fit.within)
+overflow_add-place-in-loop-i-3 c = omega (arith, next_within _ _ _ _ c.loop-i.invariant.2 (omega arith))
 
 pub loop-i-preserved : goal.loop-i-preserved
 loop-i-preserved c =
