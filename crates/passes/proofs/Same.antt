@@ -1,6 +1,6 @@
 -- All that a call and counting mean looks at the multipliers through the exact bits alone.
 -- Assumes nothing.
-use mathlib.Core.Path.{◌≡◌, refl, ◌∙◌, ap}
+use mathlib.Core.Path.{◌≡◌, refl, ◌∙◌}
 use mathlib.Core.Bool.{cond}
 use mathlib.Core.List.{List, [], ◌∷◌, ◌++◌}
 use mathlib.Core.Option.{none, some}
@@ -24,10 +24,10 @@ use Rattle.passes.specs.declared.FmmuMode.TheVariants.{OwnNumber, Paired}
 use Rattle.passes.specs.declared.Settings.{Settings}
 use Rattle.passes.specs.Use.{uses_of, size_of}
 use Rattle.passes.specs.Pairs.{bad_pairs}
-use Rattle.passes.specs.Start.{of_either, start_of, Both, both_planned, segments_alone, offsets_after, Offsets, Configured, Segments}
+use Rattle.passes.specs.Start.{of_either, start_of, Both, both_planned, Offsets, Configured}
 use Rattle.passes.specs.Entries.{entry_refusals, entry_area}
 use Rattle.passes.specs.Pass.{not_areas, some_too_many, no_entry, wanted_refusals, data_size}
-use Rattle.passes.specs.Call.{call, or_else, both_size, entries_after, images_after, Configures, Calls}
+use Rattle.passes.specs.Call.{call, or_else, both_size, entries_after, images_after, Configures}
 
 module _ (sheet ws vs : List ℕ) (same : SameBits (sheet_data sheet).pdos ws vs) where
   abbrev d : Data
@@ -100,18 +100,10 @@ module _ (sheet ws vs : List ℕ) (same : SameBits (sheet_data sheet).pdos ws vs
       (λ i. images-same (outcome-same i) i),
     )
 
-  -- so the promises of the call are the same
+  -- so the promise of the call is the same
   pub configures-same :
       {k : Chosen} {o : Offsets} {settings : Settings} {fmmus channels : List ℕ} {answer : Configured} {fmmus_then channels_then : List ℕ}
       → Configures sheet ws k o settings fmmus channels answer fmmus_then channels_then → Configures sheet vs k o settings fmmus channels answer fmmus_then channels_then
   configures-same {k} {o} {settings} {fmmus} {channels} c =
       let s = call_same k o settings fmmus channels in
       record { says = c.says ∙ s.0; entries = c.entries ∙ s.1; images = c.images ∙ s.2 }
-
-  pub calls_same :
-      {k : Chosen} {o : Offsets} {settings : Settings} {fmmus channels : List ℕ} {answer : Segments} {next : Offsets} {fmmus_then channels_then : List ℕ}
-      → Calls sheet ws k o settings fmmus channels answer next fmmus_then channels_then → Calls sheet vs k o settings fmmus channels answer next fmmus_then channels_then
-  calls_same {k} {o} {settings} {fmmus} {channels} p =
-      let s = call_same k o settings fmmus channels in
-      let m = ap (λ (x : Outcome Both). offsets_after x o) s.0 in
-      record { says = p.says ∙ ap segments_alone s.0; moves = p.moves ∙ m; entries = p.entries ∙ s.1; images = p.images ∙ s.2 }

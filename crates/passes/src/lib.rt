@@ -44,7 +44,8 @@ pub enum FmmuMode {
     Paired,
 }
 
-// What a list of pairs hands on: the entry of each of sixteen sync managers, and whether a number of the list is above 15.
+// What a list of pairs hands on: the entry of each of sixteen sync managers, and whether a number of the list is above 15. No Option: what a call means
+// (`chosen_of`, `number_above`, `paired`) speaks of the entries whatever the flag says.
 #[derive(Clone, Copy, Debug, PartialEq, Eq)]
 pub struct Chosen {
     pub entries: [u8; 16],
