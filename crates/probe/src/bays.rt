@@ -232,6 +232,10 @@ fn plans(request: Request, mode: FmmuMode, times: u32) -> Result<Both<PdiSegment
     let pairs = request.pairs(&mut list);
     let clean = Settings::clean(0);
     match mode {
+        // by itself, so that what a table asks for isn't counted where there is none
+        FmmuMode::OwnNumber if table.is_empty() => {
+            over_and_over(times, || plan_once(sheet, &[], &[], clean))
+        }
         FmmuMode::OwnNumber => over_and_over(times, || plan_once(sheet, table, &[], clean)),
         FmmuMode::Paired => over_and_over(times, || {
             plan_once(sheet, table, pairs, Settings { mode, ..clean })
