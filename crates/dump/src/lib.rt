@@ -54,14 +54,6 @@ fn word(bytes: &[u8]) -> u16
     wire::le16(wire::byte_at(bytes, 0), wire::byte_at(bytes, 1))
 }
 
-// n, where so many bytes stand at the front.
-fn whole(n: usize, bytes: &[u8]) -> Option<usize>
-    requires { 0 < n }
-    ensures { LongIs (Parts.whole n bytes.now) result }
-{
-    (n <= bytes.len()).then_some(n)
-}
-
 // How long the category at the front is, where one stands there; the end mark is none.
 fn category_long(rest: &[u8]) -> Option<usize>
     ensures { LongIs (category_long rest.now) result }
@@ -72,7 +64,8 @@ fn category_long(rest: &[u8]) -> Option<usize>
     if wire::le16(rest[0], rest[1]) == END_MARK {
         return None;
     }
-    whole(4 + 2 * usize::from(wire::le16(rest[2], rest[3])), rest)
+    let long = 4 + 2 * usize::from(wire::le16(rest[2], rest[3]));
+    (long <= rest.len()).then_some(long)
 }
 
 // Whether the end mark stands at the front.
@@ -273,7 +266,8 @@ fn usages_of(bytes: &[u8]) -> [u8; 16]
 fn pdo_long(rest: &[u8]) -> Option<usize>
     ensures { LongIs (pdo_long rest.now) result }
 {
-    whole(8 + 8 * usize::from(wire::byte_at(rest, 2)), rest)
+    let long = 8 + 8 * usize::from(wire::byte_at(rest, 2));
+    (long <= rest.len()).then_some(long)
 }
 
 // PDO records from the front on: how many stand there, and whether something is left behind the last one.

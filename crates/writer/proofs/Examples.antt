@@ -96,24 +96,24 @@ pub says-written : says 166 1 (Ok 30)
 unfolding writing too_long rule_broken pdos_end kind_fits pdos_fit device_of data_of sheet_of body_bytes list_of pdos_from flat control_at control_byte some_unnamed unnamed
 says-written = refl
 
-pub call-writes : (g : 166 < 256) (h : 1 < 256) → (call 166 1 g h (Ok 30) says-written).left ≡ bay 38 0 1 ++ replicate 4 7
+pub call-writes : (g : 166 < 256) (h : 1 < 256) → let c = call 166 1 g h (Ok 30) says-written in (c.answer ≡ Ok 30) × (c.left ≡ bay 38 0 1 ++ replicate 4 7)
 unfolding writing too_long rule_broken pdos_end kind_fits pdos_fit device_of data_of sheet_of body_bytes list_of pdos_from flat control_at control_byte some_unnamed unnamed
-call-writes g h = refl
+call-writes g h = (refl, refl)
 
 -- usage 5 has none: all of the room stays
 pub says-refused : says 166 5 (Err SheetRule)
 unfolding writing too_long rule_broken pdos_end device_of list_of
 says-refused = refl
 
-pub call-refused : (g : 166 < 256) (h : 5 < 256) → let c = call 166 5 g h (Err SheetRule) says-refused in c.left ≡ c.room
+pub call-refused : (g : 166 < 256) (h : 5 < 256) → let c = call 166 5 g h (Err SheetRule) says-refused in (c.answer ≡ Err SheetRule) × (c.left ≡ c.room)
 unfolding writing too_long rule_broken pdos_end device_of list_of
-call-refused g h = refl
+call-refused g h = (refl, refl)
 
 -- control 0x23 has a mode without a name: so it does
 pub says-nameless : says 35 1 (Err UnnamedControl)
 unfolding writing too_long rule_broken pdos_end kind_fits pdos_fit device_of list_of control_at some_unnamed unnamed
 says-nameless = refl
 
-pub call-nameless : (g : 35 < 256) (h : 1 < 256) → let c = call 35 1 g h (Err UnnamedControl) says-nameless in c.left ≡ c.room
+pub call-nameless : (g : 35 < 256) (h : 1 < 256) → let c = call 35 1 g h (Err UnnamedControl) says-nameless in (c.answer ≡ Err UnnamedControl) × (c.left ≡ c.room)
 unfolding writing too_long rule_broken pdos_end kind_fits pdos_fit device_of list_of control_at some_unnamed unnamed
-call-nameless g h = refl
+call-nameless g h = (refl, refl)
