@@ -185,6 +185,7 @@ pub fn sizes_of(
 #[derive(Clone, Copy, Debug, PartialEq, Eq)]
 struct Entered {
     used: [bool; 16],
+    // no Option: before the first use no entry is used, so it decides nothing
     first: u8,
     interrupted: bool,
 }
@@ -313,7 +314,7 @@ fn coe_route(sheet: &[u8], direction: PdoDirection) -> Route
     Route::Given([entry; 16])
 }
 
-// It is 7 where there is none for one that has bits.
+// What a call wants on the CoE path: 7 where a direction that has bits has no entry.
 fn by_coe(sheet: &[u8], sizes: [ByteLen; 16]) -> Result<Wanted, Reason>
     requires { manager_count sheet.now ≤ 16 }
     ensures { wants_of result ≡ coe_wants (sheet_data sheet.now) sizes }
