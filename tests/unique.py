@@ -44,7 +44,7 @@ def close(text, at):
 
 # the head of an `impl`, the end of one, or the head of a function up to its parameters
 FUNCTION = re.compile(
-    r"^(?:impl\b[^{]*?(?P<type>\w+) \{|\}|\s*(?P<pub>pub )?(?:\w+ )*fn (?P<name>\w+)[^(]*)", re.M
+    r"^(?:impl\b[^{]*?(?P<type>\w+)(?:<[^{]*>)? \{|\}|\s*(?P<pub>pub )?(?:\w+ )*fn (?P<name>\w+)[^(]*)", re.M
 )
 
 

@@ -3,12 +3,12 @@
 
 ghost use Rattle.std.specs.Prelude.{◌≡◌};
 ghost use Rattle.wire.specs.Room.{InRoom, text_in};
-ghost use Rattle.wire.specs.Text.{page, Types};
+ghost use Rattle.wire.specs.Text.{Puts};
 ghost use Rattle.fmmu.specs.Image.{fields_of, image_of, too_wide, read_entry, write_entry, fmmu_read_of};
 ghost use Rattle.fmmu.specs.Text.{logical_text, access_text, physical_text, fmmu_text};
 
 use pdi::ByteLen;
-use wire::Reason;
+use wire::{Reason, Text};
 
 // An entry: which bytes of the process data image it maps, and to which device address.
 #[derive(Clone, Copy, Debug, PartialEq, Eq)]
@@ -105,47 +105,45 @@ impl Fmmu {
     pub fn fmt(self, room: &mut [u8]) -> Result<usize, Reason>
         ensures { InRoom (text_in (fmmu_text self) room.old) (fmmu_text self) room.old result room.new }
     {
-        let mut text = [0u8; 128];
-        let logical = self.put_logical(&mut text);
-        let n = self.put_physical(&mut text, logical);
-        wire::write_text(&text[..n], room)
+        let mut bytes = [0u8; 128];
+        let mut text = Text::new(&mut bytes);
+        self.put(&mut text);
+        text.write(room)
     }
 
-    // The half about the process data image, at the room's front.
-    fn put_logical(self, room: &mut [u8]) -> usize
-        ensures { Types (page room.old 0) (page room.new result) (logical_text self) }
+    // Its text, after what is typed already.
+    pub fn put(self, text: &mut Text<'_>)
+        ensures { Puts text.old text.new (fmmu_text self) }
     {
-        let mut at = wire::put_hex8(room, 0, b"logical start 0x", self.logical_start_address);
-        at = wire::put_decimal(room, at, b":", u16::from(self.logical_start_bit));
-        at = wire::put_decimal(room, at, b", size ", self.length_bytes.0);
-        wire::put_decimal(
-            room,
-            at,
-            b", logical end bit ",
-            u16::from(self.logical_end_bit),
-        )
+        self.put_logical(text);
+        self.put_physical(text);
+    }
+
+    // The half about the process data image.
+    fn put_logical(self, text: &mut Text<'_>)
+        ensures { Puts text.old text.new (logical_text self) }
+    {
+        text.put_hex8(b"logical start 0x", self.logical_start_address);
+        text.put_decimal(b":", u16::from(self.logical_start_bit));
+        text.put_decimal(b", size ", self.length_bytes.0);
+        text.put_decimal(b", logical end bit ", u16::from(self.logical_end_bit));
     }
 
     // The half about the device.
-    fn put_physical(self, room: &mut [u8], from: usize) -> usize
-        ensures { Types (page room.old from) (page room.new result) (physical_text self) }
+    fn put_physical(self, text: &mut Text<'_>)
+        ensures { Puts text.old text.new (physical_text self) }
     {
-        let mut at = wire::put_hex4(
-            room,
-            from,
-            b", physical start 0x",
-            self.physical_start_address,
-        );
-        at = wire::put_decimal(room, at, b":", u16::from(self.physical_start_bit));
-        self.put_access(room, at)
+        text.put_hex4(b", physical start 0x", self.physical_start_address);
+        text.put_decimal(b":", u16::from(self.physical_start_bit));
+        self.put_access(text);
     }
 
     // What it lets through, and whether it is on.
-    fn put_access(self, room: &mut [u8], from: usize) -> usize
-        ensures { Types (page room.old from) (page room.new result) (access_text self) }
+    fn put_access(self, text: &mut Text<'_>)
+        ensures { Puts text.old text.new (access_text self) }
     {
-        let mut at = wire::put_either(room, from, self.read_enable, b", R", b", ");
-        at = wire::put_either(room, at, self.write_enable, b"W, ", b"O, ");
-        wire::put_either(room, at, self.enable, b"enabled", b"disabled")
+        text.put_either(self.read_enable, b", R", b", ");
+        text.put_either(self.write_enable, b"W, ", b"O, ");
+        text.put_either(self.enable, b"enabled", b"disabled");
     }
 }

@@ -1,5 +1,4 @@
 -- Laws that the proofs of the lines share.
-pub mod Shown
 pub mod Lines
 pub mod Fits
 pub mod Unique

@@ -7,8 +7,9 @@ use Prim.Native.Nat.{ℕ, suc, ◌+◌, ◌<◌, ◌≤◌}
 use native.Mathlib.Numerals.{add-one}
 use lib.ListN.{length, get_or, drop, drop_of_length-le}
 use lib.Seq.{drop-cons}
-use Rattle.wire.specs.Text.{Page, typed_all, Types}
-use Rattle.wire.proofs.Typing.{typed-append, types}
+use Rattle.wire.specs.Text.{Page, typed_all, Types, Puts}
+use Rattle.wire.specs.declared.Text.{Text}
+use Rattle.wire.proofs.Typing.{typed-append, puts}
 use Rattle.sync_manager_channel.specs.declared.SyncManagerChannel.{SyncManagerChannel}
 use Rattle.sync_manager_channel.specs.Image.{channel_of}
 use Rattle.sync_manager_channel.specs.Text.{channel_text}
@@ -18,26 +19,26 @@ use Rattle.fmmu.specs.Text.{fmmu_text}
 use Rattle.lines.specs.Text.{line, numbered, channel_line, entry_line, image_line, enabled_line, lines}
 
 -- no line
-pub none : (p : Page) → Types p p []
+pub none : (t : Text) → Puts t t []
 unfolding typed_all
-none p = record { is = refl }
+none t = record { types = record { is = refl }; same_room = refl }
 
 -- the line of what an image says
 pub image-typed :
-    (k : ℕ) (image : List ℕ) (s : SyncManagerChannel) {p q : Page} → s ≡ channel_of image → Types p q (line (numbered (83 ∷ 77 ∷ []) k) (channel_text s))
-    → Types p q (image_line k image)
+    (k : ℕ) (image : List ℕ) (s : SyncManagerChannel) {t u : Text} → s ≡ channel_of image → Puts t u (line (numbered (83 ∷ 77 ∷ []) k) (channel_text s))
+    → Puts t u (image_line k image)
 unfolding channel_line
-image-typed k image s says t = types (ap (channel_line k) says) t
+image-typed k image s says t = puts (ap (channel_line k) says) t
 
 -- an entry that is enabled, and one that isn't
 module _ (k : ℕ) (image : List ℕ) (f : Fmmu) (fields : f ≡ fields_of image) where
-  pub entry-typed : {p q : Page} → f.enable ≡ true → Types p q (line (numbered (70 ∷ 77 ∷ 77 ∷ 85 ∷ []) k) (fmmu_text f)) → Types p q (enabled_line k image)
+  pub entry-typed : {t u : Text} → f.enable ≡ true → Puts t u (line (numbered (70 ∷ 77 ∷ 77 ∷ 85 ∷ []) k) (fmmu_text f)) → Puts t u (enabled_line k image)
   unfolding entry_line
-  entry-typed on t = types (ap (λ (b : Bool). cond b (line (numbered (70 ∷ 77 ∷ 77 ∷ 85 ∷ []) k) (fmmu_text f)) []) (sym on) ∙ ap (entry_line k) fields) t
+  entry-typed on t = puts (ap (λ (b : Bool). cond b (line (numbered (70 ∷ 77 ∷ 77 ∷ 85 ∷ []) k) (fmmu_text f)) []) (sym on) ∙ ap (entry_line k) fields) t
 
-  pub entry-left-out : {p : Page} → f.enable ≡ false → Types p p (enabled_line k image)
+  pub entry-left-out : {t : Text} → f.enable ≡ false → Puts t t (enabled_line k image)
   unfolding entry_line
-  entry-left-out {p} off = types (ap (λ (b : Bool). cond b (line (numbered (70 ∷ 77 ∷ 77 ∷ 85 ∷ []) k) (fmmu_text f)) []) (sym off) ∙ ap (entry_line k) fields) (none p)
+  entry-left-out {t} off = puts (ap (λ (b : Bool). cond b (line (numbered (70 ∷ 77 ∷ 77 ∷ 85 ∷ []) k) (fmmu_text f)) []) (sym off) ∙ ap (entry_line k) fields) (none t)
 
 -- images one after another; `e` is the one that the loop stands at
 module _ (line_of : ℕ → List ℕ → List ℕ) (es : List (List ℕ)) (k : ℕ) {p : Page} where

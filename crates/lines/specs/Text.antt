@@ -1,9 +1,8 @@
 -- The text of a plan (document 01, 'Bench cases'): both segments, the image of each of the sheet's n sync managers, each enabled entry; or only
 -- the refusal. Every line ends in a newline.
 -- Assumes nothing.
-use Rattle.std.specs.Prelude.{cond, List, [], ◌∷◌, ◌++◌, ℕ, suc, take, Result, Ok, Err}
+use Rattle.std.specs.Prelude.{cond, List, [], ◌∷◌, ◌++◌, ℕ, suc, take}
 use Rattle.wire.specs.Text.{decimal_of}
-use Rattle.wire.specs.declared.Reason.{Reason}
 use Rattle.pdi.specs.declared.PdiSegment.{PdiSegment}
 use Rattle.pdi.specs.Segment.{segment_text}
 use Rattle.sync_manager_channel.specs.declared.SyncManagerChannel.{SyncManagerChannel}
@@ -60,8 +59,3 @@ bay_text n inputs outputs fmmus channels =
     ++ line outputs_front (segment_text outputs)
     ++ lines image_line 0 (take n (entries_of 8 (area_of 128 channels)))
     ++ lines enabled_line 0 (entries_of 16 (area_of 256 fmmus))
-
--- what an answer into lent room says of the room: the text at its front
-abbrev pub shown : Result ℕ Reason → List ℕ → List ℕ
-shown (Ok n) l = take n l
-shown (Err r) l = []

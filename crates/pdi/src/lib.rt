@@ -3,12 +3,12 @@
 
 ghost use Rattle.std.specs.Prelude.{◌≡◌};
 ghost use Rattle.wire.specs.Room.{InRoom, text_in};
-ghost use Rattle.wire.specs.Text.{page, Types};
+ghost use Rattle.wire.specs.Text.{Puts};
 ghost use Rattle.pdi.specs.Unit.{rounded_up, rounded_of};
 ghost use Rattle.pdi.specs.Offset.{offset_at, incremented, incremented_byte_aligned, moved_of};
 ghost use Rattle.pdi.specs.Segment.{segment, len_of, less_group, placed_of, segment_text};
 
-use wire::Reason;
+use wire::{Reason, Text};
 
 // A length in bits: the source's `bit_len`, wide enough for every exact sum, of which the largest is 4,261,413,375.
 #[derive(Clone, Copy, Debug, PartialEq, Eq)]
@@ -106,22 +106,25 @@ impl PdiSegment {
         })
     }
 
-    // Its text, into lent room.
+    // Its text, into lent room. It is typed, since std's Display says what it wrote where it succeeds, and not that it does.
     pub fn fmt(self, room: &mut [u8]) -> Result<usize, Reason>
         ensures { InRoom (text_in (segment_text self) room.old) (segment_text self) room.old result room.new }
     {
-        let mut text = [0u8; 22];
-        let n = self.typed(&mut text);
-        wire::write_text(&text[..n], room)
+        let mut bytes = [0u8; 22];
+        let mut text = Text::new(&mut bytes);
+        self.put(&mut text);
+        text.write(room)
     }
 
-    fn typed(self, room: &mut [u8]) -> usize
-        ensures { Types (page room.old 0) (page room.new result) (segment_text self) }
+    // Its text, after what is typed already.
+    pub fn put(self, text: &mut Text<'_>)
+        ensures { Puts text.old text.new (segment_text self) }
     {
         if self.end <= self.start {
-            return wire::put_bytes(room, 0, b"(empty)");
+            text.put_bytes(b"(empty)");
+        } else {
+            text.put_hex8(b"0x", self.start);
+            text.put_hex8(b"..0x", self.end);
         }
-        let dots = wire::put_hex8(room, 0, b"0x", self.start);
-        wire::put_hex8(room, dots, b"..0x", self.end)
     }
 }

@@ -3,13 +3,13 @@
 
 ghost use Rattle.std.specs.Prelude.{◌≡◌};
 ghost use Rattle.wire.specs.Room.{InRoom, text_in};
-ghost use Rattle.wire.specs.Text.{page, Types};
+ghost use Rattle.wire.specs.Text.{Puts};
 ghost use Rattle.sync_manager_channel.specs.Image.{channel_of, image_of, read_channel, write_channel, channel_read_of};
 ghost use Rattle.sync_manager_channel.specs.Text.{area_text, direction_text, mode_text, settings_text, channel_text};
 
 pub use channel_bytes::{BufferState, Control, Direction, Enable, OperationMode, Status};
 use pdi::ByteLen;
-use wire::Reason;
+use wire::{Reason, Text};
 
 // One channel of ETG1000.4 6.7.2.
 #[derive(Clone, Copy, Debug, PartialEq, Eq)]
@@ -82,49 +82,59 @@ impl SyncManagerChannel {
     pub fn fmt(self, room: &mut [u8]) -> Result<usize, Reason>
         ensures { InRoom (text_in (channel_text self) room.old) (channel_text self) room.old result room.new }
     {
-        let mut text = [0u8; 96];
-        let area = self.put_area(&mut text);
-        let n = self.put_settings(&mut text, area);
-        wire::write_text(&text[..n], room)
+        let mut bytes = [0u8; 96];
+        let mut text = Text::new(&mut bytes);
+        self.put(&mut text);
+        text.write(room)
     }
 
-    fn put_area(self, room: &mut [u8]) -> usize
-        ensures { Types (page room.old 0) (page room.new result) (area_text self) }
+    // Its text, after what is typed already.
+    pub fn put(self, text: &mut Text<'_>)
+        ensures { Puts text.old text.new (channel_text self) }
     {
-        let mut at = wire::put_hex4(room, 0, b"start 0x", self.physical_start_address);
-        at = wire::put_hex4(room, at, b", size 0x", self.length_bytes.0);
-        at = wire::put_decimal(room, at, b" (", self.length_bytes.0);
-        wire::put_bytes(room, at, b")")
+        self.put_area(text);
+        self.put_settings(text);
     }
 
-    fn put_settings(self, room: &mut [u8], from: usize) -> usize
-        ensures { Types (page room.old from) (page room.new result) (settings_text self) }
+    // Where it lies.
+    fn put_area(self, text: &mut Text<'_>)
+        ensures { Puts text.old text.new (area_text self) }
     {
-        let mut at = put_direction(room, from, self.control.direction);
-        at = put_mode(room, at, self.control.operation_mode);
-        at = wire::put_bytes(room, at, b", ");
-        wire::put_either(room, at, self.enable.enable, b"enabled", b"disabled")
+        text.put_hex4(b"start 0x", self.physical_start_address);
+        text.put_hex4(b", size 0x", self.length_bytes.0);
+        text.put_decimal(b" (", self.length_bytes.0);
+        text.put_bytes(b")");
+    }
+
+    // What it does, and whether it is on.
+    fn put_settings(self, text: &mut Text<'_>)
+        ensures { Puts text.old text.new (settings_text self) }
+    {
+        put_direction(text, self.control.direction);
+        put_mode(text, self.control.operation_mode);
+        text.put_bytes(b", ");
+        text.put_either(self.enable.enable, b"enabled", b"disabled");
     }
 }
 
-// The direction, typed at a place of the room.
-fn put_direction(room: &mut [u8], at: usize, direction: Direction) -> usize
-    ensures { Types (page room.old at) (page room.new result) (direction_text direction) }
+// The name of a direction, or its number.
+fn put_direction(text: &mut Text<'_>, direction: Direction)
+    ensures { Puts text.old text.new (direction_text direction) }
 {
     match direction {
-        Direction::MasterRead => wire::put_bytes(room, at, b", direction MasterRead"),
-        Direction::MasterWrite => wire::put_bytes(room, at, b", direction MasterWrite"),
-        Direction::Unnamed(n) => wire::put_decimal(room, at, b", direction unnamed ", u16::from(n)),
+        Direction::MasterRead => text.put_bytes(b", direction MasterRead"),
+        Direction::MasterWrite => text.put_bytes(b", direction MasterWrite"),
+        Direction::Unnamed(n) => text.put_decimal(b", direction unnamed ", u16::from(n)),
     }
 }
 
-// The mode, typed at a place of the room. Its words are its own, so one function for both kinds would be no plainer.
-fn put_mode(room: &mut [u8], at: usize, mode: OperationMode) -> usize
-    ensures { Types (page room.old at) (page room.new result) (mode_text mode) }
+// The name of a mode, or its number. Its words are its own, so one function for both kinds would be no plainer.
+fn put_mode(text: &mut Text<'_>, mode: OperationMode)
+    ensures { Puts text.old text.new (mode_text mode) }
 {
     match mode {
-        OperationMode::Normal => wire::put_bytes(room, at, b", mode Normal"),
-        OperationMode::Mailbox => wire::put_bytes(room, at, b", mode Mailbox"),
-        OperationMode::Unnamed(n) => wire::put_decimal(room, at, b", mode unnamed ", u16::from(n)),
+        OperationMode::Normal => text.put_bytes(b", mode Normal"),
+        OperationMode::Mailbox => text.put_bytes(b", mode Mailbox"),
+        OperationMode::Unnamed(n) => text.put_decimal(b", mode unnamed ", u16::from(n)),
     }
 }

@@ -14,7 +14,8 @@ use borrow.Author.Tests.{lt-ltb}
 use Rattle.wire.specs.Room.{InRoom, text_in}
 use Rattle.std.specs.Prelude.{Result}
 use Rattle.wire.specs.declared.Reason.{Reason}
-use Rattle.wire.specs.Text.{Page, page, typed, typed_all, Types}
+use Rattle.wire.specs.Text.{Page, page, typed, typed_all, Types, page_of, text_of, Puts}
+use Rattle.wire.specs.declared.Text.{Text}
 
 -- a text in two parts
 pub typed-append : (p : Page) (a b : List ℕ) → typed_all p (a ++ b) ≡ typed_all (typed_all p a) b
@@ -26,9 +27,21 @@ typed-append p (x ∷ a) b = typed-append (typed p x) a b
 pub then : {p q r : Page} {a b : List ℕ} → Types p q a → Types q r b → Types p r (a ++ b)
 then {p} {q} {r} {a} {b} x y = record { is = y.is ∙ ap (λ (o : Page). typed_all o b) x.is ∙ sym (typed-append p a b) }
 
+-- and likewise into the room of a text
+pub puts-then : {t u v : Text} {a b : List ℕ} → Puts t u a → Puts u v b → Puts t v (a ++ b)
+puts-then x y = record { types = then x.types y.types; same_room = y.same_room ∙ x.same_room }
+
 -- the same text by another name
 pub types : {p q : Page} {a b : List ℕ} → a ≡ b → Types p q a → Types p q b
 types {p} {q} e x = record { is = x.is ∙ ap (typed_all p) e }
+
+pub puts : {t u : Text} {a b : List ℕ} → a ≡ b → Puts t u a → Puts t u b
+puts e x = record { types = types e x.types; same_room = x.same_room }
+
+-- where a loop stands: typing what is left is typing all of it from the start
+pub record Left (start now : Text) (all rest : List ℕ) : Type 0 where
+  pub left : typed_all (page_of now) rest ≡ typed_all (page_of start) all
+  pub same_room : now.room.ghost_name ≡ start.room.ghost_name
 
 -- a turn of a loop that types s, and its end
 pub typed-turn : {p q : Page} (s : List ℕ) (i : ℕ) → i < length s → Types p q (get_or s i 0 ∷ []) → typed_all q (drop (i + 1) s) ≡ typed_all p (drop i s)
@@ -74,6 +87,20 @@ holds {s} {l} {m} {n} h x =
 -- a text that was typed to one side, and then written into the room
 pub written : {s l room after : List ℕ} {n : ℕ} {r : Result ℕ Reason} → Holds l n s → InRoom (text_in (take n l) room) (take n l) room r after → InRoom (text_in s room) s room r after
 written {s} {l} {room} {after} {n} {r} h w = subst (λ (t : List ℕ). InRoom (text_in t room) t room r after) h.text w
+
+-- a text that was typed to one side, where it fits, and then written into the room
+pub into_room :
+    {s side room after : List ℕ} {start whole : Text} {r : Result ℕ Reason} → length s ≤ length side → page_of start ≡ page side 0 → Puts start whole s
+    → InRoom (text_in (text_of whole) room) (text_of whole) room r after → InRoom (text_in s room) s room r after
+into_room {s} {whole = whole} h new put w = written (holds h (subst (λ (p : Page). Types p (page_of whole) s) new put.types)) w
+
+-- what the room holds that was lent to a text: n bytes are typed
+pub lent_back :
+    {s room x : List ℕ} {n g : ℕ} {start whole : Text} → page_of start ≡ page room 0 → Puts start whole s → start.room.ghost_name ≡ g → n ≡ whole.len
+    → (g ≡ whole.room.ghost_name → x ≡ whole.room.now) → Types (page room 0) (page x n) s
+lent_back {s} new put at long back =
+    let same = back (sym (put.same_room ∙ at)) in
+    record { is = (λ i. page (same i) (long i)) ∙ put.types.is ∙ ap (λ (p : Page). typed_all p s) new }
 
 -- typing keeps the room's length
 one_kept : (p : Page) (b : ℕ) → length (typed p b).bytes ≡ length p.bytes

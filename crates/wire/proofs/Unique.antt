@@ -6,7 +6,7 @@ use Prim.Native.Nat.{ℕ}
 use Rattle.std.specs.Prelude.{Result}
 use Rattle.wire.specs.Outcome.{Outcome}
 use Rattle.wire.specs.Room.{InRoom}
-use Rattle.wire.specs.Text.{page}
+use Rattle.wire.specs.Text.{page_of}
 use Rattle.wire.specs.declared.Reason.{Reason}
 use Rattle.wire.proofs.Pins.{Pins, with_room, same, same_result}
 use Rattle.wire.proofs.flag.Reads as flag
@@ -25,12 +25,14 @@ use Rattle.wire.proofs.be16_bytes.Reads as be16-bytes
 use Rattle.wire.proofs.copy.Reads as copy
 use Rattle.wire.proofs.least.Reads as least
 use Rattle.wire.proofs.write_text.Reads as write-text
-use Rattle.wire.proofs.put_byte.Reads as put_byte
-use Rattle.wire.proofs.put_bytes.Reads as put-bytes
-use Rattle.wire.proofs.put_hex4.Reads as put-hex4
-use Rattle.wire.proofs.put_hex8.Reads as put-hex8
-use Rattle.wire.proofs.put_decimal.Reads as put-decimal
-use Rattle.wire.proofs.put_either.Reads as put-either
+use Rattle.wire.proofs.Text.new.Reads as new-text
+use Rattle.wire.proofs.Text.write.Reads as write
+use Rattle.wire.proofs.Text.put_byte.Reads as put_byte
+use Rattle.wire.proofs.Text.put_bytes.Reads as put-bytes
+use Rattle.wire.proofs.Text.put_hex4.Reads as put-hex4
+use Rattle.wire.proofs.Text.put_hex8.Reads as put-hex8
+use Rattle.wire.proofs.Text.put_decimal.Reads as put-decimal
+use Rattle.wire.proofs.Text.put_either.Reads as put-either
 
 -- every answer into lent room, here and in the crates above
 pub same-in-room : {o : Outcome ℕ} {text room : List ℕ} {x y : Result ℕ Reason} {l m : List ℕ} → InRoom o text room x l → InRoom o text room y m → with_room x l ≡ with_room y m
@@ -86,20 +88,26 @@ copy-pins κs a x y s t p q = same p q
 pub write-text-pins : Pins write-text.Post (λ κs r s. with_room r s.1.0.now)
 write-text-pins κs a x y s t p q = same-in-room p q
 
-pub put-byte-pins : Pins put_byte.Post (λ κs r s. page s.0.now r)
-put-byte-pins κs a x y s t p q = same p.is q.is
+pub new-pins : Pins new-text.Post (λ κs r s. page_of r)
+new-pins κs a x y s t p q = same p.1 q.1
 
-pub put-bytes-pins : Pins put-bytes.Post (λ κs r s. page s.0.now r)
-put-bytes-pins κs a x y s t p q = same p.is q.is
+pub write-pins : Pins write.Post (λ κs r s. with_room r s.1.0.now)
+write-pins κs a x y s t p q = same-in-room p q
 
-pub put-hex4-pins : Pins put-hex4.Post (λ κs r s. page s.0.now r)
-put-hex4-pins κs a x y s t p q = same p.is q.is
+pub put-byte-pins : Pins put_byte.Post (λ κs r s. page_of s.0.now)
+put-byte-pins κs a x y s t p q = same p.types.is q.types.is
 
-pub put-hex8-pins : Pins put-hex8.Post (λ κs r s. page s.0.now r)
-put-hex8-pins κs a x y s t p q = same p.is q.is
+pub put-bytes-pins : Pins put-bytes.Post (λ κs r s. page_of s.0.now)
+put-bytes-pins κs a x y s t p q = same p.types.is q.types.is
 
-pub put-decimal-pins : Pins put-decimal.Post (λ κs r s. page s.0.now r)
-put-decimal-pins κs a x y s t p q = same p.is q.is
+pub put-hex4-pins : Pins put-hex4.Post (λ κs r s. page_of s.0.now)
+put-hex4-pins κs a x y s t p q = same p.types.is q.types.is
 
-pub put-either-pins : Pins put-either.Post (λ κs r s. page s.0.now r)
-put-either-pins κs a x y s t p q = same p.is q.is
+pub put-hex8-pins : Pins put-hex8.Post (λ κs r s. page_of s.0.now)
+put-hex8-pins κs a x y s t p q = same p.types.is q.types.is
+
+pub put-decimal-pins : Pins put-decimal.Post (λ κs r s. page_of s.0.now)
+put-decimal-pins κs a x y s t p q = same p.types.is q.types.is
+
+pub put-either-pins : Pins put-either.Post (λ κs r s. page_of s.0.now)
+put-either-pins κs a x y s t p q = same p.types.is q.types.is

@@ -1,6 +1,7 @@
 -- Digits, and text typed into room byte by byte. Bytes are ASCII.
 -- Assumes nothing.
-use Rattle.std.specs.Prelude.{◌≡◌, Bool, cond, List, [], ◌∷◌, ◌++◌, ℕ, zero, suc, ◌+◌, ◌/◌, ◌%◌, ◌^◌, length, set, ltb}
+use Rattle.std.specs.Prelude.{◌≡◌, Bool, cond, List, [], ◌∷◌, ◌++◌, ℕ, zero, suc, ◌+◌, ◌/◌, ◌%◌, ◌^◌, length, take, set, ltb}
+use Rattle.wire.specs.declared.Text.{Text}
 
 -- 0 to 9, then a to f
 abbrev pub glyph_of : ℕ → ℕ
@@ -35,6 +36,13 @@ pub record Page : Type 0 where
 abbrev pub page : List ℕ → ℕ → Page
 page l n = record { bytes = l; at = n }
 
+-- a text as such a page, and what is typed of it
+abbrev pub page_of : Text → Page
+page_of t = page t.room.now t.len
+
+abbrev pub text_of : Text → List ℕ
+text_of t = take t.len t.room.now
+
 -- the next byte is typed; where the room has ended it is left out
 unfoldable pub typed : Page → ℕ → Page
 typed p b = cond (ltb p.at (length p.bytes)) (page (set p.bytes p.at b) (p.at + 1)) p
@@ -47,3 +55,8 @@ typed_all p (b ∷ bs) = typed_all (typed p b) bs
 -- typing s at the one page leads to the other
 pub record Types (p q : Page) (s : List ℕ) : Type 0 where
   pub is : q ≡ typed_all p s
+
+-- s is typed after what the text has, into the same room
+pub record Puts (before after : Text) (s : List ℕ) : Type 0 where
+  pub types : Types (page_of before) (page_of after) s
+  pub same_room : after.room.ghost_name ≡ before.room.ghost_name

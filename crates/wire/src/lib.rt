@@ -7,7 +7,7 @@ ghost use Rattle.wire.specs.Field.{bit, flag_at};
 ghost use Rattle.wire.specs.Outcome.{number_of};
 ghost use Rattle.wire.specs.Number.{little_at, little_of, big_at, big_of};
 ghost use Rattle.wire.specs.Room.{over, InRoom, text_in};
-ghost use Rattle.wire.specs.Text.{glyph_of, digits_of, places_of, decimal_of, page, Types};
+ghost use Rattle.wire.specs.Text.{glyph_of, digits_of, places_of, decimal_of, page, page_of, text_of, Puts};
 
 // The flag at bit `shift` of a byte; a byte has none above 7.
 pub fn flag(byte: u8, shift: u8) -> bool
@@ -165,66 +165,6 @@ fn glyph(digit: u8) -> u8
     87 + digit
 }
 
-// Types one byte at `at`, and says where the next one goes; past the room's end nothing is typed.
-pub fn put_byte(room: &mut [u8], at: usize, byte: u8) -> usize
-    ensures { Types (page room.old at) (page room.new result) (byte ∷ []) }
-{
-    if at < room.len() {
-        room[at] = byte;
-        return at + 1;
-    }
-    at
-}
-
-// Types each byte of a text in turn.
-pub fn put_bytes(room: &mut [u8], at: usize, text: &[u8]) -> usize
-    ensures { Types (page room.old at) (page room.new result) text.now }
-{
-    let mut next = at;
-    for &byte in text {
-        next = put_byte(room, next, byte);
-    }
-    next
-}
-
-// Types the last `count` digits of x; `power` is the weight of the first of them.
-fn put_digits(room: &mut [u8], at: usize, x: u32, base: u32, power: u32, count: u32) -> usize
-    requires { (1 < base) × (base ≤ 16) × (power ≡ base ^ count / base) }
-    ensures { Types (page room.old at) (page room.new result) (digits_of base count x) }
-{
-    let mut next = at;
-    let mut weight = power;
-    for _ in 0..count {
-        let digit = x / weight % base;
-        next = put_byte(room, next, glyph(digit as u8));
-        weight /= base;
-    }
-    next
-}
-
-// Types a label and the last `count` hexadecimal digits; `power` is the weight of the first of them.
-fn put_hex(room: &mut [u8], at: usize, label: &[u8], x: u32, power: u32, count: u32) -> usize
-    requires { power ≡ 16 ^ count / 16 }
-    ensures { Types (page room.old at) (page room.new result) (label.now ++ digits_of 16 count x) }
-{
-    let next = put_bytes(room, at, label);
-    put_digits(room, next, x, 16, power, count)
-}
-
-// Types a label, which ends in 0x, and a number as four hexadecimal digits.
-pub fn put_hex4(room: &mut [u8], at: usize, label: &[u8], x: u16) -> usize
-    ensures { Types (page room.old at) (page room.new result) (label.now ++ digits_of 16 4 x) }
-{
-    put_hex(room, at, label, x as u32, 0x1000, 4)
-}
-
-// Types a label, which ends in 0x, and a number as eight hexadecimal digits.
-pub fn put_hex8(room: &mut [u8], at: usize, label: &[u8], x: u32) -> usize
-    ensures { Types (page room.old at) (page room.new result) (label.now ++ digits_of 16 8 x) }
-{
-    put_hex(room, at, label, x, 0x1000_0000, 8)
-}
-
 // How many decimal digits a number takes, and the weight of the first of them.
 #[derive(Clone, Copy)]
 struct Weight {
@@ -262,21 +202,97 @@ fn places(x: u16) -> Weight
     }
 }
 
-// Types a label and a number in decimal, with no zero in front.
-pub fn put_decimal(room: &mut [u8], at: usize, label: &[u8], x: u16) -> usize
-    ensures { Types (page room.old at) (page room.new result) (label.now ++ decimal_of x) }
-{
-    let p = places(x);
-    let next = put_bytes(room, at, label);
-    put_digits(room, next, x as u32, 10, p.power, p.count)
+// Text that is typed into lent room, from its front, and how long it is by now; past the room's end nothing is typed.
+#[derive(Drop)]
+pub struct Text<'a> {
+    pub room: &'a mut [u8],
+    pub len: usize,
 }
 
-// Types the one text or the other.
-pub fn put_either(room: &mut [u8], at: usize, first: bool, one: &[u8], other: &[u8]) -> usize
-    ensures { Types (page room.old at) (page room.new result) (cond first one.now other.now) }
-{
-    if first {
-        return put_bytes(room, at, one);
+impl<'a> Text<'a> {
+    // No text yet.
+    pub fn new(room: &'a mut [u8]) -> Text<'a>
+        ensures same_reference { result.room.ghost_name ≡ room.entry.ghost_name }
+        ensures blank { page_of result ≡ page room.old 0 }
+    {
+        Text { room, len: 0 }
     }
-    put_bytes(room, at, other)
+
+    // What is typed goes into the room whole, or not at all.
+    pub fn write(&self, room: &mut [u8]) -> Result<usize, Reason>
+        ensures { InRoom (text_in (text_of self.now) room.old) (text_of self.now) room.old result room.new }
+    {
+        write_text(front(self.room, self.len), room)
+    }
+
+    // One byte more.
+    pub fn put_byte(&mut self, byte: u8)
+        ensures { Puts self.old self.new (byte ∷ []) }
+    {
+        if self.len < self.room.len() {
+            self.room[self.len] = byte;
+            self.len += 1;
+        }
+    }
+
+    // Each byte of a text in turn.
+    pub fn put_bytes(&mut self, text: &[u8])
+        ensures { Puts self.old self.new text.now }
+    {
+        for &byte in text {
+            self.put_byte(byte);
+        }
+    }
+
+    // The last `count` digits of x; `power` is the weight of the first of them.
+    fn put_digits(&mut self, x: u32, base: u32, power: u32, count: u32)
+        requires { (1 < base) × (base ≤ 16) × (power ≡ base ^ count / base) }
+        ensures { Puts self.old self.new (digits_of base count x) }
+    {
+        let mut weight = power;
+        for _ in 0..count {
+            let digit = x / weight % base;
+            self.put_byte(glyph(digit as u8));
+            weight /= base;
+        }
+    }
+
+    // A label and the last `count` hexadecimal digits; `power` is the weight of the first of them.
+    fn put_hex(&mut self, label: &[u8], x: u32, power: u32, count: u32)
+        requires { power ≡ 16 ^ count / 16 }
+        ensures { Puts self.old self.new (label.now ++ digits_of 16 count x) }
+    {
+        self.put_bytes(label);
+        self.put_digits(x, 16, power, count);
+    }
+
+    // A label, which ends in 0x, and a number as four hexadecimal digits.
+    pub fn put_hex4(&mut self, label: &[u8], x: u16)
+        ensures { Puts self.old self.new (label.now ++ digits_of 16 4 x) }
+    {
+        self.put_hex(label, x as u32, 0x1000, 4);
+    }
+
+    // A label, which ends in 0x, and a number as eight hexadecimal digits.
+    pub fn put_hex8(&mut self, label: &[u8], x: u32)
+        ensures { Puts self.old self.new (label.now ++ digits_of 16 8 x) }
+    {
+        self.put_hex(label, x, 0x1000_0000, 8);
+    }
+
+    // A label and a number in decimal, with no zero in front.
+    pub fn put_decimal(&mut self, label: &[u8], x: u16)
+        ensures { Puts self.old self.new (label.now ++ decimal_of x) }
+    {
+        let p = places(x);
+        self.put_bytes(label);
+        self.put_digits(x as u32, 10, p.power, p.count);
+    }
+
+    // The one text or the other.
+    pub fn put_either(&mut self, first: bool, one: &[u8], other: &[u8])
+        ensures { Puts self.old self.new (cond first one.now other.now) }
+    {
+        self.put_bytes(if first { one } else { other });
+    }
 }

@@ -6,8 +6,8 @@ use Prim.Native.Nat.{ℕ, ◌<◌, min}
 use native.Mathlib.Omega.{arith}
 use lib.ListN.{length, take, length-take}
 use lib.Seq.{get_or-take}
-use Rattle.wire.specs.Text.{page}
-use Rattle.wire.proofs.Typing.{types}
+use Rattle.wire.specs.Text.{page_of}
+use Rattle.wire.proofs.Typing.{puts}
 use Rattle.area.specs.Area.{area_of, entries_of, entry_at}
 use Rattle.area.proofs.Flat.{length-chunks}
 use Rattle.area.proofs.Entry.{entry-any}
@@ -29,8 +29,11 @@ loop-k-preserved c =
     let here : l.k < n = omega arith in
     let read = c.entry_at-image in
     let is = get_or-take n images l.k [] here ∙ sym (read.ensures ∙ ap (entry_at 8 area) c.from.ensures ∙ entry-any 8 area l.k [] (omega arith)) in
-    let put = types (ap (λ (k : ℕ). image_line k read.result) c.from-in-loop-k.ensures) c.put_channel-at.ensures in
-    lines-turn image_line (take n images) l.k read.result (omega arith) is put ∙ l.invariant
+    let put = puts (ap (λ (k : ℕ). image_line k read.result) c.from-in-loop-k.ensures) c.put_channel.ensures in
+    record {
+      left = lines-turn image_line (take n images) l.k read.result (omega arith) is put.types ∙ l.invariant.left;
+      same_room = put.same_room ∙ l.invariant.same_room;
+    }
 
 pub returns : goal.returns
 returns c =
@@ -38,4 +41,7 @@ returns c =
     let n = c.args.n in
     let area = c.args.channels.now in
     let all = many n area in
-    record { is = sym (lines_end image_line (take n (entries_of 8 (area_of 128 area))) l.k {p = page l.room l.at} (omega arith)) ∙ l.invariant }
+    record {
+      types = record { is = sym (lines_end image_line (take n (entries_of 8 (area_of 128 area))) l.k {p = page_of l.text} (omega arith)) ∙ l.invariant.left };
+      same_room = l.invariant.same_room;
+    }

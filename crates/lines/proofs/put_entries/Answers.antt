@@ -3,7 +3,7 @@
 use mathlib.Core.Path.{sym, ◌∙◌, ap}
 use mathlib.Core.List.{[]}
 use native.Mathlib.Omega.{arith}
-use Rattle.wire.specs.Text.{page}
+use Rattle.wire.specs.Text.{page_of}
 use Rattle.area.specs.Area.{area_of, entries_of, entry_at}
 use Rattle.area.proofs.Flat.{length-chunks}
 use Rattle.area.proofs.Entry.{entry-any}
@@ -18,11 +18,18 @@ loop-k-preserved c =
     let many = length-chunks 16 16 (area_of 256 area) in
     let read = c.entry_at-image in
     let is = sym (read.ensures ∙ ap (entry_at 16 area) c.from.ensures ∙ entry-any 16 area l.k [] (omega arith)) in
-    lines-turn enabled_line (entries_of 16 (area_of 256 area)) l.k read.result (omega arith) is c.put_entry-at.ensures ∙ l.invariant
+    let put = c.put_entry.ensures in
+    record {
+      left = lines-turn enabled_line (entries_of 16 (area_of 256 area)) l.k read.result (omega arith) is put.types ∙ l.invariant.left;
+      same_room = put.same_room ∙ l.invariant.same_room;
+    }
 
 pub returns : goal.returns
 returns c =
     let l = c.loop-k in
     let area = area_of 256 c.args.fmmus.now in
     let many = length-chunks 16 16 area in
-    record { is = sym (lines_end enabled_line (entries_of 16 area) l.k {p = page l.room l.at} (omega arith)) ∙ l.invariant }
+    record {
+      types = record { is = sym (lines_end enabled_line (entries_of 16 area) l.k {p = page_of l.text} (omega arith)) ∙ l.invariant.left };
+      same_room = l.invariant.same_room;
+    }
