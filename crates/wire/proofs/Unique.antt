@@ -11,19 +11,12 @@ use Rattle.wire.specs.declared.Reason.{Reason}
 use Rattle.wire.proofs.Pins.{Pins, with_room, same, same_result}
 use Rattle.wire.proofs.flag.Reads as flag
 use Rattle.wire.proofs.Reason.number.Reads as number
-use Rattle.wire.proofs.bit_of.Reads as bit-of
-use Rattle.wire.proofs.wide.Reads as wide
 use Rattle.wire.proofs.byte_at.Reads as byte_at
 use Rattle.wire.proofs.front.Reads as front
 use Rattle.wire.proofs.behind.Reads as behind
 use Rattle.wire.proofs.le16.Reads as le16
-use Rattle.wire.proofs.le32.Reads as le32
 use Rattle.wire.proofs.be16.Reads as be16
-use Rattle.wire.proofs.le16_bytes.Reads as le16-bytes
-use Rattle.wire.proofs.le32_bytes.Reads as le32-bytes
-use Rattle.wire.proofs.be16_bytes.Reads as be16-bytes
 use Rattle.wire.proofs.copy.Reads as copy
-use Rattle.wire.proofs.least.Reads as least
 use Rattle.wire.proofs.write_text.Reads as write-text
 use Rattle.wire.proofs.Text.new.Reads as new-text
 use Rattle.wire.proofs.Text.write.Reads as write
@@ -46,12 +39,6 @@ number-pins κs a x y s t p q = same p q
 pub flag-pins : Pins flag.Post (λ κs r s. r)
 flag-pins κs a x y s t p q = same p q
 
-pub bit-of-pins : Pins bit-of.Post (λ κs r s. r)
-bit-of-pins κs a x y s t p q = same p.0 q.0
-
-pub wide-pins : Pins wide.Post (λ κs r s. r)
-wide-pins κs a x y s t p q = same p.0 q.0
-
 pub byte-at-pins : Pins byte_at.Post (λ κs r s. r)
 byte-at-pins κs a x y s t p q = same p q
 
@@ -64,23 +51,8 @@ behind-pins κs a x y s t p q = same p q
 pub le16-pins : Pins le16.Post (λ κs r s. r)
 le16-pins κs a x y s t p q = same p q
 
-pub le32-pins : Pins le32.Post (λ κs r s. r)
-le32-pins κs a x y s t p q = same p q
-
 pub be16-pins : Pins be16.Post (λ κs r s. r)
 be16-pins κs a x y s t p q = same p q
-
-pub le16-bytes-pins : Pins le16-bytes.Post (λ κs r s. r)
-le16-bytes-pins κs a x y s t p q = same p q
-
-pub le32-bytes-pins : Pins le32-bytes.Post (λ κs r s. r)
-le32-bytes-pins κs a x y s t p q = same p q
-
-pub least-pins : Pins least.Post (λ κs r s. r)
-least-pins κs a x y s t p q = same p q
-
-pub be16-bytes-pins : Pins be16-bytes.Post (λ κs r s. r)
-be16-bytes-pins κs a x y s t p q = same p q
 
 pub copy-pins : Pins copy.Post (λ κs r s. s.1.0.now)
 copy-pins κs a x y s t p q = same p q

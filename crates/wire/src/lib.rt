@@ -2,10 +2,10 @@
 // several bytes, copying, and text into lent room. Every function is total.
 #![tactic(auto)]
 
-ghost use Rattle.std.specs.Prelude.{◌≡◌, cond, [], ◌∷◌, ◌++◌, ◌<◌, ◌≤◌, ◌^◌, ◌/◌, min, get_or, take, drop};
-ghost use Rattle.wire.specs.Field.{bit, flag_at};
+ghost use Rattle.std.specs.Prelude.{◌≡◌, cond, [], ◌∷◌, ◌++◌, ◌<◌, ◌≤◌, ◌^◌, ◌/◌, get_or, take, drop};
+ghost use Rattle.wire.specs.Field.{flag_at};
 ghost use Rattle.wire.specs.Outcome.{number_of};
-ghost use Rattle.wire.specs.Number.{little_at, little_of, big_at, big_of};
+ghost use Rattle.wire.specs.Number.{little_at, big_at};
 ghost use Rattle.wire.specs.Room.{over, InRoom, text_in};
 ghost use Rattle.wire.specs.Text.{glyph_of, digits_of, places_of, decimal_of, page, page_of, text_of, Puts};
 
@@ -17,20 +17,6 @@ pub fn flag(byte: u8, shift: u8) -> bool
         return false;
     }
     (byte >> shift) & 1 == 1
-}
-
-// The bit that a flag is written as.
-pub fn bit_of(flag: bool) -> u8
-    ensures { (result ≡ bit flag) × (result < 2) }
-{
-    u8::from(flag)
-}
-
-// A byte as a count or a place.
-pub fn wide(x: u8) -> usize
-    ensures { (result ≡ x) × (result ≤ 255) }
-{
-    usize::from(x)
 }
 
 // A byte of a slice, 0 past its end.
@@ -61,39 +47,11 @@ pub fn le16(a: u8, b: u8) -> u16
     u16::from_le_bytes([a, b])
 }
 
-// Four bytes as a number, the low one first.
-pub fn le32(a: u8, b: u8, c: u8, d: u8) -> u32
-    ensures { result ≡ little_at (a ∷ b ∷ c ∷ d ∷ []) 0 4 }
-{
-    u32::from_le_bytes([a, b, c, d])
-}
-
 // Two bytes as a number, the high one first.
 pub fn be16(a: u8, b: u8) -> u16
     ensures { result ≡ big_at (a ∷ b ∷ []) 0 2 }
 {
     u16::from_be_bytes([a, b])
-}
-
-// The two bytes of a number, the low one first.
-pub fn le16_bytes(x: u16) -> [u8; 2]
-    ensures { result ≡ little_of 2 x }
-{
-    x.to_le_bytes()
-}
-
-// The four bytes of a number, the low one first.
-pub fn le32_bytes(x: u32) -> [u8; 4]
-    ensures { result ≡ little_of 4 x }
-{
-    x.to_le_bytes()
-}
-
-// The two bytes of a number, the high one first.
-pub fn be16_bytes(x: u16) -> [u8; 2]
-    ensures { result ≡ big_of 2 x }
-{
-    x.to_be_bytes()
 }
 
 // Copies `from` over the front of `to`, as far as both go.
@@ -102,13 +60,6 @@ pub fn copy(from: &[u8], to: &mut [u8])
 {
     let n = from.len().min(to.len());
     to[..n].copy_from_slice(&from[..n]);
-}
-
-// The smaller of two counts.
-pub fn least(a: usize, b: usize) -> usize
-    ensures { result ≡ min a b }
-{
-    a.min(b)
 }
 
 // Why a call is refused. Each reason has the number that documents 01 and 02 give it.
