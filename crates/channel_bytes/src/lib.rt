@@ -3,7 +3,7 @@
 
 ghost use Rattle.std.specs.Prelude.{◌≡◌, ◌||◌, [], ◌∷◌, ◌<◌, eqb};
 ghost use Rattle.channel_bytes.specs.Bytes as meaning;
-ghost use Rattle.channel_bytes.specs.Bytes.{mode_number, mode_at, mode_unnamed, direction_number, direction_at, direction_unnamed, wrong_number, state_number, state_at, control_at, control_byte, status_at, status_byte, enable_at, enable_low, enable_high};
+ghost use Rattle.channel_bytes.specs.Bytes.{mode_number, mode_at, mode_unnamed, direction_number, direction_at, direction_unnamed, state_number, state_at, control_at, control_byte, status_at, status_byte, enable_at, enable_low, enable_high};
 
 // ETG1000.4 6.7.2, byte 4.
 #[derive(Clone, Copy, Debug, PartialEq, Eq)]

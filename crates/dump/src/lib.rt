@@ -1,14 +1,13 @@
 // A device's own EEPROM dump: the category area of ETG2010, read as device data of the EEPROM path.
 #![tactic(auto)]
 
-ghost use Rattle.std.specs.Prelude.{◌≡◌, cond, ◌||◌, eqb, map, ◌++◌, ◌+◌, ◌*◌, ◌-◌, ◌/◌, ◌≤◌, ◌<◌, length, replicate, ltb};
+ghost use Rattle.std.specs.Prelude.{◌≡◌, cond, ◌||◌, eqb, map, ◌++◌, ◌+◌, ◌*◌, ◌-◌, ◌/◌, ◌≤◌, length, replicate, ltb};
 ghost use Rattle.wire.specs.Number.{little_at};
 ghost use Rattle.wire.specs.Lists.{some_of};
 ghost use Rattle.wire.specs.Room.{over};
 ghost use Rattle.area.specs.Area.{flat, stored_at};
 ghost use Rattle.sheet.specs.Sheet.{some_unnamed, no_manager};
 ghost use Rattle.writer.specs.Form.{pdo_bytes};
-ghost use Rattle.dump.specs.Parts as Parts;
 ghost use Rattle.dump.specs.Parts.{parts_of, rest_of};
 ghost use Rattle.dump.specs.Categories.{category_long, categories};
 ghost use Rattle.dump.specs.Categories as Categories;

@@ -1,9 +1,8 @@
 // The FMMU entries of a call: `write_fmmu_config` of configuration.rs, over a whole area.
 #![tactic(auto)]
 
-ghost use Rattle.std.specs.Prelude.{◌≡◌, ◌+◌, ◌<◌, ◌≤◌, length};
+ghost use Rattle.std.specs.Prelude.{◌≡◌, ◌<◌, ◌≤◌, length};
 ghost use Rattle.wire.specs.Outcome.{outcome_by};
-ghost use Rattle.pdo.specs.declared.PdoDirection.TheVariants.{MasterWrite};
 ghost use Rattle.sheet.specs.Sheet.{managers_in};
 ghost use Rattle.passes.specs.Handed.{uses_by, uses_by_both, Short};
 ghost use Rattle.passes.specs.Start.{outputs_from, planned_of, configured_of};

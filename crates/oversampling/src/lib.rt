@@ -3,7 +3,6 @@
 
 ghost use Rattle.std.specs.Prelude.{◌≡◌, ◌+◌, ◌≤◌, ◌<◌, ◌^◌};
 ghost use Rattle.wire.specs.Room.{over};
-ghost use Rattle.grammar.specs.Grammar.{pdo_count};
 ghost use Rattle.sheet.specs.Device.{pdo_at, next_pdo};
 ghost use Rattle.sheet.specs.Sheet.{sheet_data};
 ghost use Rattle.pdo.specs.Bits.{multiplier_of, multipliers_of};

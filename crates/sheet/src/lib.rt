@@ -1,7 +1,7 @@
 // The device sheet: the one form in which a bay comes in, read whole.
 #![tactic(auto, unfolding(crate::specs::Sheet::sheet_data))]
 
-ghost use Rattle.std.specs.Prelude.{◌≡◌, false, min, ◌+◌, ◌*◌, ◌≤◌, length};
+ghost use Rattle.std.specs.Prelude.{◌≡◌, false, min, ◌+◌, ◌≤◌, length};
 ghost use Rattle.wire.specs.Outcome.{decide};
 ghost use Rattle.wire.specs.Number.{big_at};
 ghost use Rattle.grammar.specs.Grammar.{manager_count, manager_place, broken};
