@@ -46,10 +46,7 @@ impl Fmmu {
     pub fn unpack_from_slice(buf: &[u8]) -> Result<Fmmu, Reason>
         ensures { fmmu_read_of result ≡ read_entry buf.now }
     {
-        let Ok(image) = <[u8; 16]>::try_from(buf) else {
-            return Err(Reason::AreaLength);
-        };
-        Ok(Fmmu::unpack(image))
+        Ok(Fmmu::unpack(wire::image_in(buf)?))
     }
 
     // The sixteen bytes of an entry; of a bit field its three bits, reserved bits 0.
@@ -83,14 +80,7 @@ impl Fmmu {
     pub fn pack_to_slice(self, buf: &mut [u8]) -> Result<usize, Reason>
         ensures { InRoom (write_entry self buf.old) (image_of self) buf.old result buf.new }
     {
-        if buf.len() != 16 {
-            return Err(Reason::AreaLength);
-        }
-        if self.too_wide() {
-            return Err(Reason::FieldTooWide);
-        }
-        buf.copy_from_slice(&self.pack());
-        Ok(16)
+        wire::write_image(self.pack(), self.too_wide(), buf)
     }
 
     // Whether a bit field is above 7.

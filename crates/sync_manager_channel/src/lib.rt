@@ -39,10 +39,7 @@ impl SyncManagerChannel {
     pub fn unpack_from_slice(buf: &[u8]) -> Result<SyncManagerChannel, Reason>
         ensures { channel_read_of result ≡ read_channel buf.now }
     {
-        let Ok(image) = <[u8; 8]>::try_from(buf) else {
-            return Err(Reason::AreaLength);
-        };
-        Ok(SyncManagerChannel::unpack(image))
+        Ok(SyncManagerChannel::unpack(wire::image_in(buf)?))
     }
 
     // The eight bytes of a channel; of an unnamed number its low two bits, reserved bits 0.
@@ -68,14 +65,7 @@ impl SyncManagerChannel {
     pub fn pack_to_slice(self, buf: &mut [u8]) -> Result<usize, Reason>
         ensures { InRoom (write_channel self buf.old) (image_of self) buf.old result buf.new }
     {
-        if buf.len() != 8 {
-            return Err(Reason::AreaLength);
-        }
-        if self.control.misnumbered() {
-            return Err(Reason::FieldTooWide);
-        }
-        buf.copy_from_slice(&self.pack());
-        Ok(8)
+        wire::write_image(self.pack(), self.control.misnumbered(), buf)
     }
 
     // Its text, into lent room. It is typed, since std's Display says what it wrote where it succeeds, and not that it does.

@@ -3,6 +3,7 @@
 use mathlib.Core.Path.{◌≡◌, refl}
 use mathlib.Core.List.{List}
 use Prim.Native.Nat.{ℕ}
+use Rattle.std.proofs.Common.{Fits, w64}
 use Rattle.std.specs.Prelude.{Result}
 use Rattle.wire.specs.Outcome.{Outcome}
 use Rattle.wire.specs.Room.{InRoom}
@@ -17,6 +18,8 @@ use Rattle.wire.proofs.behind.Reads as behind
 use Rattle.wire.proofs.le16.Reads as le16
 use Rattle.wire.proofs.be16.Reads as be16
 use Rattle.wire.proofs.copy.Reads as copy
+use Rattle.wire.proofs.image_in.Reads as image-in
+use Rattle.wire.proofs.write_image.Reads as write-image
 use Rattle.wire.proofs.write_text.Reads as write-text
 use Rattle.wire.proofs.Text.new.Reads as new-text
 use Rattle.wire.proofs.Text.write.Reads as write
@@ -56,6 +59,12 @@ be16-pins κs a x y s t p q = same p q
 
 pub copy-pins : Pins copy.Post (λ κs r s. s.1.0.now)
 copy-pins κs a x y s t p q = same p q
+
+pub image-in-pins : (n : ℕ) (fits : Fits w64 n) → Pins (image-in.Post n fits) (λ κs r s. r)
+image-in-pins n fits κs a x y s t p q = same_result (λ image. image) (λ image. image) (λ image. refl) p q
+
+pub write-image-pins : (n : ℕ) (fits : Fits w64 n) → Pins (write-image.Post n fits) (λ κs r s. with_room r s.1.1.0.now)
+write-image-pins n fits κs a x y s t p q = same-in-room p q
 
 pub write-text-pins : Pins write-text.Post (λ κs r s. with_room r s.1.0.now)
 write-text-pins κs a x y s t p q = same-in-room p q

@@ -1,10 +1,11 @@
 // What the crate's wire derive and its text formatting did, written out: fields of a byte, numbers of
-// several bytes, copying, and text into lent room. Every function is total.
+// several bytes, copying, and images and text into lent room. Every function is total.
 #![tactic(auto)]
 
 ghost use Rattle.std.specs.Prelude.{◌≡◌, cond, [], ◌∷◌, ◌++◌, ◌<◌, ◌≤◌, ◌^◌, ◌/◌, get_or, take, drop};
 ghost use Rattle.wire.specs.Field.{flag_at};
-ghost use Rattle.wire.specs.Outcome.{number_of};
+ghost use Rattle.wire.specs.Image.{not_long};
+ghost use Rattle.wire.specs.Outcome.{number_of, outcome_by, when, decide};
 ghost use Rattle.wire.specs.Number.{little_at, big_at};
 ghost use Rattle.wire.specs.Room.{over, InRoom, text_in};
 ghost use Rattle.wire.specs.Text.{glyph_of, digits_of, places_of, decimal_of, page, page_of, text_of, Puts};
@@ -103,6 +104,31 @@ pub fn write_text(text: &[u8], room: &mut [u8]) -> Result<usize, Reason>
     }
     copy(text, room);
     Ok(text.len())
+}
+
+// Lent bytes as an image of N bytes, if they are N.
+pub fn image_in<const N: usize>(buf: &[u8]) -> Result<[u8; N], Reason>
+    ensures { outcome_by (λ image. image) result ≡ decide (when 1 (not_long N buf.now) ∷ []) buf.now }
+{
+    <[u8; N]>::try_from(buf).map_err(|_| Reason::AreaLength)
+}
+
+// A record's image into lent room of N bytes, unless a number of the record is too wide for its field.
+pub fn write_image<const N: usize>(
+    image: [u8; N],
+    too_wide: bool,
+    buf: &mut [u8],
+) -> Result<usize, Reason>
+    ensures { InRoom (decide (when 1 (not_long N buf.old) ∷ when 13 too_wide ∷ []) N) image.entry buf.old result buf.new }
+{
+    if buf.len() != N {
+        return Err(Reason::AreaLength);
+    }
+    if too_wide {
+        return Err(Reason::FieldTooWide);
+    }
+    buf.copy_from_slice(&image);
+    Ok(N)
 }
 
 // The character of a digit below 16.

@@ -7,5 +7,5 @@ use Rattle.fmmu.proofs.Fmmu.pack_to_slice.Reads as reads
 use Rattle.fmmu.proofs.Fmmu.pack_to_slice.Tie as tie
 
 -- at every call the numbers are in the range of their types
-pub in-range : {κs : _} (c : steps.Start tie.the-claims reads.Pre reads.Post κs) → InRange c.args.self
+pub in-range : (c : steps.Start tie.the-claims reads.Pre reads.Post) → InRange c.args.self
 in-range c = record { start = search rules; size = search rules; physical = search rules }
