@@ -38,6 +38,7 @@ fn position_in(start: u64, size: ByteLen, sheet: &[u8], k: u8, address: u32) -> 
     let byte = u64::from(address) - start;
     Some(Position {
         sync_manager: k,
+        // below the size, which is 16 bits
         byte: byte as u16,
         device: translation::named(u64::from(sheet::start_of(sheet, k)) + byte),
     })

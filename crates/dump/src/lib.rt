@@ -28,7 +28,7 @@ pub struct Head {
     pub send_size: ByteLen,
 }
 
-// The types of the categories that device data is made of, and the type that is the end mark.
+// The types of the categories that device data is made of, and the type that is the end mark: the words that a dump has, matched where they are read.
 const FMMU: u16 = 40;
 
 const SYNC_MANAGER: u16 = 41;
@@ -435,6 +435,7 @@ pub fn read(dump: &[u8], head: Head, room: &mut [u8]) -> Result<Device, Reason>
         outputs,
         room,
     );
+    // `rule_broken` left no p above 255
     Ok(device_of(head, records, usages, p as u8))
 }
 

@@ -61,7 +61,7 @@ fn put_channels(text: &mut Text<'_>, channels: &[u8], n: u8)
     }
 }
 
-// The lines of an area's enabled entries. It shares but the `for` with the one above, so one for both would be no plainer.
+// The lines of an area's enabled entries. Only the `for` is as above, so that one for both would be no plainer.
 fn put_entries(text: &mut Text<'_>, fmmus: &[u8])
     ensures { Puts text.old text.new (lines enabled_line 0 (entries_of 16 (area_of 256 fmmus.now))) }
 {

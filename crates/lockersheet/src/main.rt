@@ -36,6 +36,7 @@ fn decimal(text: &[u8], most: u16) -> Option<u16>
             return None;
         }
     }
+    // at most `most`, which is 16 bits
     Some(value as u16)
 }
 
@@ -121,6 +122,7 @@ fn main(rt: HostRuntime) -> io::Result<()> {
             &rt,
             &mut rt.stdin(),
             Head {
+                // it was taken up to 255
                 flags: flags as u8,
                 receive_size: ByteLen(receive),
                 send_size: ByteLen(send),

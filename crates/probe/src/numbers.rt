@@ -97,7 +97,7 @@ fn enable_line(low: u8, high: u8) -> Line {
     Line::fields(&enable_fields(enable), Item::Bytes(enable.pack()))
 }
 
-// a and b stay, and c is one value after another.
+// By the letters of docs/PROBE.md, which are bytes from outside. a and b stay, and c is one value after another.
 pub fn answer(letter: u8, a: u32, b: u32, c: u32) -> Line {
     let [_, _, high, low] = c.to_be_bytes();
     match letter {

@@ -229,6 +229,7 @@ impl<'a> Text<'a> {
         let mut weight = power;
         for _ in 0..count {
             let digit = x / weight % base;
+            // below the base, which is 16 at most
             self.put_byte(glyph(digit as u8));
             weight /= base;
         }
@@ -247,6 +248,7 @@ impl<'a> Text<'a> {
     pub fn put_hex4(&mut self, label: &[u8], x: u16)
         ensures { Puts self.old self.new (label.now ++ digits_of 16 4 x) }
     {
+        // a cast: of the library's From the proof knows no bound
         self.put_hex(label, x as u32, 0x1000, 4);
     }
 
@@ -263,6 +265,7 @@ impl<'a> Text<'a> {
     {
         let p = places(x);
         self.put_bytes(label);
+        // a cast: of the library's From the proof knows no bound
         self.put_digits(x as u32, 10, p.power, p.count);
     }
 

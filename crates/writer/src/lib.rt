@@ -52,6 +52,7 @@ fn head_of(d: Device, total: u16) -> [u8; 11]
         receive[1],
         send[0],
         send[1],
+        // sixteen at most
         d.n as u8,
         d.f as u8,
         d.p,
@@ -118,6 +119,7 @@ fn length_of(n: usize, f: usize, long: usize) -> Result<u16, Reason>
     if 16384 < follow {
         return Err(Reason::SheetLength);
     }
+    // not above that, it fits
     Ok(follow as u16)
 }
 
