@@ -28,7 +28,8 @@ pub struct Head {
     pub send_size: ByteLen,
 }
 
-// The types of the categories that device data is made of, and the type that is the end mark: the words that a dump has, matched where they are read.
+// The types of the categories that device data is made of, and the type that is the end mark: the words that a dump has,
+// matched where they are read.
 const FMMU: u16 = 40;
 
 const SYNC_MANAGER: u16 = 41;
@@ -398,8 +399,9 @@ fn device_of(head: Head, records: &[u8], usages: &[u8], p: u8) -> Device
     }
 }
 
-// Reads a dump: device data, with what the caller gives, its PDO records written into the room from its front on. 16: a category runs past the dump,
-// or there is no end mark; 17: a category isn't whole records, or is a second one of its type; 4 and 5: as of a sheet; 12: the room is too short.
+// Reads a dump: device data, with what the caller gives, its PDO records written into the room from its front on. 16: a
+// category runs past the dump, or there is no end mark; 17: a category isn't whole records, or is a second one of its type; 4
+// and 5: as of a sheet; 12: the room is too short.
 pub fn read(dump: &[u8], head: Head, room: &mut [u8]) -> Result<Device, Reason>
     ensures { ReadsDump head dump.now room.old result room.new }
 {
@@ -439,8 +441,8 @@ pub fn read(dump: &[u8], head: Head, room: &mut [u8]) -> Result<Device, Reason>
     Ok(device_of(head, records, usages, p as u8))
 }
 
-// Writes a dump's sheet into the room, whole or not at all, and answers its length; 1,892 bytes are always enough. It is refused as reading is, with
-// 12 where the room is too short for the sheet.
+// Writes a dump's sheet into the room, whole or not at all, and answers its length; 1,892 bytes are always enough. It is
+// refused as reading is, with 12 where the room is too short for the sheet.
 pub fn write_sheet(dump: &[u8], head: Head, room: &mut [u8]) -> Result<usize, Reason>
     ensures { WritesSheet head dump.now room.old result room.new }
 {

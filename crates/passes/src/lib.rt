@@ -37,15 +37,16 @@ pub struct FmmuPair {
     pub sync_manager: u8,
 }
 
-// Which entry the EEPROM path uses: the one with the sync manager's own number, as the crate has it, or the one that a list of pairs gives.
+// Which entry the EEPROM path uses: the one with the sync manager's own number, as the crate has it, or the one that a list
+// of pairs gives.
 #[derive(Clone, Copy, Debug, PartialEq, Eq)]
 pub enum FmmuMode {
     OwnNumber,
     Paired,
 }
 
-// What a list of pairs hands on: the entry of each of sixteen sync managers, and whether a number of the list is above 15. No Option: what a call means
-// (`chosen_of`, `number_above`, `paired`) speaks of the entries whatever the flag says.
+// What a list of pairs hands on: the entry of each of sixteen sync managers, and whether a number of the list is above 15. No
+// Option: what a call means (`chosen_of`, `number_above`, `paired`) speaks of the entries whatever the flag says.
 #[derive(Clone, Copy, Debug, PartialEq, Eq)]
 pub struct Chosen {
     pub entries: [u8; 16],
@@ -64,8 +65,8 @@ impl Chosen {
     }
 }
 
-// What a call does with entries that it finds enabled: it clears those that carry one direction's bit alone and refuses what else is in its way, or it adds to
-// whatever is there.
+// What a call does with entries that it finds enabled: it clears those that carry one direction's bit alone and refuses what
+// else is in its way, or it adds to whatever is there.
 #[derive(Clone, Copy, Debug, PartialEq, Eq)]
 pub enum OldEntries {
     Clear,
@@ -79,7 +80,8 @@ pub enum OutputStart {
     AfterInputs,
 }
 
-// How a call is made: its group's start, what becomes of old entries, which entries the EEPROM path uses, and where the outputs start.
+// How a call is made: its group's start, what becomes of old entries, which entries the EEPROM path uses, and where the
+// outputs start.
 #[derive(Clone, Copy, Debug, PartialEq, Eq)]
 pub struct Settings {
     pub group: u32,
@@ -89,7 +91,8 @@ pub struct Settings {
 }
 
 impl Settings {
-    // The default: old entries are cleared, no pairs are read, and the outputs start straight after the inputs. All else is asked for by its name.
+    // The default: old entries are cleared, no pairs are read, and the outputs start straight after the inputs. All else is
+    // asked for by its name.
     pub fn clean(group: u32) -> Settings
         ensures { result ≡ Old.clean mode.OwnNumber start.AfterInputs group }
     {

@@ -13,7 +13,8 @@ pub enum PdoDirection {
     MasterWrite,
 }
 
-// What a direction takes: the usage of its sync managers, of its FMMU entry, and its kind of EEPROM PDO, as a sheet's bytes say them.
+// What a direction takes: the usage of its sync managers, of its FMMU entry, and its kind of EEPROM PDO, as a sheet's bytes
+// say them.
 #[derive(Clone, Copy, Debug, PartialEq, Eq)]
 pub struct Terms {
     pub usage: u8,

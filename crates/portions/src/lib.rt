@@ -1,4 +1,5 @@
-// A sheet that comes in portions, as a handheld sends it over a slow line: each is taken into lent room, and the end reads what came.
+// A sheet that comes in portions, as a handheld sends it over a slow line: each is taken into lent room, and the end reads
+// what came.
 #![tactic(auto)]
 
 ghost use Rattle.std.specs.Prelude.{◌≡◌};
@@ -28,9 +29,9 @@ pub fn begin() -> State
     }
 }
 
-// Takes a portion of any length, none too, and says how far the sheet has come then. The room is lent at each call, with the bytes
-// that are held at its front. 14: the room is under 16,386 bytes; the portion isn't taken, the caller's state is as it was, and the
-// next call with enough room goes on from there. Nothing else is refused here.
+// Takes a portion of any length, none too, and says how far the sheet has come then. The room is lent at each call, with the
+// bytes that are held at its front. 14: the room is under 16,386 bytes; the portion isn't taken, the caller's state is as it
+// was, and the next call with enough room goes on from there. Nothing else is refused here.
 pub fn take(state: State, portion: &[u8], room: &mut [u8]) -> Result<State, Reason>
     ensures { Takes state portion.now room.old result room.new }
 {

@@ -1,4 +1,5 @@
-// What `lockerplan` prints of a bay: its sheet is planned over the areas that it hands over, from offset 0 in group 0, with no oversampling and no pairs.
+// What `lockerplan` prints of a bay: its sheet is planned over the areas that it hands over, from offset 0 in group 0, with
+// no oversampling and no pairs.
 #![tactic(auto)]
 
 ghost use Rattle.std.specs.Prelude.{◌≡◌};

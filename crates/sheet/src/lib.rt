@@ -11,7 +11,8 @@ use channel_bytes::{Control, Direction, OperationMode};
 use pdi::ByteLen;
 use wire::Reason;
 
-// A sync manager as the sheet has it. Its usage is a byte, of which those above 4 have no name and are refused with 4, whoever made it up.
+// A sync manager as the sheet has it. Its usage is a byte, of which those above 4 have no name and are refused with 4,
+// whoever made it up.
 #[derive(Clone, Copy, Debug, PartialEq, Eq)]
 pub struct SyncManager {
     pub start_addr: u16,
@@ -20,8 +21,8 @@ pub struct SyncManager {
     pub usage_type: u8,
 }
 
-// Device data: what planning reads. Its PDO records stay in the lent bytes, `p` of them from the place `pdos` on. There is no heap, so lists are
-// arrays of sixteen, of which n and f count; these may be any numbers, and too large ones are refused.
+// Device data: what planning reads. Its PDO records stay in the lent bytes, `p` of them from the place `pdos` on. There is no
+// heap, so lists are arrays of sixteen, of which n and f count; these may be any numbers, and too large ones are refused.
 #[derive(Clone, Copy, Debug, PartialEq, Eq)]
 pub struct Device {
     pub has_mailbox: bool,

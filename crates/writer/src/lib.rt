@@ -135,8 +135,9 @@ fn rule_broken(d: Device, managers: &[SyncManager], records: &[u8]) -> bool
         || !grammar::are_pdos(records, d.p)
 }
 
-// Writes device data as a sheet, its PDO records standing in the lent bytes from `pdos` on, and answers the sheet's length. It goes into the room
-// whole, or not at all. 2: the sheet would be too long; 4: the data breaks a rule of the sheet; 5: a mode or a direction is unnamed; 12: the room is too short.
+// Writes device data as a sheet, its PDO records standing in the lent bytes from `pdos` on, and answers the sheet's length.
+// It goes into the room whole, or not at all. 2: the sheet would be too long; 4: the data breaks a rule of the sheet; 5: a
+// mode or a direction is unnamed; 12: the room is too short.
 pub fn write(device: Device, bytes: &[u8], room: &mut [u8]) -> Result<usize, Reason>
     ensures { Writes device bytes.now room.old result room.new }
 {
