@@ -1,27 +1,27 @@
--- The first match of the oversampling table, as the library finds it.
+-- The first match of the oversampling table, as the code walks it.
 -- Assumes nothing.
-use Rattle.std.proofs.Common.{◌≡◌, refl, ◌∙◌, ap, Bool, true, false, cond, List, [], ◌∷◌, ℕ, Option, Some, None, ◌==◌, MatchOption}
-use Rattle.std.specs.List.{find}
-use Rattle.std.specs.Option.{option_map, option_map_or}
+use mathlib.Core.Path.{◌≡◌, refl}
+use mathlib.Core.List.{List}
+use Prim.Native.Nat.{ℕ, ◌+◌, ◌<◌, ◌≤◌}
+use native.Mathlib.Numerals.{add-one}
+use lib.ListN.{length, get_or, drop, drop_of_length-le}
+use lib.Seq.{drop-cons}
+use borrow.Author.Tests.{eq-eqb, ne_eqb}
 use Rattle.pdo.specs.declared.Oversampling.{Oversampling}
 use Rattle.pdo.specs.Bits.{multiplier_of}
 
--- whether a record has the index
-abbrev pub names : ℕ → Oversampling → Bool
-names index r = r.pdo_index == index
-
-by_find : (t : List Oversampling) (index : ℕ) → option_map_or (λ r. r.multiplier) (find (names index) t) 1 ≡ multiplier_of t index
+-- a record matches, or the others decide
+pub hit : (t : List Oversampling) (i index : ℕ) (d : Oversampling) → i < length t → (get_or t i d).pdo_index ≡ index → (get_or t i d).multiplier ≡ multiplier_of (drop i t) index
 unfolding multiplier_of
-by_find [] index = refl
-by_find (r ∷ t) index = at (r.pdo_index == index) (by_find t index)
-  where
-    at : (b : Bool) → option_map_or (λ r. r.multiplier) (find (names index) t) 1 ≡ multiplier_of t index → option_map_or (λ r. r.multiplier) (cond b (Some r) (find (names index) t)) 1 ≡ cond b r.multiplier (multiplier_of t index)
-    at true e = refl
-    at false e = e
+hit t i index d h e = rw (drop-cons t i d h, eq-eqb (get_or t i d).pdo_index index e) refl
 
--- what is found and answered through a reference
-pub found :
-    {R : Type 0} (now : R → Oversampling) {P : R → Type 0} (t : List Oversampling) (index m : ℕ) (o : Option R)
-    → option_map now o ≡ find (names index) t → MatchOption o (m ≡ 1) P → ((x : R) → P x → m ≡ (now x).multiplier) → m ≡ multiplier_of t index
-found now t index m None e h f = h ∙ ap (λ q. option_map_or (λ r. r.multiplier) q 1) e ∙ by_find t index
-found now t index m (Some x) e h f = f x h ∙ ap (λ q. option_map_or (λ r. r.multiplier) q 1) e ∙ by_find t index
+pub miss :
+    (t : List Oversampling) (i index : ℕ) (d : Oversampling)
+    → i < length t → ((get_or t i d).pdo_index ≡ index → ⊥) → multiplier_of (drop (i + 1) t) index ≡ multiplier_of (drop i t) index
+unfolding multiplier_of
+miss t i index d h e = rw (add-one, drop-cons t i d h, ne_eqb (get_or t i d).pdo_index index e) refl
+
+-- none is left
+pub at-end : (t : List Oversampling) (i index : ℕ) → length t ≤ i → 1 ≡ multiplier_of (drop i t) index
+unfolding multiplier_of
+at-end t i index h = rw (drop_of_length-le t h)

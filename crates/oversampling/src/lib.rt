@@ -13,10 +13,12 @@ use pdo::Oversampling;
 pub fn multiplier_of(table: &[Oversampling], index: u16) -> u8
     ensures { result ≡ multiplier_of table.now index }
 {
-    table
-        .iter()
-        .find(|record| record.pdo_index == index)
-        .map_or(1, |record| record.multiplier)
+    for record in table {
+        if record.pdo_index == index {
+            return record.multiplier;
+        }
+    }
+    1
 }
 
 // The index of the PDO at a place.

@@ -1,4 +1,3 @@
 -- Laws that belong to no one function.
-pub mod OneMore
-pub mod Prefix
+pub mod Backwards
 pub mod Unique

@@ -1,16 +1,18 @@
--- `oversampling::multiplier_of`: the first match, if there is one.
+-- `oversampling::multiplier_of`: the record at hand matches, or none so far does; at the end none is left.
 -- Assumes nothing.
-use Rattle.std.proofs.Common.{rules}
-use Rattle.std.proofs.lemmas.Iterator.{YieldsList-from_slice}
-use Rattle.std.proofs.lemmas.Iterator.Search.{find_from_yields_List}
-use borrow.Author.Tests.{tests}
-use Rattle.oversampling.proofs.Search.{names, found}
+use mathlib.Core.Path.{◌∙◌}
+use Rattle.pdo.specs.declared.Oversampling.{Oversampling}
+use Rattle.oversampling.proofs.Search.{hit, miss, at-end}
 use Rattle.oversampling.proofs.multiplier_of.Goals as goal
 
+abbrev none : Oversampling
+none = record { pdo_index = 0; multiplier = 0 }
+
+pub returns-then-record-index : goal.returns-then-record-index
+returns-then-record-index c = let l = c.loop-record in hit c.args.table.now l.record-index c.args.index none c.loop-record-test.true c.if-record-index.true ∙ l.invariant
+
+pub loop-record-preserved : goal.loop-record-preserved
+loop-record-preserved c = let l = c.loop-record in miss c.args.table.now l.record-index c.args.index none c.loop-record-test.true c.if-record-index.false ∙ l.invariant
+
 pub returns : goal.returns
-returns c =
-    let t = c.args.table.now in
-    let index = c.args.index in
-    found (λ r. r.now) t index c.map_or.result c.find.result
-    (find_from_yields_List (names index) _ _ _ c.find.ensures.ran (YieldsList-from_slice t (cc)) (λ x b q k. search (rules, tests)))
-    c.map_or.ensures (λ x p. search rules)
+returns c = let l = c.loop-record in at-end c.args.table.now l.record-index c.args.index c.loop-record-test.false ∙ l.invariant
