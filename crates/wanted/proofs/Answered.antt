@@ -1,14 +1,16 @@
 -- What an accepted answer tells: no refusal holds, the sheet is sound, and all is there.
 -- Assumes nothing.
-use mathlib.Core.Path.{◌≡◌, refl, sym, ◌∙◌, ap}
+use mathlib.Core.Path.{◌≡◌, refl, sym, ◌∙◌, ap, subst}
 use mathlib.Core.Bool.{Bool, true, false, cond}
 use mathlib.Core.List.{List, [], ◌∷◌, ◌++◌}
 use Prim.Native.Nat.{ℕ}
+use Rattle.std.specs.Prelude.{Ok}
 use Rattle.wire.specs.Outcome.{Outcome, refused, accepted, Refusal, when, first, decide}
-use Rattle.wire.proofs.Order.{never, passed-answer}
+use Rattle.wire.proofs.Order.{never, passed, passed-answer}
 use Rattle.pdi.specs.declared.ByteLen.{ByteLen}
 use Rattle.sheet.specs.Sheet.{sheet_refusals, sheet_data}
 use Rattle.sheet.proofs.Kept.{Accepts, accepted-accepts}
+use Rattle.sheet.proofs.Reading.{Checked}
 use Rattle.pdo.specs.declared.PdoDirection.{PdoDirection}
 use Rattle.passes.specs.declared.FmmuMode.{FmmuMode}
 use Rattle.passes.specs.declared.Chosen.{Chosen}
@@ -18,6 +20,12 @@ use Rattle.passes.specs.Pass.{wanted_refusals}
 use Rattle.passes.specs.Call.{wanted_of_both}
 use Rattle.passes.specs.Handed.{sizes_of, wanted_from}
 use Rattle.wanted.specs.Wanted.{wanting_refusals}
+
+-- the bytes that are kept of a sheet are its own, and keep the rules
+pub sound-bytes : (s t : List ℕ) → accepted t ≡ decide (sheet_refusals s) s → (t ≡ s) × Checked t (Ok tt)
+sound-bytes s t e =
+    let is = passed-answer (sheet_refusals s) s t e in
+    (is, subst (λ (x : List ℕ). Checked x (Ok tt)) (sym is) (sym (passed (sheet_refusals s) s t (accepted tt) e)))
 
 -- none of the first refusals holds where none of all does
 front : {A : Type 0} (rs : List Refusal) (o : Outcome A) (b : A) → accepted b ≡ first rs o → accepted tt ≡ decide {A = Unit {0}} rs tt

@@ -17,7 +17,7 @@ use Rattle.wanted.proofs.bad_pairs.Goals.{then-number_above, else-number_above, 
 pub returns-then-those : goal.returns-then-those
 returns-then-those c =
     let a = c.args in
-    let m : List SyncManager = (sheet_data a.sheet.now).managers in
+    let m : List SyncManager = (sheet_data a.sound.now.bytes.now).managers in
     let x = c.survey-these.result in
     let y = c.survey-those.result in
     let e = c.of_usage.ensures ∙ ap (λ (t : Terms). of_usage m t.usage a.bits) c.filter_terms-inputs.ensures in
@@ -40,7 +40,7 @@ returns-then-those c =
 pub returns-else-those : goal.returns-else-those
 returns-else-those c =
     let a = c.args in
-    let m : List SyncManager = (sheet_data a.sheet.now).managers in
+    let m : List SyncManager = (sheet_data a.sound.now.bytes.now).managers in
     let x = c.survey-these.result in
     let y = c.survey-those.result in
     let e = c.of_usage.ensures ∙ ap (λ (t : Terms). of_usage m t.usage a.bits) c.filter_terms-inputs.ensures in

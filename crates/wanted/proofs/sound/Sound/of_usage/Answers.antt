@@ -1,9 +1,9 @@
--- `wanted::of_usage`: what is picked so far, and nothing yet of the numbers ahead.
+-- `wanted::sound::Sound::of_usage`: what is picked so far, and nothing yet of the numbers ahead.
 -- Assumes nothing.
 use native.Mathlib.Omega.{arith}
 use Rattle.wanted.proofs.Apart.{picked-start, picked-here, picked-on, picked-end}
-use Rattle.wanted.proofs.of_usage.Goals as goal
-use Rattle.wanted.proofs.of_usage.Goals.{then-usage_of-usage, else-usage_of-usage}
+use Rattle.wanted.proofs.sound.Sound.of_usage.Goals as goal
+use Rattle.wanted.proofs.sound.Sound.of_usage.Goals.{then-usage_of-usage, else-usage_of-usage}
 
 pub loop-k-init : goal.loop-k-init
 loop-k-init c = picked-start _ _ _

@@ -1,9 +1,9 @@
--- `wanted::sum_bytes`: no byte is above 255.
+-- `wanted::sound::sum_bytes`: no byte is above 255.
 -- Assumes nothing.
 use Rattle.std.proofs.Common.{rules, arith, ◌≡◌, ℕ, map}
 use Rattle.std.specs.List.{sum}
 use Rattle.wanted.proofs.Sums.{sum-is, bytes-most}
-use Rattle.wanted.proofs.sum_bytes.Goals as goal
+use Rattle.wanted.proofs.sound.sum_bytes.Goals as goal
 
 pub returns : goal.returns
 returns c =
