@@ -6,31 +6,26 @@ use mathlib.Core.List.{List, [], ◌∷◌, ◌++◌, map}
 use mathlib.Core.Logic.{inl}
 use Prim.Native.Nat.{ℕ, ◌+◌, ◌<◌, ◌≤◌, min}
 use native.Mathlib.Omega.{arith}
-use lib.ListN.{length, get_or, drop, length-map, get_or-eq_default}
-use Rattle.std.specs.Prelude.{Option, Some, None}
+use lib.ListN.{length, get_or, length-map, get_or-eq_default}
+use Rattle.std.specs.Prelude.{Some, None}
 use Rattle.wire.specs.Lists.{some_of}
 use Rattle.wire.proofs.Lists.{at_none}
-use Rattle.pdi.specs.declared.ByteLen.{ByteLen}
 use Rattle.fmmu.specs.Image.{fields_of}
-use Rattle.sheet.specs.declared.SyncManager.{SyncManager}
-use Rattle.sheet.specs.Sheet.{manager_count, manager_place, manager_at, managers_in}
-use Rattle.sheet.proofs.Managers.{front-manager, front-over}
+use Rattle.sheet.specs.Sheet.{manager_count}
 use Rattle.pdo.specs.declared.PdoDirection.{PdoDirection}
 use Rattle.pdo.specs.declared.PdoDirection.TheVariants.{MasterRead, MasterWrite}
-use Rattle.pdo.specs.Direction.{usage_of}
-use Rattle.channels.specs.Channels.{size_at}
 use Rattle.passes.specs.declared.OldEntries.{OldEntries}
 use Rattle.passes.specs.declared.OldEntries.TheVariants.{Clear, Keep}
-use Rattle.passes.specs.declared.Route.{Route}
 use Rattle.passes.specs.Use.{Use}
-use Rattle.passes.specs.Handed.{uses_by, Short}
+use Rattle.passes.specs.Handed.{Short}
 use Rattle.passes.specs.Entries.{length_now, too_long, uses_of_both}
 use Rattle.passes.specs.Old.{cleared_of_both, both_bits, some_enabled, in_the_way}
 use Rattle.passes.proofs.Cleared.{nil-off, none-used, zeros-all-off, cleared_at, length-off, cleared-short, from_zero, cleared-eight}
-use Rattle.entries.specs.Lay.{entry_taken}
+use Rattle.entries.specs.declared.uses.Uses.{Uses}
+use Rattle.entries.specs.Lay.{entry_used, uses_of}
 use Rattle.entries.specs.Ready.{on, zero_entries, ready, Readies}
 use Rattle.entries.proofs.Clearing.{some-both-kept, none-both}
-use Rattle.entries.proofs.Uses.{uses_at, uses-end, uses-other, with_taken, uses-taken}
+use Rattle.entries.proofs.Taken.{uses_at, uses-end, uses-next}
 
 -- a number past the last one is no entry
 pub past_off : (es : List (List ℕ)) (k : ℕ) → length es ≡ 16 → 16 ≤ k → false ≡ on (get_or es k [])
@@ -38,60 +33,35 @@ unfolding fields_of
 past_off es k many h = ap on (sym (get_or-eq_default es [] (omega arith)))
 
 -- whether an entry of the sync managers from the number k on is enabled
-abbrev enabled_from : List ℕ → Route → List ByteLen → ℕ → List (List ℕ) → ℕ → Bool
-enabled_from sheet route sizes usage es k = some_enabled (uses_at route sizes usage (managers_in sheet) k) es
+abbrev enabled_from : Uses → List (List ℕ) → ℕ → Bool
+enabled_from u es k = some_enabled (uses_at u k) es
 
 -- before the number k none is
-pub record NoneYet (sheet : List ℕ) (route : Route) (sizes : List ByteLen) (usage : ℕ) (es : List (List ℕ)) (k : ℕ) : Type 0 where
-  pub same : enabled_from sheet route sizes usage es k ≡ enabled_from sheet route sizes usage es 0
+pub record NoneYet (u : Uses) (es : List (List ℕ)) (k : ℕ) : Type 0 where
+  pub same : enabled_from u es k ≡ enabled_from u es 0
 
-pub none-asked : {sheet : List ℕ} {route : Route} {sizes : List ByteLen} {usage : ℕ} {es : List (List ℕ)} → NoneYet sheet route sizes usage es 0
+pub none-asked : {u : Uses} {es : List (List ℕ)} → NoneYet u es 0
 none-asked = record { same = refl }
 
-module _ {sheet : List ℕ} {route : Route} {sizes : List ByteLen} {usage : ℕ} {es : List (List ℕ)} {k : ℕ} (y : NoneYet sheet route sizes usage es k) where
-  -- what is asked, by the direction whose usage it is
-  abbrev Asked : Bool → Type 0
-  Asked b = (r : PdoDirection) → usage ≡ usage_of r → b ≡ some_enabled (uses_by route sizes r (managers_in sheet)) es
+module _ {u : Uses} {es : List (List ℕ)} {k : ℕ} (y : NoneYet u es k) where
+  pub none-enabled : min (manager_count u.sheet.now) 16 ≤ k → false ≡ some_enabled (uses_of u) es
+  none-enabled h = sym (ap (λ (us : List Use). some_enabled us es) (uses-end u k h)) ∙ y.same
 
-  answered : {b : Bool} → b ≡ enabled_from sheet route sizes usage es 0 → Asked b
-  answered e r u = e ∙ ap (λ (n : ℕ). enabled_from sheet route sizes n es 0) u
+  module _ (h : k < min (manager_count u.sheet.now) 16) where
+    -- it uses no entry
+    pub skip-passed : entry_used u k ≡ None → NoneYet u es (k + 1)
+    skip-passed t = record { same = ap (λ (us : List Use). some_enabled us es) (sym (uses-next u k h t)) ∙ y.same }
 
-  pub none-enabled : min (manager_count sheet) 16 ≤ k → Asked false
-  none-enabled h = answered (sym (ap (λ (us : List Use). some_enabled us es) (uses-end route sizes usage (managers_in sheet) k (front-over sheet k h))) ∙ y.same)
+    -- its entry is enabled, or not
+    module _ {e : ℕ} (t : entry_used u k ≡ Some e) where
+      asked : on (get_or es e []) || enabled_from u es (k + 1) ≡ enabled_from u es 0
+      asked = ap (λ (us : List Use). some_enabled us es) (sym (uses-next u k h t)) ∙ y.same
 
-  module _ (h : k < min (manager_count sheet) 16) where
-    abbrev m : SyncManager
-    m = manager_at sheet (manager_place k)
+      pub enabled-found : on (get_or es e []) ≡ true → true ≡ some_enabled (uses_of u) es
+      enabled-found o = sym (ap (λ (b : Bool). b || enabled_from u es (k + 1)) o) ∙ asked
 
-    next : drop k (managers_in sheet) ≡ m ∷ drop (k + 1) (managers_in sheet)
-    next = front-manager sheet k (omega arith) (omega arith)
-
-    passes_over : uses_at route sizes usage (managers_in sheet) k ≡ uses_at route sizes usage (managers_in sheet) (k + 1) → NoneYet sheet route sizes usage es (k + 1)
-    passes_over e = record { same = ap (λ (us : List Use). some_enabled us es) (sym e) ∙ y.same }
-
-    -- of another usage
-    pub other-passed : (m.usage_type ≡ usage → ⊥) → NoneYet sheet route sizes usage es (k + 1)
-    other-passed d = passes_over (uses-other route sizes usage (managers_in sheet) k m next d)
-
-    module _ (used : m.usage_type ≡ usage) {size : ℕ} (s : size ≡ size_at sizes k) where
-      taken : {t : Option ℕ} → entry_taken route k size ≡ t
-          → uses_at route sizes usage (managers_in sheet) k ≡ with_taken t (size_at sizes k) m.start_addr (uses_at route sizes usage (managers_in sheet) (k + 1))
-      taken t = uses-taken route sizes usage (managers_in sheet) k m next used (sym (ap (entry_taken route k) s) ∙ t)
-
-      -- it takes no entry
-      pub skip-passed : entry_taken route k size ≡ None → NoneYet sheet route sizes usage es (k + 1)
-      skip-passed t = passes_over (taken t)
-
-      -- its entry is enabled, or not
-      module _ {e : ℕ} (t : entry_taken route k size ≡ Some e) where
-        asked : on (get_or es e []) || enabled_from sheet route sizes usage es (k + 1) ≡ enabled_from sheet route sizes usage es 0
-        asked = ap (λ (us : List Use). some_enabled us es) (sym (taken t)) ∙ y.same
-
-        pub enabled-found : on (get_or es e []) ≡ true → Asked true
-        enabled-found o = answered (sym (ap (λ (b : Bool). b || enabled_from sheet route sizes usage es (k + 1)) o) ∙ asked)
-
-        pub free-passed : on (get_or es e []) ≡ false → NoneYet sheet route sizes usage es (k + 1)
-        free-passed o = record { same = sym (ap (λ (b : Bool). b || enabled_from sheet route sizes usage es (k + 1)) o) ∙ asked }
+      pub free-passed : on (get_or es e []) ≡ false → NoneYet u es (k + 1)
+      free-passed o = record { same = sym (ap (λ (b : Bool). b || enabled_from u es (k + 1)) o) ∙ asked }
 
 -- of both directions together: one that the inputs use, else one that the outputs use
 of_two : (us vs : List Use) (es : List (List ℕ)) → some_enabled us es || some_enabled vs es ≡ some_enabled (us ++ vs) es

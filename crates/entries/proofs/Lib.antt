@@ -1,5 +1,5 @@
 -- Laws that belong to no one function, each said once.
-pub mod Uses
+pub mod Taken
 pub mod Entry
 pub mod Laying
 pub mod Turn

@@ -25,6 +25,13 @@ pub starts-near : (how : OutputStart) (given end bound : ℕ) → given < bound 
 starts-near Given given end bound g e = g
 starts-near AfterInputs given end bound g e = e
 
+-- by another name
+pub lays-as :
+    {q r : PdoDirection} {start : ℕ} {us vs : List Use} {before after : List (List ℕ)} {said : Result ℕ Reason} → q ≡ r → us ≡ vs → Lays q start us before said after
+    → Lays r start vs before said after
+lays-as {q} {r} {start} {us} {vs} {before} {after} {said} d e l =
+    subst (λ (x : PdoDirection). Lays x start vs before said after) d (subst (λ (x : List Use). Lays q start x before said after) e l)
+
 -- a direction that was found too long
 pub laid-stops :
     {A : Type 0} {r : PdoDirection} {start : ℕ} {us : List Use} {before after : List (List ℕ)} {n : Reason} (o : Outcome A) → Lays r start us before (Err n) after

@@ -1,27 +1,39 @@
 -- What the parts of writing the entries promise one another: a use, the uses of a direction and of both, the segments.
 -- Assumes nothing.
-use Rattle.std.specs.Prelude.{◌≡◌, Bool, cond, ◌&&◌, ◌||◌, List, [], ◌∷◌, ℕ, ◌+◌, ◌-◌, ◌*◌, ◌≤◌, ltb, Result, Ok, Err, Option, Some, None}
+use Rattle.std.specs.Prelude.{◌≡◌, Bool, cond, ◌&&◌, ◌||◌, List, [], ◌∷◌, ℕ, ◌+◌, ◌-◌, ◌*◌, ◌≤◌, eqb, ltb, Result, Ok, Err, Option, Some, None}
 use Rattle.wire.specs.declared.Reason.{Reason}
 use Rattle.fmmu.specs.declared.Fmmu.{Fmmu}
 use Rattle.wire.specs.Outcome.{Outcome, refused, accepted, when, decide, outcome_by}
 use Rattle.pdi.specs.Offset.{past_end}
 use Rattle.pdi.specs.Segment.{segment}
+use Rattle.sheet.specs.Sheet.{manager_place, manager_at, managers_in}
 use Rattle.pdo.specs.declared.PdoDirection.{PdoDirection}
 use Rattle.pdo.specs.declared.PdoDirection.TheVariants.{MasterRead, MasterWrite}
+use Rattle.pdo.specs.Direction.{usage_of}
+use Rattle.channels.specs.Channels.{size_at}
 use Rattle.passes.specs.declared.OldEntries.TheVariants.{Keep}
 use Rattle.passes.specs.declared.Both as two
 use Rattle.passes.specs.declared.OutputStart.{OutputStart}
 use Rattle.passes.specs.declared.Route.{Route}
 use Rattle.passes.specs.declared.Route.TheVariants.{Own, Given}
 use Rattle.passes.specs.Use.{Use, total}
-use Rattle.passes.specs.Handed.{entry_by, no_room}
+use Rattle.passes.specs.Handed.{entry_by, uses_by, no_room}
 use Rattle.passes.specs.Start.{offset_of, outputs_from, is_given, of_either, start_of, end_of, Planned, Both, Offsets}
+use Rattle.entries.specs.declared.uses.Uses.{Uses}
 use Rattle.passes.specs.Entries.{grown, with_use, plan, too_long, uses_of_both, totals, plan_both}
 
 -- the entry that a sync manager with a number and a size uses by a route: its own, or with bits the one that is given
 abbrev pub entry_taken : Route → ℕ → ℕ → Option ℕ
 entry_taken Own number size = Some number
 entry_taken (Given entries) number size = cond (ltb 0 size) (Some (entry_by entries number)) None
+
+-- of a direction: the sync manager with a number uses none where its usage is another
+abbrev pub entry_used : Uses → ℕ → Option ℕ
+entry_used u k = cond (eqb (manager_at u.sheet.now (manager_place k)).usage_type (usage_of u.direction)) (entry_taken u.route k (size_at u.sizes k)) None
+
+-- its uses, one after another
+abbrev pub uses_of : Uses → List Use
+uses_of u = uses_by u.route u.sizes u.direction (managers_in u.sheet.now)
 
 abbrev pub use_at : ℕ → ℕ → ℕ → Use
 use_at e size at = record { entry = e; size = size; at = at }

@@ -4,18 +4,20 @@
 ghost use Rattle.std.specs.Prelude.{◌≡◌, ◌<◌, ◌≤◌, length};
 ghost use Rattle.wire.specs.Outcome.{outcome_by};
 ghost use Rattle.sheet.specs.Sheet.{managers_in};
-ghost use Rattle.passes.specs.Handed.{uses_by, uses_by_both, Short};
+ghost use Rattle.passes.specs.Handed.{uses_by_both, Short};
 ghost use Rattle.passes.specs.Start.{outputs_from, planned_of, configured_of};
 ghost use Rattle.passes.specs.Entries as Entries;
 ghost use Rattle.passes.specs.Entries.{WritesEntries};
-ghost use Rattle.entries.specs.Lay.{entry_taken, use_at, grown_to, laid_one, Lays, laid_both, ends_of, standing, standing_to};
+ghost use Rattle.entries.specs.Lay.{use_at, uses_of, grown_to, laid_one, Lays, laid_both, ends_of, standing, standing_to};
 
 mod ready;
+mod uses;
 
 use fmmu::Fmmu;
-use passes::{Both, Mapping, OutputStart, Route, Settings, Wanted};
+use passes::{Both, Mapping, OutputStart, Settings, Wanted};
 use pdi::{ByteLen, PdiOffset, PdiSegment};
 use pdo::PdoDirection;
+use uses::Uses;
 use wire::Reason;
 
 // An enabled entry only has the size added, or has no room for it.
@@ -51,18 +53,6 @@ fn mapped(start: u32, size: ByteLen, at: u16, direction: PdoDirection) -> Fmmu
     }
 }
 
-// The entry that the sync manager with a number and a size uses: its own even at 0 bits, a given one only with bits.
-fn entry_of(route: Route, number: u8, size: ByteLen) -> Option<usize>
-    requires { number < 16 }
-    ensures { result ≡ entry_taken route number size.0 }
-{
-    match route {
-        Route::Own => Some(usize::from(number)),
-        Route::Given(entries) if 0 < size.0 => Some(usize::from(entries[usize::from(number)])),
-        Route::Given(_) => None,
-    }
-}
-
 // Lays one sync manager into its entry; a number past the last one is no entry.
 fn lay_one(
     entries: &mut [[u8; 16]; 16],
@@ -87,29 +77,20 @@ fn lay_one(
     Ok(())
 }
 
-// Lays the sync managers of the direction one after another into the entries, from a start on. Answers where they end, exactly; or 8.
-fn lay(
-    entries: &mut [[u8; 16]; 16],
-    sheet: &[u8],
-    sizes: [ByteLen; 16],
-    route: Route,
-    start: u64,
-    direction: PdoDirection,
-) -> Result<u64, Reason>
+// Lays the uses of a direction one after another into the entries, from a start on. Answers where they end, exactly; or 8.
+fn lay(entries: &mut [[u8; 16]; 16], uses: &Uses, start: u64) -> Result<u64, Reason>
     requires { Short entries.old × (start < 0x2_0000_0000) }
-    ensures { Lays direction start (uses_by route sizes direction (managers_in sheet.now)) entries.old result entries.new }
+    ensures { Lays uses.now.direction start (uses_of uses.now) entries.old result entries.new }
 {
-    let usage = direction.filter_terms().usage;
     let mut end = start;
-    for k in 0..sheet::front_count(sheet) {
-        if sheet::usage_of(sheet, k) == usage {
-            let size = sizes[usize::from(k)];
-            if let Some(e) = entry_of(route, k, size) {
-                // 9 is judged after 8: until then the start may be past the last address
-                let from = (end % 0x1_0000_0000) as u32;
-                lay_one(entries, e, from, size, sheet::start_of(sheet, k), direction)?;
-                end += size.0 as u64;
-            }
+    for k in 0..sheet::front_count(uses.sheet) {
+        if let Some(e) = uses.entry(k) {
+            let size = uses.sizes[usize::from(k)];
+            // 9 is judged after 8: until then the start may be past the last address
+            let from = (end % 0x1_0000_0000) as u32;
+            let at = sheet::start_of(uses.sheet, k);
+            lay_one(entries, e, from, size, at, uses.direction)?;
+            end += size.0 as u64;
         }
     }
     Ok(end)
@@ -136,26 +117,12 @@ fn lay_both(
     requires { Short entries.old }
     ensures { ends_of result entries.new ≡ laid_both how offsets (uses_by_both wanted (managers_in sheet.now)) entries.old }
 {
-    let sizes = wanted.sizes;
-    let routes = wanted.routes;
     let from = u64::from(offsets.inputs.start_address);
-    let inputs = lay(
-        entries,
-        sheet,
-        sizes,
-        routes.inputs,
-        from,
-        PdoDirection::MasterRead,
-    )?;
+    let read = Uses::of(sheet, wanted, PdoDirection::MasterRead);
+    let inputs = lay(entries, &read, from)?;
     let start = outputs_from(how, u64::from(offsets.outputs.start_address), inputs);
-    let outputs = lay(
-        entries,
-        sheet,
-        sizes,
-        routes.outputs,
-        start,
-        PdoDirection::MasterWrite,
-    )?;
+    let written = Uses::of(sheet, wanted, PdoDirection::MasterWrite);
+    let outputs = lay(entries, &written, start)?;
     Ok(Both { inputs, outputs })
 }
 

@@ -5,13 +5,13 @@ ghost use Rattle.fmmu.specs.Image.{fields_of};
 ghost use Rattle.sheet.specs.Sheet.{managers_in};
 ghost use Rattle.passes.specs.Old.{cleared_of_both, both_bits, some_enabled};
 ghost use Rattle.passes.specs.Entries.{uses_of_both};
-ghost use Rattle.passes.specs.Handed.{uses_by, uses_by_both};
+ghost use Rattle.passes.specs.Handed.{uses_by_both};
+ghost use Rattle.entries.specs.Lay.{uses_of};
 ghost use Rattle.entries.specs.Ready.{on, old_one, Readies};
 
-use crate::entry_of;
+use crate::uses::Uses;
 use fmmu::Fmmu;
-use passes::{OldEntries, Route, Wanted};
-use pdi::ByteLen;
+use passes::{OldEntries, Wanted};
 use pdo::PdoDirection;
 
 // Whether an entry is an old one: enabled, with one direction's bit alone.
@@ -62,24 +62,15 @@ fn enabled_at(entries: &[[u8; 16]; 16], e: usize) -> bool
     e < 16 && Fmmu::unpack(entries[e]).enable
 }
 
-// Whether an entry that a sync manager of the direction uses is enabled.
-fn some_enabled(
-    entries: &[[u8; 16]; 16],
-    sheet: &[u8],
-    sizes: [ByteLen; 16],
-    route: Route,
-    direction: PdoDirection,
-) -> bool
+// Whether an entry that a direction uses is enabled.
+fn some_enabled(entries: &[[u8; 16]; 16], uses: &Uses) -> bool
     requires { length entries.now ≡ 16 }
-    ensures { result ≡ some_enabled (uses_by route sizes direction (managers_in sheet.now)) entries.now }
+    ensures { result ≡ some_enabled (uses_of uses.now) entries.now }
 {
-    let usage = direction.filter_terms().usage;
-    for k in 0..sheet::front_count(sheet) {
-        if sheet::usage_of(sheet, k) == usage {
-            if let Some(e) = entry_of(route, k, sizes[usize::from(k)]) {
-                if enabled_at(entries, e) {
-                    return true;
-                }
+    for k in 0..sheet::front_count(uses.sheet) {
+        if let Some(e) = uses.entry(k) {
+            if enabled_at(entries, e) {
+                return true;
             }
         }
     }
@@ -91,21 +82,8 @@ fn some_wanted(entries: &[[u8; 16]; 16], sheet: &[u8], wanted: Wanted) -> bool
     requires { length entries.now ≡ 16 }
     ensures { result ≡ some_enabled (uses_of_both (uses_by_both wanted (managers_in sheet.now))) entries.now }
 {
-    let sizes = wanted.sizes;
-    let routes = wanted.routes;
-    some_enabled(
-        entries,
-        sheet,
-        sizes,
-        routes.inputs,
-        PdoDirection::MasterRead,
-    ) || some_enabled(
-        entries,
-        sheet,
-        sizes,
-        routes.outputs,
-        PdoDirection::MasterWrite,
-    )
+    some_enabled(entries, &Uses::of(sheet, wanted, PdoDirection::MasterRead))
+        || some_enabled(entries, &Uses::of(sheet, wanted, PdoDirection::MasterWrite))
 }
 
 // 15 of cleared entries: whether one has both bits, or is one that the call uses and still enabled.

@@ -3,10 +3,8 @@
 use mathlib.Core.Path.{◌≡◌}
 use Prim.Native.Nat.{min}
 use Rattle.grammar.specs.Grammar.{manager_count}
-use Rattle.pdo.specs.Direction.{usage_of}
 use Rattle.entries.proofs.Turn.{At}
 use Rattle.entries.proofs.lay.Given as goal
 
 abbrev pub invariant-loop-k : goal.invariant-loop-k
-invariant-loop-k l =
-    (l.k-end ≡ min (manager_count l.sheet) 16) × (l.usage ≡ usage_of l.direction) × At l.sheet l.route l.sizes l.direction l.start l.initial.entries l.k l.end l.entries
+invariant-loop-k l = (l.k-end ≡ min (manager_count l.uses.sheet.now) 16) × At l.uses l.start l.initial.entries l.k l.end l.entries

@@ -7,4 +7,4 @@ use Rattle.entries.proofs.Blocked.{NoneYet}
 use Rattle.entries.proofs.ready.some_enabled.Given as goal
 
 abbrev pub invariant-loop-k : goal.invariant-loop-k
-invariant-loop-k l = (l.k-end ≡ min (manager_count l.sheet) 16) × NoneYet l.sheet l.route l.sizes l.usage l.entries l.k
+invariant-loop-k l = (l.k-end ≡ min (manager_count l.uses.sheet.now) 16) × NoneYet l.uses l.entries l.k
