@@ -1,7 +1,7 @@
 // The FMMU entries of a call: `write_fmmu_config` of configuration.rs, over a whole area.
 #![tactic(auto)]
 
-ghost use Rattle.std.specs.Prelude.{◌≡◌, ◌<◌, ◌≤◌, length};
+ghost use Rattle.std.specs.Prelude.{◌≡◌, ◌<◌, ◌≤◌};
 ghost use Rattle.wire.specs.Outcome.{outcome_by};
 ghost use Rattle.sheet.specs.Sheet.{managers_in};
 ghost use Rattle.passes.specs.Handed.{uses_by_both, Short};
@@ -62,7 +62,6 @@ fn lay_one(
     at: u16,
     direction: PdoDirection,
 ) -> Result<(), Reason>
-    requires { length entries.old ≡ 16 }
     ensures { outcome_by (λ u. entries.new) result ≡ laid_one direction start (use_at e size.0 at) entries.old }
 {
     if e < 16 {

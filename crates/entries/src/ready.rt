@@ -1,5 +1,5 @@
 // Old entries, before a call is laid: those of both directions are cleared, and it is found whether another is in the way.
-ghost use Rattle.std.specs.Prelude.{◌≡◌, ◌||◌, length, get_or, [], map};
+ghost use Rattle.std.specs.Prelude.{◌≡◌, ◌||◌, get_or, [], map};
 ghost use Rattle.std.specs.List.{list_any};
 ghost use Rattle.fmmu.specs.Image.{fields_of};
 ghost use Rattle.sheet.specs.Sheet.{managers_in};
@@ -56,7 +56,6 @@ fn clear_old(entries: &mut [[u8; 16]; 16])
 
 // Whether the entry with a number is enabled; a number past the last one is no entry.
 fn enabled_at(entries: &[[u8; 16]; 16], e: usize) -> bool
-    requires { length entries.now ≡ 16 }
     ensures { result ≡ (fields_of (get_or entries.now e [])).enable }
 {
     e < 16 && Fmmu::unpack(entries[e]).enable
@@ -64,7 +63,6 @@ fn enabled_at(entries: &[[u8; 16]; 16], e: usize) -> bool
 
 // Whether an entry that a direction uses is enabled.
 fn some_enabled(entries: &[[u8; 16]; 16], uses: &Uses) -> bool
-    requires { length entries.now ≡ 16 }
     ensures { result ≡ some_enabled (uses_of uses.now) entries.now }
 {
     for k in 0..sheet::front_count(uses.sheet) {
@@ -79,7 +77,6 @@ fn some_enabled(entries: &[[u8; 16]; 16], uses: &Uses) -> bool
 
 // Whether an entry that either direction uses is enabled.
 fn some_wanted(entries: &[[u8; 16]; 16], sheet: &[u8], wanted: Wanted) -> bool
-    requires { length entries.now ≡ 16 }
     ensures { result ≡ some_enabled (uses_of_both (uses_by_both wanted (managers_in sheet.now))) entries.now }
 {
     some_enabled(entries, &Uses::of(sheet, wanted, PdoDirection::MasterRead))
@@ -88,7 +85,6 @@ fn some_wanted(entries: &[[u8; 16]; 16], sheet: &[u8], wanted: Wanted) -> bool
 
 // 15 of cleared entries: whether one has both bits, or is one that the call uses and still enabled.
 fn is_blocked(entries: &[[u8; 16]; 16], sheet: &[u8], wanted: Wanted) -> bool
-    requires { length entries.now ≡ 16 }
     ensures { result ≡ list_any both_bits entries.now || some_enabled (uses_of_both (uses_by_both wanted (managers_in sheet.now))) entries.now }
 {
     some_left(entries) && (some_both(entries) || some_wanted(entries, sheet, wanted))
@@ -101,7 +97,6 @@ pub(crate) fn make_ready(
     wanted: Wanted,
     old: OldEntries,
 ) -> bool
-    requires { length entries.old ≡ 16 }
     ensures { Readies old (uses_of_both (uses_by_both wanted (managers_in sheet.now))) entries.old entries.new result }
 {
     if let OldEntries::Keep = old {
