@@ -87,6 +87,10 @@ pub fn pdos_place(sheet: &[u8]) -> usize
 pub fn rule_broken(sheet: &[u8]) -> bool
     ensures { result ≡ broken sheet.now }
 {
+    // asked once, so that no byte of the head is asked for anew
+    if sheet.len() < HEAD_BYTES {
+        return true;
+    }
     let n = manager_count(sheet);
     let f = usage_count(sheet);
     let pdos = pdos_place(sheet);
@@ -101,9 +105,16 @@ pub fn rule_broken(sheet: &[u8]) -> bool
 
 // Whether some sync manager has a usage that isn't 0 to 4.
 fn some_manager_wrong(sheet: &[u8]) -> bool
+    requires { usages_place sheet.now ≤ length sheet.now }
     ensures { result ≡ some_manager_wrong sheet.now }
 {
-    (0..manager_count(sheet)).any(|k| 4 < wire::byte_at(sheet, manager_place(k) + USAGE))
+    // by number: chunks cost an instruction more for each
+    for k in 0..manager_count(sheet) {
+        if 4 < sheet[manager_place(k) + USAGE] {
+            return true;
+        }
+    }
+    false
 }
 
 // Whether some FMMU usage isn't 0 to 3.
@@ -121,11 +132,18 @@ fn pdos_fit(bytes: &[u8], p: u8, at: usize) -> bool
     requires { at ≤ 1541 }
     ensures { result ≡ pdos_fit bytes.now p at }
 {
-    // past the end there is 0: what stands there may be a record, but it never ends where the bytes do
+    // a head stands whole up to here; a record that ends past the bytes leaves none there, nor an end
+    let Some(last) = bytes.len().checked_sub(PDO_BYTES) else {
+        return p == 0 && at == bytes.len();
+    };
     let mut place = at;
     for _ in 0..p {
-        let m = wire::byte_at(bytes, place + PDO_COUNT);
-        if !kind_fits(wire::byte_at(bytes, place), m) {
+        // one test, and its bytes by index: `get` would ask too that the place doesn't wrap
+        if last < place {
+            return false;
+        }
+        let m = bytes[place + PDO_COUNT];
+        if !kind_fits(bytes[place], m) {
             return false;
         }
         place += PDO_BYTES + usize::from(m);
@@ -146,7 +164,8 @@ pub fn pdos_end(bytes: &[u8], p: u8) -> usize
 {
     let mut place = 0;
     for _ in 0..p {
-        place += PDO_BYTES + usize::from(wire::byte_at(bytes, place + PDO_COUNT));
+        // one sum: with `+=` each record costs two instructions more
+        place = place + PDO_BYTES + usize::from(wire::byte_at(bytes, place + PDO_COUNT));
     }
     place
 }

@@ -19,16 +19,16 @@ use Rattle.sheet.specs.declared.SyncManager.{SyncManager}
 use Rattle.sheet.specs.Sheet.{manager_count, usage_count, manager_place, usages_place, manager_at, some_unnamed, sheet_data, managers_in, no_manager, managers_of}
 
 -- a question of the elements of a list by number, asked of each number
-pub some-numbered : {A : Type 0} (f : A → Bool) (g : ℕ → A) (n : ℕ) → some_of (λ k. f (g k)) (range_with_len 0 n) ≡ some_of f (list_of g n)
+pub some-listed : {A : Type 0} (f : A → Bool) (g : ℕ → A) (n : ℕ) → some_below (λ k. f (g k)) n ≡ some_of f (list_of g n)
 unfolding some_below list_of
-some-numbered {A} f g n = some-number (λ k. f (g k)) n ∙ listed n
-  where
-    listed : (n : ℕ) → some_below (λ k. f (g k)) n ≡ some_of f (list_of g n)
-    listed zero = refl
-    listed (suc n) =
-        ap (λ (b : Bool). b || f (g n)) (listed n)
-        ∙ ap (λ (b : Bool). some_of f (list_of g n) || b) (sym (or-false (f (g n))))
-        ∙ sym (list_any-append f (list_of g n) (g n ∷ []))
+some-listed f g zero = refl
+some-listed f g (suc n) =
+    ap (λ (b : Bool). b || f (g n)) (some-listed f g n)
+    ∙ ap (λ (b : Bool). some_of f (list_of g n) || b) (sym (or-false (f (g n))))
+    ∙ sym (list_any-append f (list_of g n) (g n ∷ []))
+
+pub some-numbered : {A : Type 0} (f : A → Bool) (g : ℕ → A) (n : ℕ) → some_of (λ k. f (g k)) (range_with_len 0 n) ≡ some_of f (list_of g n)
+some-numbered f g n = some-number (λ k. f (g k)) n ∙ some-listed f g n
 
 -- a row of a list, by number
 pub row-numbered : (s : List ℕ) (at n : ℕ) → at + n ≤ length s → take n (drop at s) ≡ list_of (λ k. get_or s (at + k) 0) n
@@ -118,9 +118,9 @@ module _ (s : List ℕ) where
   usage-end k h = number-end usage_at (usage_count s) k h
 
   -- whether some control is unnamed, asked of each number
-  pub unnamed-numbered : some_of (λ k. unnamed (manager_at s (manager_place k)).control) (range_with_len 0 (manager_count s)) ≡ some_unnamed (sheet_data s).managers
+  pub unnamed-numbered : some_below (λ k. unnamed (manager_at s (manager_place k)).control) (manager_count s) ≡ some_unnamed (sheet_data s).managers
   unfolding sheet_data some_unnamed
-  unnamed-numbered = some-numbered (λ m. unnamed m.control) at_number (manager_count s)
+  unnamed-numbered = some-listed (λ m. unnamed m.control) at_number (manager_count s)
 
   -- a turn of the loop that gathers them
   pub gathered : {k i : ℕ} {m : SyncManager} {l : List SyncManager} → k < 16 → l ≡ managers_of s k → i ≡ k → m ≡ manager_at s (manager_place k) → set l i m ≡ managers_of s (k + 1)

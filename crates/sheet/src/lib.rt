@@ -4,7 +4,7 @@
 ghost use Rattle.std.specs.Prelude.{◌≡◌, false, min, ◌+◌, ◌≤◌, length};
 ghost use Rattle.wire.specs.Outcome.{decide};
 ghost use Rattle.wire.specs.Number.{big_at};
-ghost use Rattle.grammar.specs.Grammar.{manager_count, manager_place, broken};
+ghost use Rattle.grammar.specs.Grammar.{manager_count, manager_place, usages_place, broken};
 ghost use Rattle.sheet.specs.Sheet.{manager_at, some_unnamed, sheet_refusals, sheet_data, managers_of, usages_of, device_of, answer_of, ReadsAs};
 
 use channel_bytes::{Control, Direction, OperationMode};
@@ -55,9 +55,17 @@ pub const NO_MANAGER: SyncManager = SyncManager {
 
 // Whether some control has an unnamed mode or direction.
 fn some_unnamed(sheet: &[u8]) -> bool
+    requires { usages_place sheet.now ≤ length sheet.now }
     ensures { result ≡ some_unnamed (sheet_data sheet.now).managers }
 {
-    (0..grammar::manager_count(sheet)).any(|k| control_of(sheet, k).unnamed())
+    // by number: chunks cost an instruction more for each
+    for k in 0..grammar::manager_count(sheet) {
+        let control = sheet[grammar::manager_place(k) + grammar::CONTROL];
+        if Control::unpack(control).unnamed() {
+            return true;
+        }
+    }
+    false
 }
 
 // Whether a sheet keeps every rule; if not, the first of the reasons 2 to 5 that holds.
@@ -67,7 +75,7 @@ pub fn check(sheet: &[u8]) -> Result<(), Reason>
     if grammar::wrong_length(sheet) {
         return Err(Reason::SheetLength);
     }
-    if wire::byte_at(sheet, 2) != 1 {
+    if sheet[2] != 1 {
         return Err(Reason::SheetVersion);
     }
     if grammar::rule_broken(sheet) {

@@ -11,9 +11,9 @@ pub loop-preserved : goal.loop-preserved
 loop-preserved c =
     let l = c.loop in
     let s = c.args.bytes.now in
-    let next : l.place + (5 + c.from.result) ≡ next_pdo s l.place = omega arith in
+    let next : l.place + 5 + c.from.result ≡ next_pdo s l.place = omega arith in
     let left : c.args.p - (l.counter + 1) ≡ c.args.p - l.counter - 1 = omega arith in
-    (rw left (end-turn s (c.args.p - l.counter) l.place (l.place + (5 + c.from.result)) (omega arith) next) ∙ l.invariant.0, omega arith)
+    (rw left (end-turn s (c.args.p - l.counter) l.place (l.place + 5 + c.from.result) (omega arith) next) ∙ l.invariant.0, omega arith)
 
 pub returns : goal.returns
 unfolding pdos_end
