@@ -1,7 +1,7 @@
 // A register area, sixteen entries one after the other: an entry read out, and bytes stored in place.
 #![tactic(auto)]
 
-ghost use Rattle.std.specs.Prelude.{◌≡◌, cond};
+ghost use Rattle.std.specs.Prelude.{◌≡◌, cond, length};
 ghost use Rattle.area.specs.Area.{area_of, entries_of, entry_at, stored_at, flat, not_entries};
 
 // The entry with a number, of N bytes; 0 where the area isn't sixteen such entries, or the number is past the last.
@@ -25,6 +25,25 @@ pub fn store(entry: &[u8], area: &mut [u8], at: usize)
     }
 }
 
+// Puts bytes over as many others, one by one: for an entry that is less work than `copy_from_slice`, which looks whether the two overlap.
+fn put(from: &[u8], to: &mut [u8])
+    requires { length from.now ≡ length to.old }
+    ensures { to.new ≡ from.now }
+{
+    for (k, byte) in to.iter_mut().enumerate() {
+        *byte = from[k];
+    }
+}
+
+// Stores one entry, as `store` does bytes of any number.
+pub fn store_entry(entry: &[u8], area: &mut [u8], at: usize)
+    ensures { area.new ≡ stored_at at entry.now area.old }
+{
+    if at <= area.len() && entry.len() <= area.len() - at {
+        put(entry, &mut area[at..at + entry.len()]);
+    }
+}
+
 // Puts the sixteen FMMU entries of an area into a lent array; all 0 where it isn't 256 bytes.
 pub fn load(area: &[u8], entries: &mut [[u8; 16]; 16])
     ensures { entries.new ≡ entries_of 16 (area_of 256 area.now) }
@@ -40,7 +59,7 @@ pub fn store_all(entries: &[[u8; 16]; 16], area: &mut [u8])
 {
     if area.len() == 256 {
         for (k, entry) in entries.iter().enumerate() {
-            store(entry, area, 16 * k);
+            store_entry(entry, area, 16 * k);
         }
     }
 }

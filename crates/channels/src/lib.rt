@@ -38,7 +38,7 @@ pub fn write_channel(area: &mut [u8], sheet: &[u8], k: u8, size: ByteLen)
 {
     if area.len() == 128 {
         let image = sm_config(sheet::manager(sheet, k), size).pack();
-        area::store(&image, area, 8 * usize::from(k));
+        area::store_entry(&image, area, 8 * usize::from(k));
     }
 }
 

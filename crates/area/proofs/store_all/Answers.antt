@@ -13,7 +13,7 @@ loop-k-preserved c =
     let xs = c.args.entries.now in
     let b = c.args.area.now in
     let e = get_or xs l.k [] in
-    let stored = c.store.ensures in
+    let stored = c.store_entry.ensures in
     let many = length-chunks 16 16 b in (
       l.invariant.0,
       ap length stored ∙ length-stored (16 * l.k) e l.area ∙ l.invariant.1,

@@ -19,4 +19,4 @@ pub returns-then-area-eq128 : goal.returns-then-area-eq128
 returns-then-area-eq128 c =
     let a = c.args in
     let image = c.pack-image.ensures ∙ ap image_of (c.sm_config.ensures ∙ ap (λ m. channel_for m a.size.0) c.manager.ensures) in
-    image-stored a.k (manager_at a.sheet.now (manager_place a.k)) a.size.0 (8 * c.from.result) _ a.area.now _ (omega arith) (omega arith) image c.store.ensures
+    image-stored a.k (manager_at a.sheet.now (manager_place a.k)) a.size.0 (8 * c.from.result) _ a.area.now _ (omega arith) (omega arith) image c.store_entry.ensures
