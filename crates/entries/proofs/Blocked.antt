@@ -24,7 +24,7 @@ use Rattle.passes.proofs.Cleared.{nil-off, none-used, zeros-all-off, cleared_at,
 use Rattle.entries.specs.declared.uses.Uses.{Uses}
 use Rattle.entries.specs.Lay.{entry_used, uses_of}
 use Rattle.entries.specs.Ready.{on, zero_entries, ready, Readies}
-use Rattle.entries.proofs.Clearing.{some-both-kept, none-both}
+use Rattle.entries.proofs.Clearing.{some-both-kept, none-both, all-kept}
 use Rattle.entries.proofs.Taken.{uses_at, uses-end, uses-next}
 
 -- a number past the last one is no entry
@@ -95,6 +95,9 @@ module _ {old : OldEntries} (us : List Use) (before : List (List ℕ)) where
 -- where none is enabled at all, none is in the way
 pub all-off : (us : List Use) (es : List (List ℕ)) → some_of on es ≡ false → false ≡ some_of both_bits es || some_enabled us es
 all-off us es e = λ i. sym (none-both es e) i || sym (none-used us es (at_none on es [] nil-off e)) i
+
+pub none-on : {old : OldEntries} (us : List Use) (es : List (List ℕ)) → old ≡ Clear → some_of on es ≡ false → Readies old us es es false
+none-on us es is e = made us es is (sym (all-kept es e)) (all-off us es e) refl
 
 short-zeros : Short zero_entries
 short-zeros = record { many = refl; short = λ k h. (let z = length-off (get_or zero_entries k []) (zeros-all-off 16 k) in omega arith) }

@@ -1,6 +1,6 @@
 -- Old entries cleared: what is asked of an image's bits, and what is left of it.
 -- Assumes nothing.
-use mathlib.Core.Path.{◌≡◌, refl, sym, ◌∙◌, ap}
+use mathlib.Core.Path.{◌≡◌, refl, sym, ◌∙◌, ap, ap₂}
 use mathlib.Core.Bool.{Bool, true, false, cond, ◌&&◌, ◌||◌}
 use mathlib.Core.List.{List, [], ◌∷◌, map}
 use Prim.Native.Nat.{ℕ}
@@ -61,3 +61,10 @@ none-both [] h = refl
 none-both (e ∷ es) h =
     let n = or-none (on e) (some_of on es) h in
     λ i. (n.0 i && carries_both (fields_of e)) || none-both es n.1 i
+
+-- and the clearing leaves all
+pub all-kept : (es : List (List ℕ)) → some_of on es ≡ false → map cleared_of_both es ≡ es
+all-kept [] h = refl
+all-kept (e ∷ es) h =
+    let n = or-none (on e) (some_of on es) h in
+    ap₂ (λ (x : List ℕ) (xs : List (List ℕ)). x ∷ xs) (both-off e n.0) (all-kept es n.1)

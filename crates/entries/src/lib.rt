@@ -66,12 +66,12 @@ fn lay_one(
 {
     if e < 16 {
         let before = Fmmu::unpack(entries[e]);
-        let after = if before.enable {
-            grown(before, size)?
+        // each is packed by itself: of one that is made new most bytes are constants
+        entries[e] = if before.enable {
+            grown(before, size)?.pack()
         } else {
-            mapped(start, size, at, direction)
+            mapped(start, size, at, direction).pack()
         };
-        entries[e] = after.pack();
     }
     Ok(())
 }

@@ -102,6 +102,10 @@ pub(crate) fn make_ready(
     if let OldEntries::Keep = old {
         return false;
     }
+    // where none is enabled there is nothing to clear
+    if !some_left(entries) {
+        return false;
+    }
     clear_old(entries);
     if is_blocked(entries, sheet, wanted) {
         // nothing of them will be written, and 8 counts from zero
