@@ -30,7 +30,7 @@ pub fn configure_fmmus(
         inputs: *inputs,
         outputs: *outputs,
     };
-    let mut room = [1u8; 255];
+    let mut room = None;
     let weights = multipliers(sheet, table, &mut room);
     let mapped = subdevice::configure(sheet, weights, chosen, fmmus, channels, offsets, settings)?;
     *inputs = mapped.inputs.next;

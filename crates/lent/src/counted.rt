@@ -21,7 +21,7 @@ pub fn count(
 ) -> Result<Option<Position>, Reason>
     ensures { counted_of result ≡ meaning.count direction address sheet.now (multipliers_of table.now (sheet_data sheet.now).pdos) offset.start_address }
 {
-    let mut room = [1u8; 255];
+    let mut room = None;
     let weights = multipliers(sheet, table, &mut room);
     counting::count(sheet, weights, offset, direction, address)
 }

@@ -21,4 +21,4 @@ returns c =
     let t = c.args.table.now in
     let ws = c.multipliers_for.new.out in
     let small : Bytes s = record { below = λ k. omega (arith, c.type_inv.sheet k) } in
-    fronted t s ws small (c.multipliers_for.ensures ∙ ap (over (multipliers_of t (sheet_data s).pdos)) c.requires)
+    fronted t s ws small (c.multipliers_for.ensures ∙ ap (over (multipliers_of t (sheet_data s).pdos)) c.insert-ones.ensures.value)
