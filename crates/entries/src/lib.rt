@@ -130,6 +130,7 @@ fn between(start: u64, end: u64, group: u64) -> Mapping
     requires { (group ≤ start) × (start ≤ end) × (end ≤ 0xffff_ffff) }
     ensures { planned_of result ≡ standing start end group }
 {
+    // all three fit, as nothing is above the end
     Mapping {
         segment: PdiSegment {
             start: (start - group) as u32,
