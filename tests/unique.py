@@ -5,8 +5,8 @@ A public function is a `pub fn` of crates/NAME/src, free or in an `impl`; what a
 defined. Its instance is a declaration of the crate's proofs/Unique.antt of the type `Pins CONTRACT LOOK`. The contract
 is the one generated for the function (`use ..FUNCTION.Reads as f`, `f.Post`), or it is written out, as an `abbrev` of
 which a `States` says that it is what the source states. The look has to see the answer and each place that is lent to
-be written. A function that answers an `io::Result` hands on what a reader brings, which no contract pins: it is named. Prints what is missing or wrong, and fails where anything is. That an instance holds is for the
-check to say.
+be written. One function has none, READER: it hands on what a reader brings, which no contract pins. Prints what is
+missing or wrong, and fails where anything is. That an instance holds is for the check to say.
 """
 
 import re
@@ -15,6 +15,7 @@ from pathlib import Path
 from typing import NamedTuple
 
 ROOT = Path(__file__).resolve().parent.parent
+READER = ("input", "read_full")
 
 
 class Function(NamedTuple):
@@ -23,7 +24,6 @@ class Function(NamedTuple):
     public: bool
     answers: bool
     lent: int  # how many places are lent to it to be written
-    reads: bool  # it hands on what a reader brings, which no contract says
 
 
 def crates():
@@ -58,8 +58,8 @@ def functions_in(text, module, file):
             continue
         end = close(text, found.end())
         path = ".".join(word for word in (module, owner, found["name"]) if word)
-        answer, lent = text[end + 1 :].lstrip(), text[found.end() : end].count("&mut ")
-        yield Function(path, file, bool(found["pub"]), answer.startswith("->"), lent, answer.startswith("-> io::Result"))
+        answers, lent = text[end + 1 :].lstrip().startswith("->"), text[found.end() : end].count("&mut ")
+        yield Function(path, file, bool(found["pub"]), answers, lent)
 
 
 def functions(crate):
@@ -149,10 +149,7 @@ def main():
         if (ROOT / "crates" / crate / "src" / "main.rt").exists():
             print(f"{crate}: a program, whose own functions ({len(own)}) are tested and have no contract to pin")
             continue
-        for function in own:
-            if function.public and function.reads:
-                print(f"{crate}: {function.path} hands on what a reader brings, which no contract pins")
-        public = {function.path: function for function in own if function.public and not function.reads}
+        public = {function.path: function for function in own if function.public and (crate, function.path) != READER}
         libraries, stated = libraries + 1, stated + len(public)
         wrong += wrong_in(crate, public)
     for line in wrong:
