@@ -102,6 +102,7 @@ impl Fmmu {
     }
 
     // Its text, after what is typed already.
+    #[inline(always)]
     pub fn put(self, text: &mut Text<'_>)
         ensures { Puts text.old text.new (fmmu_text self) }
     {
@@ -110,6 +111,7 @@ impl Fmmu {
     }
 
     // The half about the process data image.
+    #[inline(always)]
     fn put_logical(self, text: &mut Text<'_>)
         ensures { Puts text.old text.new (logical_text self) }
     {
@@ -120,6 +122,7 @@ impl Fmmu {
     }
 
     // The half about the device.
+    #[inline(always)]
     fn put_physical(self, text: &mut Text<'_>)
         ensures { Puts text.old text.new (physical_text self) }
     {
@@ -129,6 +132,7 @@ impl Fmmu {
     }
 
     // What it lets through, and whether it is on.
+    #[inline(always)]
     fn put_access(self, text: &mut Text<'_>)
         ensures { Puts text.old text.new (access_text self) }
     {

@@ -117,6 +117,7 @@ impl PdiSegment {
     }
 
     // Its text, after what is typed already.
+    #[inline(always)]
     pub fn put(self, text: &mut Text<'_>)
         ensures { Puts text.old text.new (segment_text self) }
     {

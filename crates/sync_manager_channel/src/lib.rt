@@ -79,6 +79,7 @@ impl SyncManagerChannel {
     }
 
     // Its text, after what is typed already.
+    #[inline(always)]
     pub fn put(self, text: &mut Text<'_>)
         ensures { Puts text.old text.new (channel_text self) }
     {
@@ -87,6 +88,7 @@ impl SyncManagerChannel {
     }
 
     // Where it lies.
+    #[inline(always)]
     fn put_area(self, text: &mut Text<'_>)
         ensures { Puts text.old text.new (area_text self) }
     {
@@ -97,6 +99,7 @@ impl SyncManagerChannel {
     }
 
     // What it does, and whether it is on.
+    #[inline(always)]
     fn put_settings(self, text: &mut Text<'_>)
         ensures { Puts text.old text.new (settings_text self) }
     {
@@ -108,6 +111,7 @@ impl SyncManagerChannel {
 }
 
 // The name of a direction, or its number.
+#[inline(always)]
 fn put_direction(text: &mut Text<'_>, direction: Direction)
     ensures { Puts text.old text.new (direction_text direction) }
 {
@@ -119,6 +123,7 @@ fn put_direction(text: &mut Text<'_>, direction: Direction)
 }
 
 // The name of a mode, or its number. Its words are its own, so one function for both kinds would be no plainer.
+#[inline(always)]
 fn put_mode(text: &mut Text<'_>, mode: OperationMode)
     ensures { Puts text.old text.new (mode_text mode) }
 {

@@ -180,6 +180,7 @@ fn places(x: u16) -> Weight
 }
 
 // Text that is typed into lent room, from its front, and how long it is by now; past the room's end nothing is typed.
+// Typing is inlined: a call that is handed the text would load and store how long it is for each byte.
 #[derive(Drop)]
 pub struct Text<'a> {
     pub room: &'a mut [u8],
@@ -188,6 +189,7 @@ pub struct Text<'a> {
 
 impl<'a> Text<'a> {
     // No text yet.
+    #[inline(always)]
     pub fn new(room: &'a mut [u8]) -> Text<'a>
         ensures same_reference { result.room.ghost_name ≡ room.entry.ghost_name }
         ensures blank { page_of result ≡ page room.old 0 }
@@ -203,6 +205,7 @@ impl<'a> Text<'a> {
     }
 
     // One byte more.
+    #[inline(always)]
     pub fn put_byte(&mut self, byte: u8)
         ensures { Puts self.old self.new (byte ∷ []) }
     {
@@ -213,6 +216,7 @@ impl<'a> Text<'a> {
     }
 
     // Each byte of a text in turn.
+    #[inline(always)]
     pub fn put_bytes(&mut self, text: &[u8])
         ensures { Puts self.old self.new text.now }
     {
@@ -222,6 +226,7 @@ impl<'a> Text<'a> {
     }
 
     // The last `count` digits of x; `power` is the weight of the first of them.
+    #[inline(always)]
     fn put_digits(&mut self, x: u32, base: u32, power: u32, count: u32)
         requires { (1 < base) × (base ≤ 16) × (power ≡ base ^ count / base) }
         ensures { Puts self.old self.new (digits_of base count x) }
@@ -236,6 +241,7 @@ impl<'a> Text<'a> {
     }
 
     // A label and the last `count` hexadecimal digits; `power` is the weight of the first of them.
+    #[inline(always)]
     fn put_hex(&mut self, label: &[u8], x: u32, power: u32, count: u32)
         requires { power ≡ 16 ^ count / 16 }
         ensures { Puts self.old self.new (label.now ++ digits_of 16 count x) }
@@ -245,6 +251,7 @@ impl<'a> Text<'a> {
     }
 
     // A label, which ends in 0x, and a number as four hexadecimal digits.
+    #[inline(always)]
     pub fn put_hex4(&mut self, label: &[u8], x: u16)
         ensures { Puts self.old self.new (label.now ++ digits_of 16 4 x) }
     {
@@ -253,6 +260,7 @@ impl<'a> Text<'a> {
     }
 
     // A label, which ends in 0x, and a number as eight hexadecimal digits.
+    #[inline(always)]
     pub fn put_hex8(&mut self, label: &[u8], x: u32)
         ensures { Puts self.old self.new (label.now ++ digits_of 16 8 x) }
     {
@@ -260,6 +268,7 @@ impl<'a> Text<'a> {
     }
 
     // A label and a number in decimal, with no zero in front.
+    #[inline(always)]
     pub fn put_decimal(&mut self, label: &[u8], x: u16)
         ensures { Puts self.old self.new (label.now ++ decimal_of x) }
     {
@@ -270,6 +279,7 @@ impl<'a> Text<'a> {
     }
 
     // The one text or the other.
+    #[inline(always)]
     pub fn put_either(&mut self, first: bool, one: &[u8], other: &[u8])
         ensures { Puts self.old self.new (cond first one.now other.now) }
     {
