@@ -1,9 +1,8 @@
-// The list of pairs: which entry each sync manager uses, and whether a number is above 15.
+// The list of pairs, read once: which entry each sync manager uses, and whether a number is above 15.
 #![tactic(auto)]
 
 ghost use Rattle.std.specs.Prelude.{◌≡◌, ltb};
-ghost use Rattle.wire.specs.Lists.{list_of, some_of};
-ghost use Rattle.passes.specs.Use.{entry_for, past_last as pair_past_last, chosen_by};
+ghost use Rattle.passes.specs.Use.{past_last as pair_past_last, chosen_of, chosen_by};
 
 use passes::{Chosen, FmmuMode, FmmuPair};
 
@@ -14,25 +13,28 @@ fn past_last(number: u8) -> bool
     15 < number
 }
 
-// The entry of each sync manager: the last pair is written first, so that the first one for a sync manager stays, and none
-// leaves its own number.
-fn entries_of(pairs: &[FmmuPair]) -> [u8; 16]
-    ensures { result ≡ list_of (entry_for pairs.now) 16 }
+// Whether a number of a pair is above 15.
+fn is_above(pair: FmmuPair) -> bool
+    ensures { result ≡ pair_past_last pair }
+{
+    past_last(pair.fmmu) || past_last(pair.sync_manager)
+}
+
+// What the pairs say. The last one is written first, so that the first one for a sync manager stays, and none leaves its own number.
+fn said_by(pairs: &[FmmuPair]) -> Chosen
+    ensures { result ≡ chosen_of pairs.now }
 {
     let mut entries = [0, 1, 2, 3, 4, 5, 6, 7, 8, 9, 10, 11, 12, 13, 14, 15];
-    for pair in pairs.iter().rev() {
+    let mut above = false;
+    // by number: so an edit can change which pair is read, and nothing else
+    for k in (0..pairs.len()).rev() {
+        let pair = pairs[k];
+        above = is_above(pair) | above;
         if !past_last(pair.sync_manager) {
             entries[usize::from(pair.sync_manager)] = pair.fmmu;
         }
     }
-    entries
-}
-
-// Whether a number of some pair is above 15.
-fn some_above(pairs: &[FmmuPair]) -> bool
-    ensures { result ≡ some_of pair_past_last pairs.now }
-{
-    pairs.iter().any(|pair| past_last(pair.fmmu) || past_last(pair.sync_manager))
+    Chosen { entries, above }
 }
 
 // The entry of each sync manager: the first pair for it decides, none means its own number. By own numbers the list isn't read, and nothing is handed on.
@@ -41,9 +43,6 @@ pub fn fmmu_mappings(mode: FmmuMode, pairs: &[FmmuPair]) -> Chosen
 {
     match mode {
         FmmuMode::OwnNumber => Chosen::none(),
-        FmmuMode::Paired => Chosen {
-            entries: entries_of(pairs),
-            above: some_above(pairs),
-        },
+        FmmuMode::Paired => said_by(pairs),
     }
 }
