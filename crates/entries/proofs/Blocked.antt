@@ -19,12 +19,11 @@ use Rattle.passes.specs.declared.OldEntries.TheVariants.{Clear, Keep}
 use Rattle.passes.specs.Use.{Use}
 use Rattle.passes.specs.Handed.{Short}
 use Rattle.passes.specs.Entries.{length_now, too_long, uses_of_both}
-use Rattle.passes.specs.Old.{cleared_of_both, both_bits, some_enabled, in_the_way}
+use Rattle.passes.specs.Old.{cleared_of_both, some_enabled, in_the_way}
 use Rattle.passes.proofs.Cleared.{nil-off, none-used, zeros-all-off, cleared_at, length-off, cleared-short, from_zero, cleared-eight}
 use Rattle.entries.specs.declared.uses.Uses.{Uses}
 use Rattle.entries.specs.Lay.{entry_used, uses_of}
-use Rattle.entries.specs.Ready.{on, zero_entries, ready, Readies}
-use Rattle.entries.proofs.Clearing.{some-both-kept, none-both, all-kept}
+use Rattle.entries.specs.Ready.{on, zero_entries, ready, Clears, Readies}
 use Rattle.entries.proofs.Taken.{uses_at, uses-end, uses-next}
 
 -- a number past the last one is no entry
@@ -83,21 +82,17 @@ module _ {old : OldEntries} (us : List Use) (before : List (List ℕ)) where
   keeps is = subst (λ (o : OldEntries). Readies o us before before false) (sym is) (record { says = refl; holds = refl })
 
   -- what is in the way once they are cleared
-  module _ (is : old ≡ Clear) {after : List (List ℕ)} (holds : after ≡ map cleared_of_both before) where
-    pub made : {now : List (List ℕ)} {b : Bool} → b ≡ some_of both_bits after || some_enabled us after → now ≡ cond b zero_entries after → Readies old us before now b
+  module _ (is : old ≡ Clear) {after : List (List ℕ)} {enabled both : Bool} (c : Clears before after enabled both) where
+    pub made : {now : List (List ℕ)} {b : Bool} → b ≡ both || some_enabled us after → now ≡ cond b zero_entries after → Readies old us before now b
     unfolding in_the_way
     made {now} {b} w h =
-        let both = ap (some_of both_bits) holds ∙ some-both-kept before in
-        let way : b ≡ in_the_way Clear us before = w ∙ (λ i. both i || some_enabled us (holds i)) in
+        let way : b ≡ in_the_way Clear us before = w ∙ (λ i. c.twice i || some_enabled us (c.holds i)) in
         subst (λ (o : OldEntries). Readies o us before now b) (sym is)
-        (record { says = way; holds = h ∙ (λ i. cond (way i) zero_entries (holds i)) })
+        (record { says = way; holds = h ∙ (λ i. cond (way i) zero_entries (c.holds i)) })
 
--- where none is enabled at all, none is in the way
-pub all-off : (us : List Use) (es : List (List ℕ)) → some_of on es ≡ false → false ≡ some_of both_bits es || some_enabled us es
-all-off us es e = λ i. sym (none-both es e) i || sym (none-used us es (at_none on es [] nil-off e)) i
-
-pub none-on : {old : OldEntries} (us : List Use) (es : List (List ℕ)) → old ≡ Clear → some_of on es ≡ false → Readies old us es es false
-none-on us es is e = made us es is (sym (all-kept es e)) (all-off us es e) refl
+-- where none is enabled at all, and none has both bits, none is in the way
+pub none-in_way : (us : List Use) (es : List (List ℕ)) {enabled both : Bool} → both ≡ false → enabled ≡ false → enabled ≡ some_of on es → enabled ≡ both || some_enabled us es
+none-in_way us es b e some = e ∙ (λ i. sym b i || sym (none-used us es (at_none on es [] nil-off (sym some ∙ e))) i)
 
 short-zeros : Short zero_entries
 short-zeros = record { many = refl; short = λ k h. (let z = length-off (get_or zero_entries k []) (zeros-all-off 16 k) in omega arith) }

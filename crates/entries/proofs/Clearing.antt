@@ -2,17 +2,22 @@
 -- Assumes nothing.
 use mathlib.Core.Path.{◌≡◌, refl, sym, ◌∙◌, ap, ap₂}
 use mathlib.Core.Bool.{Bool, true, false, cond, ◌&&◌, ◌||◌}
-use mathlib.Core.List.{List, [], ◌∷◌, map}
-use Prim.Native.Nat.{ℕ}
-use lib.ListN.{replicate}
+use mathlib.Core.List.{List, [], ◌++◌, map, append-nil}
+use Prim.Native.Nat.{ℕ, suc, ◌+◌, ◌<◌, ◌≤◌}
+use native.Mathlib.Omega.{arith}
+use lib.ListN.{length, get_or, replicate, take, drop, set, length-map, length-append, length-drop, drop_of_length-le}
+use lib.Seq.{take_all, drop-cons, set-get_or, get_or_at, length-take-le}
+use Rattle.std.proofs.lemmas.List.{get_or_default}
+use Rattle.std.proofs.lemmas.List.Edits.{map_over_more}
 use Rattle.wire.specs.Lists.{some_of}
-use Rattle.wire.proofs.Lists.{or-none}
+use Rattle.wire.proofs.Lists.{or-false, some_next}
 use Rattle.fmmu.specs.Image.{fields_of}
 use Rattle.pdo.specs.declared.PdoDirection.{PdoDirection}
 use Rattle.pdo.specs.declared.PdoDirection.TheVariants.{MasterRead, MasterWrite}
 use Rattle.passes.specs.Old.{carries_alone, carries_both, is_old, cleared, cleared_of_both, both_bits}
-use Rattle.passes.proofs.Cleared.{zeros-off, old-not-both, cleared-old, cleared-not, cleared-off, both-off}
-use Rattle.entries.specs.Ready.{carries_one, on, old_one}
+use Rattle.passes.proofs.Cleared.{zeros-off, old-not-both, cleared-old, cleared-not, cleared-off, both-off, cleared_at}
+use Rattle.entries.specs.Ready.{carries_one, on, old_one, Clears}
+use Rattle.entries.specs.declared.ready.Left.{Left}
 
 module _ (e : List ℕ) where
   neither-old : is_old MasterRead (fields_of e) ≡ false → is_old MasterWrite (fields_of e) ≡ false → cleared_of_both e ≡ e
@@ -51,20 +56,97 @@ module _ (e : List ℕ) where
       go false true p q = zeroed (ap (cleared MasterWrite) (cleared-not MasterRead e p) ∙ cleared-old MasterWrite e q) (old-not-both MasterWrite e q)
       go false false p q = ap both_bits (neither-old p q)
 
-pub some-both-kept : (es : List (List ℕ)) → some_of both_bits (map cleared_of_both es) ≡ some_of both_bits es
-some-both-kept [] = refl
-some-both-kept (e ∷ es) = λ i. both-kept e i || some-both-kept es i
+  -- what is known of an old one, of one that is disabled, and of any other
+  pub gone-off : old_one e ≡ true → (on (cleared_of_both e) ≡ false) × (both_bits e ≡ false)
+  gone-off o =
+      let zeroed : cleared_of_both e ≡ replicate 16 0 = sym (cleared_if (sym o)) in
+      (ap on zeroed ∙ zeros-off, sym both-kept ∙ ap both_bits zeroed ∙ ap (λ (x : Bool). x && carries_both (fields_of (replicate 16 0))) zeros-off)
 
--- where none is enabled, none has both bits and is
-pub none-both : (es : List (List ℕ)) → some_of on es ≡ false → some_of both_bits es ≡ false
-none-both [] h = refl
-none-both (e ∷ es) h =
-    let n = or-none (on e) (some_of on es) h in
-    λ i. (n.0 i && carries_both (fields_of e)) || none-both es n.1 i
+  pub others-stay : old_one e ≡ false → cleared_of_both e ≡ e
+  others-stay o = sym (cleared_if (sym o))
 
--- and the clearing leaves all
-pub all-kept : (es : List (List ℕ)) → some_of on es ≡ false → map cleared_of_both es ≡ es
-all-kept [] h = refl
-all-kept (e ∷ es) h =
-    let n = or-none (on e) (some_of on es) h in
-    ap₂ (λ (x : List ℕ) (xs : List (List ℕ)). x ∷ xs) (both-off e n.0) (all-kept es n.1)
+  off-not-old : on e ≡ false → old_one e ≡ false
+  off-not-old o = ap (λ (x : Bool). x && carries_one (fields_of e)) o
+
+  pub off-not-both : on e ≡ false → both_bits e ≡ false
+  off-not-both o = ap (λ (x : Bool). x && carries_both (fields_of e)) o
+
+or-true : (b : Bool) → true ≡ b || true
+or-true true = refl
+or-true false = refl
+
+or-swap : (a b : Bool) → a || b ≡ b || a
+or-swap true b = or-true b
+or-swap false b = sym (or-false b)
+
+-- the first i entries are cleared, and what is still enabled of them
+pub record Clearing (before : List (List ℕ)) (i : ℕ) (now : List (List ℕ)) (enabled both : Bool) : Type 0 where
+  pub holds : now ≡ map cleared_of_both (take i before) ++ drop i before
+  pub some : enabled ≡ some_of on (take i (map cleared_of_both before))
+  pub twice : both ≡ some_of both_bits (take i before)
+
+pub clearing-starts : (before : List (List ℕ)) → Clearing before 0 before false false
+clearing-starts before = record { holds = refl; some = refl; twice = refl }
+
+-- by another name
+pub clearing-at :
+    {before : List (List ℕ)} {i : ℕ} {now after : List (List ℕ)} {left then : Left} → Clearing before i now left.enabled left.both → after ≡ now → then ≡ left
+    → Clearing before i after then.enabled then.both
+clearing-at c a e = record { holds = a ∙ c.holds; some = ap (λ (l : Left). l.enabled) e ∙ c.some; twice = ap (λ (l : Left). l.both) e ∙ c.twice }
+
+module _ {before : List (List ℕ)} {i : ℕ} {now : List (List ℕ)} {enabled both : Bool} (c : Clearing before i now enabled both) where
+  -- all are cleared
+  pub clearing-ends : length before ≤ i → Clears before now enabled both
+  clearing-ends h =
+      let n = length-map before cleared_of_both in
+      record {
+        holds = c.holds ∙ ap₂ (λ (x y : List (List ℕ)). map cleared_of_both x ++ y) (take_all i before h) (drop_of_length-le before h) ∙ append-nil (map cleared_of_both before);
+        some = c.some ∙ ap (some_of on) (take_all i (map cleared_of_both before) (omega arith));
+        twice = c.twice ∙ ap (some_of both_bits) (take_all i before h);
+      }
+
+  module _ (h : i < length before) where
+    -- the next entry is still as it was
+    untouched : get_or now i [] ≡ get_or before i []
+    untouched =
+        let front = map cleared_of_both (take i before) in
+        let long : length front ≡ i = length-map (take i before) cleared_of_both ∙ length-take-le i before (omega arith) in
+        ap (λ (l : List (List ℕ)). get_or l i []) (c.holds ∙ ap (λ (l : List (List ℕ)). front ++ l) (drop-cons before i [] h)) ∙ get_or_at front (get_or before i []) (drop (suc i) before) [] i long
+
+    -- a turn, by what becomes of it
+    turned :
+        {after : List (List ℕ)} {en bo : Bool} → after ≡ set now i (cleared_of_both (get_or now i [])) → en ≡ enabled || on (cleared_of_both (get_or now i [])) → bo ≡ both || both_bits (get_or now i [])
+        → Clearing before (i + 1) after en bo
+    turned a e b =
+        let n = length-map before cleared_of_both in
+        let at : cleared_of_both (get_or now i []) ≡ get_or (map cleared_of_both before) i [] = ap cleared_of_both untouched ∙ sym (cleared_at before i) in
+        record {
+          holds = a ∙ map_over_more cleared_of_both before now i (get_or now i []) h c.holds (get_or_default now i [] (get_or now i []) (omega (arith, few)));
+          some = e ∙ (λ i2. c.some i2 || on (at i2)) ∙ sym (some_next on (map cleared_of_both before) i [] (omega arith));
+          twice = b ∙ (λ i2. c.twice i2 || both_bits (untouched i2)) ∙ sym (some_next both_bits before i [] h);
+        }
+      where
+        few : i < length now
+        few = let e = ap length c.holds ∙ length-append (map cleared_of_both (take i before)) (drop i before) in
+            let f = length-map (take i before) cleared_of_both ∙ length-take-le i before (omega arith) in
+            let g = length-drop i before in omega arith
+
+    -- an old one is set to zero; one that is disabled, and any other, stays
+    pub turned-old : old_one (get_or now i []) ≡ true → Clearing before (i + 1) (set now i (replicate 16 0)) enabled both
+    turned-old o =
+        let f = gone-off (get_or now i []) o in
+        turned (ap (set now i) (cleared_if (get_or now i []) (sym o))) (sym (or-false enabled) ∙ ap (λ (x : Bool). enabled || x) (sym f.0)) (sym (or-false both) ∙ ap (λ (x : Bool). both || x) (sym f.1))
+
+    same : old_one (get_or now i []) ≡ false → now ≡ set now i (cleared_of_both (get_or now i []))
+    same o = sym (ap (set now i) (others-stay (get_or now i []) o) ∙ set-get_or now i [])
+
+    pub turned-off : on (get_or now i []) ≡ false → Clearing before (i + 1) now enabled both
+    turned-off f =
+        let o = off-not-old (get_or now i []) f in
+        turned (same o) (sym (or-false enabled) ∙ ap (λ (x : Bool). enabled || x) (sym (ap on (others-stay (get_or now i []) o) ∙ f)))
+        (sym (or-false both) ∙ ap (λ (x : Bool). both || x) (sym (off-not-both (get_or now i []) f)))
+
+    pub turned-left : old_one (get_or now i []) ≡ false → on (get_or now i []) ≡ true → {b : Bool} → both_bits (get_or now i []) ≡ b → Clearing before (i + 1) now true (b || both)
+    turned-left o f {b} e =
+        turned (same o) (or-true enabled ∙ ap (λ (x : Bool). enabled || x) (sym (ap on (others-stay (get_or now i []) o) ∙ f)))
+        (or-swap b both ∙ ap (λ (x : Bool). both || x) (sym e))

@@ -11,8 +11,8 @@ use borrow.Author.Tests.{eq-eqb, ne_eqb}
 use Rattle.std.specs.Prelude.{Ok, Err}
 use Rattle.wire.specs.Outcome.{Outcome, refused, accepted, Refusal, when, first, decide, number_of}
 use Rattle.wire.specs.declared.Reason.{Reason}
-use Rattle.wire.specs.declared.Reason.TheVariants.{AreaLength, EntryInTheWay}
-use Rattle.wire.proofs.Order.{passed, passed-answer, stopped}
+use Rattle.wire.specs.declared.Reason.TheVariants.{AreaLength}
+use Rattle.wire.proofs.Order.{never, passed, passed-answer, stopped}
 use Rattle.pdi.specs.Offset.{past_end}
 use Rattle.area.specs.Area.{area_of, entries_of, flat, not_entries}
 use Rattle.area.proofs.Flat.{area-whole}
@@ -30,6 +30,12 @@ use Rattle.passes.specs.Entries.{too_long, uses_of_both, entry_refusals, totals,
 use Rattle.entries.specs.Lay.{Runs, laid_both, standing_to, then_in_the_way}
 use Rattle.entries.specs.Ready.{zero_entries, Readies}
 use Rattle.entries.proofs.Blocked.{too-long-ready}
+
+-- an answer that is accepted after 15 was asked: nothing was in the way
+nothing-blocked : (b : Bool) (o : Outcome Both) (p : Both) → accepted p ≡ then_in_the_way b o → b ≡ false
+nothing-blocked b (refused n) p e = absurd (never (sym e))
+nothing-blocked true (accepted q) p e = absurd (never (sym e))
+nothing-blocked false (accepted q) p e = refl
 
 module _ (uses : PdoDirection → List Use) (area : List ℕ) (o : Offsets) (settings : Settings) where
   abbrev outcome : Outcome Both
@@ -130,23 +136,21 @@ module _ (uses : PdoDirection → List Use) (area : List ℕ) (o : Offsets) (set
           ∙ decided
 
       -- 9 and 10; 15
-      pub standing-refused : (n : Reason) → refused (number_of n) ≡ standing_to middle end settings.outputs o settings.group → WritesEntries uses o settings area (Err n) area
-      standing-refused n q = refuses n (sym (ap (then_in_the_way blocked) q ∙ goes_on))
+      pub end-refused : (n : Reason) → refused (number_of n) ≡ then_in_the_way blocked (standing_to middle end settings.outputs o settings.group) → WritesEntries uses o settings area (Err n) area
+      end-refused n q = refuses n (sym (q ∙ goes_on))
 
-      module _ {mapped : two.Both Mapping} (q : accepted (both_of_mappings mapped) ≡ standing_to middle end settings.outputs o settings.group) where
-        pub blocked-refused : blocked ≡ true → WritesEntries uses o settings area (Err EntryInTheWay) area
-        blocked-refused b = refuses EntryInTheWay (sym ((λ i. then_in_the_way (sym b i) (q i)) ∙ goes_on))
-
-        -- none
-        pub entries-written : blocked ≡ false → {exit : List ℕ} → exit ≡ cond (not_entries area) area (flat after) → WritesEntries uses o settings area (Ok mapped) exit
-        entries-written b {exit} x =
-            let a : accepted (both_of_mappings mapped) ≡ outcome = (λ i. then_in_the_way (sym b i) (q i)) ∙ goes_on in
-            record {
-              says = a;
-              holds =
-                  x
-                  ∙ ap (λ (b : Bool). cond (not b) area (flat after)) (eq-eqb (length area) 256 right)
-                  ∙ ap (λ (y : Runs). flat y.entries) is
-                  ∙ ap (λ (es : List (List ℕ)). flat (plan_both (start_of settings.outputs o (totals uses)) uses es)) (begins b)
-                  ∙ ap (λ (y : Outcome Both). entry_area y (start_of settings.outputs o (totals uses)) settings.old uses area) a;
-            }
+      -- none
+      pub entries-written :
+          {mapped : two.Both Mapping} → accepted (both_of_mappings mapped) ≡ then_in_the_way blocked (standing_to middle end settings.outputs o settings.group)
+          → {exit : List ℕ} → exit ≡ cond (not_entries area) area (flat after) → WritesEntries uses o settings area (Ok mapped) exit
+      entries-written {mapped} q {exit} x =
+          let a : accepted (both_of_mappings mapped) ≡ outcome = q ∙ goes_on in
+          record {
+            says = a;
+            holds =
+                x
+                ∙ ap (λ (b : Bool). cond (not b) area (flat after)) (eq-eqb (length area) 256 right)
+                ∙ ap (λ (y : Runs). flat y.entries) is
+                ∙ ap (λ (es : List (List ℕ)). flat (plan_both (start_of settings.outputs o (totals uses)) uses es)) (begins (nothing-blocked blocked _ _ q))
+                ∙ ap (λ (y : Outcome Both). entry_area y (start_of settings.outputs o (totals uses)) settings.old uses area) a;
+          }

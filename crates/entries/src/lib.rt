@@ -8,7 +8,7 @@ ghost use Rattle.passes.specs.Handed.{uses_by_both, Short};
 ghost use Rattle.passes.specs.Start.{outputs_from, planned_of, configured_of};
 ghost use Rattle.passes.specs.Entries as Entries;
 ghost use Rattle.passes.specs.Entries.{WritesEntries};
-ghost use Rattle.entries.specs.Lay.{use_at, uses_of, grown_to, laid_one, Lays, laid_both, ends_of, standing, standing_to};
+ghost use Rattle.entries.specs.Lay.{use_at, uses_of, grown_to, laid_one, Lays, laid_both, ends_of, standing, standing_to, then_in_the_way};
 
 mod ready;
 mod uses;
@@ -168,6 +168,22 @@ fn segments_to(
     })
 }
 
+// 15, unless something before it was found.
+fn unless_in_the_way(
+    answer: Result<Both<Mapping>, Reason>,
+    blocked: bool,
+) -> Result<Both<Mapping>, Reason>
+    ensures { configured_of result ≡ then_in_the_way blocked (configured_of answer) }
+{
+    if !blocked {
+        return answer;
+    }
+    match answer {
+        Ok(_) => Err(Reason::EntryInTheWay),
+        Err(reason) => Err(reason),
+    }
+}
+
 // Writes the entries of both directions into a lent FMMU area, or refuses with 1, 8, 9, 10 or 15 and writes nothing.
 pub fn write_entries(
     area: &mut [u8],
@@ -185,10 +201,7 @@ pub fn write_entries(
     area::load(area, &mut entries);
     let blocked = ready::make_ready(&mut entries, sheet, wanted, settings.old);
     let ends = lay_both(&mut entries, sheet, wanted, offsets, settings.outputs)?;
-    let mapped = segments_to(ends, offsets, settings)?;
-    if blocked {
-        return Err(Reason::EntryInTheWay);
-    }
+    let mapped = unless_in_the_way(segments_to(ends, offsets, settings), blocked)?;
     area::store_all(&entries, area);
     Ok(mapped)
 }

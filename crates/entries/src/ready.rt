@@ -1,13 +1,13 @@
 // Old entries, before a call is laid: those of both directions are cleared, and it is found whether another is in the way.
-ghost use Rattle.std.specs.Prelude.{◌≡◌, ◌||◌, get_or, [], map};
+ghost use Rattle.std.specs.Prelude.{◌≡◌, ◌||◌, get_or, []};
 ghost use Rattle.std.specs.List.{list_any};
 ghost use Rattle.fmmu.specs.Image.{fields_of};
 ghost use Rattle.sheet.specs.Sheet.{managers_in};
-ghost use Rattle.passes.specs.Old.{cleared_of_both, both_bits, some_enabled};
+ghost use Rattle.passes.specs.Old.{both_bits, some_enabled};
 ghost use Rattle.passes.specs.Entries.{uses_of_both};
 ghost use Rattle.passes.specs.Handed.{uses_by_both};
 ghost use Rattle.entries.specs.Lay.{uses_of};
-ghost use Rattle.entries.specs.Ready.{on, old_one, Readies};
+ghost use Rattle.entries.specs.Ready.{on, old_one, Clears, Readies};
 
 use crate::uses::Uses;
 use fmmu::Fmmu;
@@ -22,6 +22,13 @@ fn is_old(image: [u8; 16]) -> bool
     entry.enable && entry.read_enable != entry.write_enable
 }
 
+// Whether an entry is enabled.
+fn is_on(image: [u8; 16]) -> bool
+    ensures { result ≡ on image }
+{
+    Fmmu::unpack(image).enable
+}
+
 // Whether an entry is enabled and has both bits.
 fn has_both(image: [u8; 16]) -> bool
     ensures { result ≡ both_bits image }
@@ -30,28 +37,33 @@ fn has_both(image: [u8; 16]) -> bool
     entry.enable && entry.read_enable && entry.write_enable
 }
 
-// Whether any of the entries is such; whether any is enabled at all.
-fn some_both(entries: &[[u8; 16]; 16]) -> bool
-    ensures { result ≡ list_any both_bits entries.now }
-{
-    entries.iter().any(|&image| has_both(image))
+// What is still enabled after the clearing: whether any entry is, and whether one has both bits.
+#[derive(Clone, Copy, Debug, PartialEq, Eq)]
+struct Left {
+    enabled: bool,
+    both: bool,
 }
 
-fn some_left(entries: &[[u8; 16]; 16]) -> bool
-    ensures { result ≡ list_any on entries.now }
+// Clears each old entry of either direction: it is set to zero, all sixteen bytes of it. Answers what is still enabled, asked in the
+// same walk: of an entry that is disabled, as most are, nothing more is asked.
+fn clear_old(entries: &mut [[u8; 16]; 16]) -> Left
+    ensures { Clears entries.old entries.new result.enabled result.both }
 {
-    entries.iter().any(|&image| Fmmu::unpack(image).enable)
-}
-
-// Clears each old entry of either direction: it is set to zero, all sixteen bytes of it.
-fn clear_old(entries: &mut [[u8; 16]; 16])
-    ensures { entries.new ≡ map cleared_of_both entries.old }
-{
+    let mut left = Left {
+        enabled: false,
+        both: false,
+    };
     for entry in entries.iter_mut() {
-        if is_old(*entry) {
-            *entry = [0u8; 16];
+        if is_on(*entry) {
+            if is_old(*entry) {
+                *entry = [0u8; 16];
+            } else {
+                left.enabled = true;
+                left.both = has_both(*entry) | left.both;
+            }
         }
     }
+    left
 }
 
 // Whether the entry with a number is enabled; a number past the last one is no entry.
@@ -83,11 +95,12 @@ fn some_wanted(entries: &[[u8; 16]; 16], sheet: &[u8], wanted: Wanted) -> bool
         || some_enabled(entries, &Uses::of(sheet, wanted, PdoDirection::MasterWrite))
 }
 
-// 15 of cleared entries: whether one has both bits, or is one that the call uses and still enabled.
-fn is_blocked(entries: &[[u8; 16]; 16], sheet: &[u8], wanted: Wanted) -> bool
-    ensures { result ≡ list_any both_bits entries.now || some_enabled (uses_of_both (uses_by_both wanted (managers_in sheet.now))) entries.now }
+// 15 of cleared entries, of which it is known what is left: whether one has both bits, or is one that the call uses and still enabled.
+fn is_blocked(entries: &[[u8; 16]; 16], sheet: &[u8], wanted: Wanted, left: Left) -> bool
+    requires { left.enabled ≡ list_any on entries.now }
+    ensures { result ≡ left.both || some_enabled (uses_of_both (uses_by_both wanted (managers_in sheet.now))) entries.now }
 {
-    some_left(entries) && (some_both(entries) || some_wanted(entries, sheet, wanted))
+    left.both || (left.enabled && some_wanted(entries, sheet, wanted))
 }
 
 // Makes the entries ready for a call: by default the old ones of both directions are cleared. Answers whether one is in the way then.
@@ -102,12 +115,8 @@ pub(crate) fn make_ready(
     if let OldEntries::Keep = old {
         return false;
     }
-    // where none is enabled there is nothing to clear
-    if !some_left(entries) {
-        return false;
-    }
-    clear_old(entries);
-    if is_blocked(entries, sheet, wanted) {
+    let left = clear_old(entries);
+    if is_blocked(entries, sheet, wanted, left) {
         // nothing of them will be written, and 8 counts from zero
         *entries = [[0u8; 16]; 16];
         return true;

@@ -12,8 +12,9 @@ use Rattle.area.specs.Area.{area_of, entries_of}
 use Rattle.area.proofs.Flat.{area-whole}
 use Rattle.passes.specs.Handed.{Short}
 use Rattle.passes.proofs.Lengths.{short-area}
+use Rattle.entries.specs.Lay.{then_in_the_way}
 use Rattle.entries.proofs.Blocked.{short-made}
-use Rattle.entries.proofs.Decided.{too-long-refused, standing-refused, blocked-refused, entries-written}
+use Rattle.entries.proofs.Decided.{too-long-refused, end-refused, entries-written}
 use Rattle.entries.proofs.write_entries.Goals as goal
 
 -- what was loaded is sixteen entries, none longer than its two bytes say
@@ -34,14 +35,11 @@ pub returns-in_err-mapped : goal.returns-in_err-mapped
 returns-in_err-mapped c =
     let short = short-loaded c.args.area.now c.load.new.entries (omega arith) (record { below = search rules }) c.load.ensures in
     let p = err_from_is_err_and c.from_residual-in_err-mapped.result c.from_residual-in_err-mapped.ensures.1 in
-    rw (p.1, p.2) (standing-refused _ _ _ _ (omega arith) c.load.ensures short c.make_ready-blocked.ensures c.in_ok-ends.ensures _ c.in_err-mapped.ensures)
-
-pub returns-then-blocked : goal.returns-then-blocked
-returns-then-blocked c =
-    let short = short-loaded c.args.area.now c.load.new.entries (omega arith) (record { below = search rules }) c.load.ensures in
-    blocked-refused _ _ _ _ (omega arith) c.load.ensures short c.make_ready-blocked.ensures c.in_ok-ends.ensures c.in_ok-mapped.ensures c.if-blocked.true
+    rw (p.1, p.2) (end-refused _ _ _ _ (omega arith) c.load.ensures short c.make_ready-blocked.ensures c.in_ok-ends.ensures _
+    (c.in_err-mapped.ensures ∙ ap (then_in_the_way c.make_ready-blocked.result) c.segments_to.ensures))
 
 pub returns : goal.returns
 returns c =
     let short = short-loaded c.args.area.now c.load.new.entries (omega arith) (record { below = search rules }) c.load.ensures in
-    entries-written _ _ _ _ (omega arith) c.load.ensures short c.make_ready-blocked.ensures c.in_ok-ends.ensures c.in_ok-mapped.ensures c.if-blocked.false c.store_all.ensures
+    entries-written _ _ _ _ (omega arith) c.load.ensures short c.make_ready-blocked.ensures c.in_ok-ends.ensures
+    (c.in_ok-mapped.ensures ∙ ap (then_in_the_way c.make_ready-blocked.result) c.segments_to.ensures) c.store_all.ensures
