@@ -1,7 +1,7 @@
 -- Pairs as code judges them are the pairs that 18 speaks of: the uses by number, both directions, and what each way through the judging answers.
 -- Assumes nothing.
 use mathlib.Core.Path.{◌≡◌, refl, sym, ◌∙◌, ap, subst}
-use mathlib.Core.Bool.{Bool, true, false, cond, not, ◌&&◌, ◌||◌, or_assoc, or_comm}
+use mathlib.Core.Bool.{Bool, true, false, cond, not, ◌&&◌, ◌||◌, or-true, or-false}
 use mathlib.Core.List.{List, [], ◌∷◌, map}
 use Prim.Native.Nat.{ℕ, zero, suc, ◌+◌, ◌≤◌, ◌<◌}
 use native.Mathlib.Nat.{add-zero, zero-add, not-suc-le-zero, le_of_suc-le-suc}
@@ -162,23 +162,23 @@ module _ (c : Chosen) (ms : List SyncManager) (bits : List BitLen) where
       (some_or (λ k. some_on k us && some_on k vs) (λ k. interrupted k us || interrupted k vs) 16
       ∙ ap (λ (b : Bool). both || b) (some_or (λ k. interrupted k us) (λ k. interrupted k vs) 16))
 
-  -- as code asks, one after another
-  module _ (x : Entered) (h : Surveys us x) (y : Entered) (g : Surveys vs y) where
-    surveyed : some_shared x.used y.used ≡ both
-    unfolding some_shared
-    surveyed =
-        some_same (λ k. get_or x.used k false && get_or y.used k false) (λ k. some_on k us && some_on k vs) 16
-        (λ k l. (λ i. (ap (λ (b : List Bool). get_or b k false) h.uses ∙ get_d-list_of (λ j. some_on j us) 16 k false l) i
-        && (ap (λ (b : List Bool). get_or b k false) g.uses ∙ get_d-list_of (λ j. some_on j vs) 16 k false l) i))
+  pub above-bad : number_above c ≡ true → true ≡ bad_choice c ms bits
+  above-bad e = sym (parts ∙ rw e)
 
-    pub asked-bad : ((number_above c || x.interrupted) || y.interrupted) || some_shared x.used y.used ≡ bad_choice c ms bits
-    asked-bad =
-        (λ i. ((number_above c || h.breaks i) || g.breaks i) || surveyed i) ∙ or_assoc (number_above c || one) two both ∙ or_assoc (number_above c) one (two || both)
-        ∙ ap (λ (b : Bool). number_above c || b) (sym (or_assoc one two both) ∙ or_comm (one || two) both) ∙ sym parts
+  module _ (x : Entered) (h : Surveys us x) where
+    pub one-bad : x.interrupted ≡ true → true ≡ bad_choice c ms bits
+    one-bad e = let o : one ≡ true = sym h.breaks ∙ e in sym (parts ∙ rw (o, or-true, or-true))
 
--- one of two as code asks it: the first holds, or the second decides
-pub or-first : {a v : Bool} (b : Bool) → a ≡ true → v ≡ a → v ≡ a || b
-or-first b e v = v ∙ e ∙ sym (ap (λ (x : Bool). x || b) e)
+    module _ (y : Entered) (g : Surveys vs y) where
+      pub two-bad : y.interrupted ≡ true → true ≡ bad_choice c ms bits
+      two-bad e = let t : two ≡ true = sym g.breaks ∙ e in sym (parts ∙ rw (t, or-true, or-true, or-true))
 
-pub or-second : {a v : Bool} (b : Bool) → a ≡ false → v ≡ b → v ≡ a || b
-or-second b e v = v ∙ sym (ap (λ (x : Bool). x || b) e)
+      pub shared-bad : (r : Bool) → number_above c ≡ false → x.interrupted ≡ false → y.interrupted ≡ false → r ≡ some_shared x.used y.used → r ≡ bad_choice c ms bits
+      unfolding some_shared
+      shared-bad r a e f q =
+          let o : one ≡ false = sym h.breaks ∙ e in
+          let t : two ≡ false = sym g.breaks ∙ f in
+          q ∙ some_same (λ k. get_or x.used k false && get_or y.used k false) (λ k. some_on k us && some_on k vs) 16
+          (λ k l. (λ i. (ap (λ (b : List Bool). get_or b k false) h.uses ∙ get_d-list_of (λ j. some_on j us) 16 k false l) i
+          && (ap (λ (b : List Bool). get_or b k false) g.uses ∙ get_d-list_of (λ j. some_on j vs) 16 k false l) i))
+          ∙ sym (parts ∙ rw (a, o, t) (or-false both))

@@ -122,14 +122,17 @@ fn number_above(chosen: Chosen) -> bool
 fn bad_pairs(sound: &Sound, bits: [BitLen; 16], chosen: Chosen) -> bool
     ensures { result ≡ bad_choice chosen (sheet_data sound.now.bytes.now).managers bits }
 {
+    if number_above(chosen) {
+        return true; // no list is looked at
+    }
     let inputs = PdoDirection::MasterRead.filter_terms().usage;
     let these = survey(sound.of_usage(bits, inputs), chosen.entries);
+    if these.interrupted {
+        return true; // nor the outputs'
+    }
     let outputs = PdoDirection::MasterWrite.filter_terms().usage;
     let those = survey(sound.of_usage(bits, outputs), chosen.entries);
-    number_above(chosen)
-        || these.interrupted
-        || those.interrupted
-        || some_shared(these.used, those.used)
+    those.interrupted || some_shared(these.used, those.used)
 }
 
 // Whether the pairs are read: by the mode that asks for them, and not on the CoE path.

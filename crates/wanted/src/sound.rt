@@ -175,38 +175,45 @@ impl<'a> Sound<'a> {
         self.first_with(direction.filter_terms().fmmu_usage)
     }
 
-    // 7: whether a direction has no entry though one of its sync managers has bits.
+    // 7: whether a direction has no entry though one of its sync managers has bits; its entry is handed on.
+    fn lacks(&self, entry: Option<u8>, direction: PdoDirection, sizes: [ByteLen; 16]) -> bool
+        requires { entry ≡ first_place (fmmu_usage_of direction) (sheet_data self.now.bytes.now).usages }
+        ensures { result ≡ lacks_entry (sheet_data self.now.bytes.now) sizes direction }
+    {
+        entry.is_none() && self.some_size(direction.filter_terms().usage, sizes)
+    }
+
+    // The same, where nothing else needs the entry.
     pub(crate) fn no_entry(&self, direction: PdoDirection, sizes: [ByteLen; 16]) -> bool
         ensures { result ≡ lacks_entry (sheet_data self.now.bytes.now) sizes direction }
     {
-        self.first_entry(direction).is_none()
-            && self.some_size(direction.filter_terms().usage, sizes)
+        self.lacks(self.first_entry(direction), direction, sizes)
     }
 
     // On the CoE path all of a direction use its entry; where it has none, a number past the last.
-    fn coe_route(&self, direction: PdoDirection) -> Route
-        ensures { result ≡ coe_route (sheet_data self.now.bytes.now) direction }
+    fn coe_route(&self, entry: Option<u8>) -> Route
+        ensures { (direction : PdoDirection) → entry ≡ first_place (fmmu_usage_of direction) (sheet_data self.now.bytes.now).usages
+            → result ≡ coe_route (sheet_data self.now.bytes.now) direction }
     {
-        let entry = self
-            .first_entry(direction)
-            .unwrap_or(grammar::usage_count(self.bytes));
-        Route::Given([entry; 16])
+        Route::Given([entry.unwrap_or(grammar::usage_count(self.bytes)); 16])
     }
 
-    // What a call wants on the CoE path: 7 where a direction that has bits has no entry.
+    // What a call wants on the CoE path: 7 where a direction that has bits has no entry. Each is looked for once.
     pub(crate) fn by_coe(&self, sizes: [ByteLen; 16]) -> Result<Wanted, Reason>
         ensures { wants_of result ≡ coe_wants (sheet_data self.now.bytes.now) sizes }
     {
-        if self.no_entry(PdoDirection::MasterRead, sizes)
-            || self.no_entry(PdoDirection::MasterWrite, sizes)
+        let inputs = self.first_entry(PdoDirection::MasterRead);
+        let outputs = self.first_entry(PdoDirection::MasterWrite);
+        if self.lacks(inputs, PdoDirection::MasterRead, sizes)
+            || self.lacks(outputs, PdoDirection::MasterWrite, sizes)
         {
             return Err(Reason::NoEntry);
         }
         Ok(Wanted {
             sizes,
             routes: Both {
-                inputs: self.coe_route(PdoDirection::MasterRead),
-                outputs: self.coe_route(PdoDirection::MasterWrite),
+                inputs: self.coe_route(inputs),
+                outputs: self.coe_route(outputs),
             },
         })
     }

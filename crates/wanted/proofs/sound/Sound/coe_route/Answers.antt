@@ -10,9 +10,9 @@ use Rattle.wanted.proofs.Managers.{place-or}
 use Rattle.wanted.proofs.sound.Sound.coe_route.Goals as goal
 
 pub returns : goal.returns
-returns c =
+returns c = λ direction is.
     let a = c.args in
     let us = (sheet_data a.self.now.bytes.now).usages in
-    let e : c.unwrap_or-entry.result ≡ coe_entry (sheet_data a.self.now.bytes.now) a.direction =
-    c.unwrap_or-entry.ensures ∙ (λ i. unwrap_or (c.first_entry.ensures i) ((c.usage_count.ensures ∙ sym (usage-count a.self.now.bytes.now)) i)) ∙ place-or (fmmu_usage_of a.direction) us in
+    let e : c.unwrap_or.result ≡ coe_entry (sheet_data a.self.now.bytes.now) direction =
+    c.unwrap_or.ensures ∙ (λ i. unwrap_or (is i) ((c.usage_count.ensures ∙ sym (usage-count a.self.now.bytes.now)) i)) ∙ place-or (fmmu_usage_of direction) us in
     ap (λ (n : ℕ). Given (replicate 16 n)) e
