@@ -92,11 +92,15 @@ fn some_manager_unnamed(list: &[SyncManager]) -> bool
     list.iter().any(|m| 4 < m.usage_type)
 }
 
-// Whether a mode or a direction is unnamed.
+// Whether a mode or a direction is unnamed. No `any`: in a loop a wrong program can forget those before, which must-fail/ tries.
 fn some_control_unnamed(list: &[SyncManager]) -> bool
     ensures { result ≡ some_unnamed list.now }
 {
-    list.iter().any(|m| m.control.unnamed())
+    let mut unnamed = false;
+    for m in list {
+        unnamed = unnamed | m.control.unnamed();
+    }
+    unnamed
 }
 
 // Whether an FMMU's usage has no name.
