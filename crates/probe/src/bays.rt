@@ -142,11 +142,14 @@ fn called(rt: &impl Print, answer: Result<Both<PdiSegment>, Reason>) -> io::Resu
     segments(rt, answer)
 }
 
-pub fn translated(answer: Result<Option<u16>, Reason>) -> Line {
+// Where an address leads: a device address, none, or a refusal.
+pub type Reached = Result<Option<u16>, Reason>;
+
+pub fn translated(answer: Reached) -> Line {
     answer.map_or_else(Line::refused, |reached| Line::from([Item::from(reached)]))
 }
 
-pub fn translate(request: Request, address: u32) -> Result<Option<u16>, Reason> {
+pub fn translate(request: Request, address: u32) -> Reached {
     translation::translate(request.fmmus(), request.direction(), address)
 }
 
@@ -173,18 +176,22 @@ pub fn count(request: Request, address: u32) -> Result<Option<Position>, Reason>
     )
 }
 
-// One side of an agreement: a device address, none, or a refusal.
-fn side(answer: Result<Option<u16>, Reason>) -> Item {
+// One side of an agreement.
+fn side(answer: Reached) -> Item {
     answer.map_or_else(Item::Short, Item::from)
 }
 
-pub fn agree(request: Request, address: u32) -> Line {
+// What both answer, where they differ.
+pub fn differing(request: Request, address: u32) -> Option<(Reached, Reached)> {
     let one = translate(request, address);
     let two = count(request, address).map(|position| position.and_then(|p| p.device));
-    if one == two {
-        Line::word(Word::Same)
-    } else {
-        Line::from([Item::Word(Word::Differ), side(one), side(two)])
+    if one == two { None } else { Some((one, two)) }
+}
+
+pub fn agreed(differing: Option<(Reached, Reached)>) -> Line {
+    match differing {
+        None => Line::word(Word::Same),
+        Some((one, two)) => Line::from([Item::Word(Word::Differ), side(one), side(two)]),
     }
 }
 

@@ -10,45 +10,17 @@ mod numbers;
 mod parts;
 mod records;
 mod say;
+mod values;
 mod writing;
 
 use parts::Request;
-use say::Line;
 use std::io;
 use std::io::Read;
-
-// The answers that can change with c.
-fn line_of(request: Request, c: u32) -> Line {
-    match request.letter() {
-        b'T' => bays::translated(bays::translate(request, c)),
-        b'C' => bays::counted(bays::count(request, c)),
-        b'A' => bays::agree(request, c),
-        b'H' => arrivals::beside(request, c),
-        letter => numbers::answer(letter, request.a(), request.b(), c),
-    }
-}
 
 // What stands before an answer where several values of c are asked.
 fn begin(rt: &impl Print, c: u32, times: u32) -> io::Result<()> {
     if 1 < times {
         print!(rt; "{c}: ")?;
-    }
-    Ok(())
-}
-
-// Answers for one value of c after another, each further one on a line of its own, but where it is the one before.
-fn lines(rt: &impl Print, request: Request) -> io::Result<()> {
-    let start = request.c();
-    let last = start.saturating_add(request.times().saturating_sub(1));
-    let mut before = line_of(request, start);
-    rt.print(before)?;
-    for answered in start..last {
-        let c = answered + 1;
-        let line = line_of(request, c);
-        if line != before {
-            print!(rt; "\n{c}: {line}")?;
-        }
-        before = line;
     }
     Ok(())
 }
@@ -75,7 +47,16 @@ fn answer(rt: &impl Print, request: Request) -> io::Result<()> {
         b'M' => asked::mappings(rt, request),
         b'B' => bays::again(rt, request, asked::mode(request)),
         b'L' => bays::plan(rt, request),
-        _ => lines(rt, request),
+        b'T' => values::lines(
+            rt,
+            request,
+            |c| bays::translate(request, c),
+            bays::translated,
+        ),
+        b'C' => values::lines(rt, request, |c| bays::count(request, c), bays::counted),
+        b'A' => values::lines(rt, request, |c| bays::differing(request, c), bays::agreed),
+        b'H' => values::lines(rt, request, |c| arrivals::beside(request, c), |line| line),
+        _ => numbers::lines(rt, request),
     }
 }
 

@@ -1,7 +1,9 @@
 // The entry points that take numbers alone.
-use crate::parts;
+use crate::parts::Request;
 use crate::say::{Item, Line, Word};
+use crate::{parts, values};
 use pdi::{BitLen, ByteLen, PdiOffset, PdiSegment};
+use std::io;
 use sync_manager_channel::{Control, Enable, Status};
 use wire::Reason;
 
@@ -10,10 +12,12 @@ fn bit_len(bits: u64) -> BitLen {
     BitLen(u32::try_from(bits).unwrap_or(u32::MAX))
 }
 
-fn rounded(bits: u64) -> Line {
-    bit_len(bits)
-        .round_up()
-        .map_or_else(Line::refused, |bytes| Line::from([Item::from(bytes.0)]))
+fn rounded(answer: Result<ByteLen, Reason>) -> Line {
+    answer.map_or_else(Line::refused, |bytes| Line::from([Item::from(bytes.0)]))
+}
+
+fn round_up(bits: u64) -> Result<ByteLen, Reason> {
+    bit_len(bits).round_up()
 }
 
 fn moved(answer: Result<PdiOffset, Reason>) -> Line {
@@ -22,31 +26,38 @@ fn moved(answer: Result<PdiOffset, Reason>) -> Line {
     })
 }
 
-fn increment(start_address: u32, bytes: u32) -> Line {
+fn increment(start_address: u32, bytes: u32) -> Result<PdiOffset, Reason> {
     let offset = PdiOffset { start_address };
-    moved(offset.increment(ByteLen((bytes & 0xffff) as u16)))
+    offset.increment(ByteLen((bytes & 0xffff) as u16))
 }
 
-fn increment_byte_aligned(start_address: u32, bits: u64) -> Line {
+fn increment_byte_aligned(start_address: u32, bits: u64) -> Result<PdiOffset, Reason> {
     let offset = PdiOffset { start_address };
-    moved(offset.increment_byte_aligned(bit_len(bits)))
+    offset.increment_byte_aligned(bit_len(bits))
 }
 
-fn up_to(start_address: u32, end: u32) -> Line {
-    let start = PdiOffset { start_address };
-    let between = start.up_to(PdiOffset { start_address: end });
+fn between(segment: PdiSegment) -> Line {
     Line::from([
-        Item::from(between.start),
-        Item::from(between.end),
-        Item::from(between.len()),
+        Item::from(segment.start),
+        Item::from(segment.end),
+        Item::from(segment.len()),
     ])
 }
 
-fn less(start: u32, end: u32, group: u32) -> Line {
-    let segment = PdiSegment { start, end };
-    segment.less(group).map_or_else(Line::refused, |counted| {
+fn up_to(start_address: u32, end: u32) -> PdiSegment {
+    let start = PdiOffset { start_address };
+    start.up_to(PdiOffset { start_address: end })
+}
+
+fn counted(answer: Result<PdiSegment, Reason>) -> Line {
+    answer.map_or_else(Line::refused, |counted| {
         Line::from([Item::from(counted.start), Item::from(counted.end)])
     })
+}
+
+fn less(start: u32, end: u32, group: u32) -> Result<PdiSegment, Reason> {
+    let segment = PdiSegment { start, end };
+    segment.less(group)
 }
 
 // The fields of each register in turn.
@@ -82,33 +93,46 @@ pub fn enable_fields(enable: Enable) -> [u8; 6] {
     ]
 }
 
-fn control_line(byte: u8) -> Line {
-    let control = Control::unpack(byte);
+fn control_line(control: Control) -> Line {
     Line::fields(&control_fields(control), Item::Byte(control.pack()))
 }
 
-fn status_line(byte: u8) -> Line {
-    let status = Status::unpack(byte);
+fn status_line(status: Status) -> Line {
     Line::fields(&status_fields(status), Item::Byte(status.pack()))
 }
 
-fn enable_line(low: u8, high: u8) -> Line {
-    let enable = Enable::unpack(low, high);
+fn enable_line(enable: Enable) -> Line {
     Line::fields(&enable_fields(enable), Item::Bytes(enable.pack()))
 }
 
+// The last byte of c.
+fn low(c: u32) -> u8 {
+    (c & 0xff) as u8
+}
+
 // By the letters of docs/PROBE.md, which are bytes from outside. a and b stay, and c is one value after another.
-pub fn answer(letter: u8, a: u32, b: u32, c: u32) -> Line {
-    let [_, _, high, low] = c.to_be_bytes();
-    match letter {
-        b'r' => rounded(parts::joined(a, c)),
-        b'i' => increment(a, c),
-        b'b' => increment_byte_aligned(a, parts::joined(b, c)),
-        b'u' => up_to(a, c),
-        b'g' => less(a, b, c),
-        b'k' => control_line(low),
-        b'j' => status_line(low),
-        b'e' => enable_line(low, high),
-        _ => Line::word(Word::Unknown),
+pub fn lines(rt: &impl Print, request: Request) -> io::Result<()> {
+    let a = request.a();
+    let b = request.b();
+    match request.letter() {
+        b'r' => values::lines(rt, request, |c| round_up(parts::joined(a, c)), rounded),
+        b'i' => values::lines(rt, request, |c| increment(a, c), moved),
+        b'b' => values::lines(
+            rt,
+            request,
+            |c| increment_byte_aligned(a, parts::joined(b, c)),
+            moved,
+        ),
+        b'u' => values::lines(rt, request, |c| up_to(a, c), between),
+        b'g' => values::lines(rt, request, |c| less(a, b, c), counted),
+        b'k' => values::lines(rt, request, |c| Control::unpack(low(c)), control_line),
+        b'j' => values::lines(rt, request, |c| Status::unpack(low(c)), status_line),
+        b'e' => values::lines(
+            rt,
+            request,
+            |c| Enable::unpack(low(c), low(c >> 8)),
+            enable_line,
+        ),
+        _ => rt.print(Word::Unknown),
     }
 }

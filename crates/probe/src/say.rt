@@ -85,7 +85,7 @@ impl fmt::Display for Item {
     }
 }
 
-// An answer that can change with c, so that two can be compared: at most seven items.
+// How an answer is written that can change with c: at most seven items. Those of H are compared so.
 #[derive(Clone, Copy, Debug, PartialEq, Eq)]
 pub struct Line([Option<Item>; 7]);
 

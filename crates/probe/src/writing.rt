@@ -32,7 +32,9 @@ pub fn tell(rt: &impl Print, answer: Result<usize, Reason>, room: &[u8]) -> io::
     }
 }
 
-// Device data into room that is filled with 0xff first, the request's sheet being the lent bytes.
+// Device data into room that is filled with 0xff first, the request's sheet being the lent bytes. Inlined, so that on the stack its
+// room lies where those of other letters do, and not on top of them.
+#[inline(always)]
 fn roomed(rt: &impl Print, d: Device, request: Request, times: u32) -> io::Result<()> {
     let mut space = [0xffu8; 20480];
     let room = parts::front_mut(&mut space, usize::from(request.room()));
